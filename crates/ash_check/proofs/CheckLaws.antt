@@ -5,7 +5,7 @@ use Rattle.std.proofs.lemmas.Option.{slice_get_within, get_or_from_slice_get}
 use Rattle.std.proofs.lemmas.List.{map-append}
 use Rattle.std.specs.Option.{option_map_or}
 use Rattle.std.specs.List.{Contains}
-use Rattle.ash_registrations.specs.Calls.{Call}
+use Rattle.ash_registrations.specs.Calls.{Registration}
 use Rattle.ash_tree.specs.Tree.{Class, Item}
 use Rattle.ash_typing.specs.declared.fault.Rule.{Rule}
 use Rattle.ash_typing.specs.declared.fault.Rule.TheVariants as rules
@@ -16,14 +16,14 @@ use Rattle.ash_expressions.specs.declared.error.CheckError.TheVariants as errors
 use Rattle.ash_expressions.specs.Agreement.{FailsWith}
 use Rattle.ash_classes.specs.Ways.{IsWay}
 use Rattle.ash_classes.specs.References.{Refers, classes_of}
-use Rattle.ash_classes.specs.ToldCycle.{told_cycle}
+use Rattle.ash_classes.specs.ReportedCycle.{reported_cycle}
 use Rattle.ash_check.specs.declared.faults.CheckFault.{CheckFault}
 use Rattle.ash_check.specs.Faults.{rule_fault, fault_of_error}
-use Rattle.ash_check.specs.Checks.{Told, Cyclic, name_at, round_of, unless_round, checked_by, checked, broken_at, told_of, IsWhatIsTold, Tells, HoldsNamed, LeadsTo, GoesRound}
+use Rattle.ash_check.specs.Checks.{ScriptFault, Cyclic, name_at, round_of, unless_round, checked_by, checked, broken_at, script_fault_of, IsReportedFault, Reports, HoldsNamed, LeadsTo, GoesRound}
 
 -- faults
 
-rule_is_reported : (rule : Rule) (at : ℕ) → told_of (rule_fault rule at) ≡ broken_at rule at
+rule_is_reported : (rule : Rule) (at : ℕ) → script_fault_of (rule_fault rule at) ≡ broken_at rule at
 rule_is_reported rules.UnknownName at = refl
 rule_is_reported rules.UnknownType at = refl
 rule_is_reported rules.NameTaken at = refl
@@ -38,23 +38,23 @@ rule_is_reported rules.ConstantOutOfRange at = refl
 rule_is_reported rules.DuplicateCase at = refl
 
 -- a fault of the walk is what is reported
-pub error_is_reported : (calls : List Call) (items : List Item) (error : CheckError) → FailsWith error (module_typed calls items) → Tells (checked calls items) (fault_of_error error)
+pub error_is_reported : (calls : List Registration) (items : List Item) (error : CheckError) → FailsWith error (module_typed calls items) → Reports (checked calls items) (fault_of_error error)
 unfolding checked
-error_is_reported calls items (errors.Fault f) fails = subst (λ why. IsWhatIsTold why (checked calls items)) (sym (rule_is_reported f.rule f.at)) (ap (checked_by (classes_of items)) fails)
+error_is_reported calls items (errors.Fault f) fails = subst (λ why. IsReportedFault why (checked calls items)) (sym (rule_is_reported f.rule f.at)) (ap (checked_by (classes_of items)) fails)
 error_is_reported calls items errors.NoMemory fails = tt
 
 -- and so what is returned
-pub reported_if_err : {T : Type 0} (r : Result T CheckFault) (why : CheckFault) (answer : Result Module Told) (P : T → Type 0) → IsErrAnd r (λ fault. fault ≡ why) → Tells answer why → MatchResult r P (λ fault. Tells answer fault)
-reported_if_err (Ok done) why answer P is tells = absurd is
-reported_if_err (Err fault) why answer P is tells = subst (λ f. Tells answer f) (sym is) tells
+pub reported_if_err : {T : Type 0} (r : Result T CheckFault) (why : CheckFault) (answer : Result Module ScriptFault) (P : T → Type 0) → IsErrAnd r (λ fault. fault ≡ why) → Reports answer why → MatchResult r P (λ fault. Reports answer fault)
+reported_if_err (Ok done) why answer P is reports = absurd is
+reported_if_err (Err fault) why answer P is reports = subst (λ f. Reports answer f) (sym is) reports
 
 -- where no rule is broken and no class reaches itself, the typed module
-pub typed_is_checked : (calls : List Call) (items : List Item) (typed : Module) → module_typed calls items ≡ Ok typed → told_cycle (classes_of items) ≡ None → checked calls items ≡ Ok typed
+pub typed_is_checked : (calls : List Registration) (items : List Item) (typed : Module) → module_typed calls items ≡ Ok typed → reported_cycle (classes_of items) ≡ None → checked calls items ≡ Ok typed
 unfolding checked
 typed_is_checked calls items typed fine none = ap (checked_by (classes_of items)) fine ∙ ap (λ way. unless_round (classes_of items) way typed) none
 
 -- else the cycle that is reported
-pub cycle_is_reported : (calls : List Call) (items : List Item) (typed : Module) (first : ℕ) (others : List ℕ) → module_typed calls items ≡ Ok typed → told_cycle (classes_of items) ≡ Some (first, others) → checked calls items ≡ Err (Cyclic (round_of (classes_of items) (first, others)))
+pub cycle_is_reported : (calls : List Registration) (items : List Item) (typed : Module) (first : ℕ) (others : List ℕ) → module_typed calls items ≡ Ok typed → reported_cycle (classes_of items) ≡ Some (first, others) → checked calls items ≡ Err (Cyclic (round_of (classes_of items) (first, others)))
 unfolding checked
 cycle_is_reported calls items typed first others fine some = ap (checked_by (classes_of items)) fine ∙ ap (λ way. unless_round (classes_of items) way typed) some
 
@@ -69,7 +69,7 @@ way_begins_within classes from (next ∷ between) to way = slice_get_within clas
 pub way_is_within : (classes : List Class) (from : ℕ) (between : List ℕ) (to : ℕ) → IsWay (Refers classes) from between to → (k d : ℕ) → k < length between → get_or between k d < length classes
 way_is_within classes from [] to way k d past = absurd (omega arith)
 way_is_within classes from (next ∷ between) to way zero d here = slice_get_within classes next way.0.0 way.0.1
-way_is_within classes from (next ∷ between) to way (suc k) d behind = way_is_within classes next between to way.1 k d (omega (arith, behind))
+way_is_within classes from (next ∷ between) to way (suc k) d after = way_is_within classes next between to way.1 k d (omega (arith, after))
 
 -- names
 

@@ -1,6 +1,6 @@
 -- What holds of a script that is accepted, by its typed tree alone.
 use Rattle.std.proofs.Common.{◌≡◌, ℕ, List, length, Ok}
-use Rattle.ash_registrations.specs.Calls.{Call}
+use Rattle.ash_registrations.specs.Calls.{Registration}
 use Rattle.ash_tree.specs.Tree.{Item}
 use Rattle.ash_typed.specs.Modules.{Module}
 use Rattle.ash_typing.specs.Items.{module_typed}
@@ -13,7 +13,7 @@ use Rattle.ash_ranks.proofs.RankLaws.{typed_ranks}
 use Rattle.ash_check.specs.CheckedModules.{IsChecked}
 
 -- what is typed is sound, and ranks of the written classes are ranks of the typed ones
-pub is_checked : (calls : List Call) (items : List Item) (typed : Module) (ranks : List ℕ) → ItemsDeclareInBlocks items → module_typed calls items ≡ Ok typed → AreRanks (Refers (classes_of items)) (length (classes_of items)) ranks → IsChecked calls typed ranks
+pub is_checked : (calls : List Registration) (items : List Item) (typed : Module) (ranks : List ℕ) → ItemsDeclareInBlocks items → module_typed calls items ≡ Ok typed → AreRanks (Refers (classes_of items)) (length (classes_of items)) ranks → IsChecked calls typed ranks
 is_checked calls items typed ranks nested walked are =
     let by_rules = (module_typed-exact calls items typed).0 walked in
     record {

@@ -1,32 +1,32 @@
 -- What the check returns, by the rules of typing and by which classes reach themselves.
 use Rattle.std.proofs.Common.{◌≡◌, ◌↔◌, ◌∙◌, ℕ, List, Option, Some, None, Result, Ok, Err, refl, sym, ap}
-use Rattle.ash_registrations.specs.Calls.{Call}
+use Rattle.ash_registrations.specs.Calls.{Registration}
 use Rattle.ash_tree.specs.Tree.{Class, Item}
 use Rattle.ash_typed.specs.Modules.{Module}
 use Rattle.ash_typing.specs.declared.fault.Fault.{Fault}
-use Rattle.ash_typing.specs.Checking.{Checking}
+use Rattle.ash_typing.specs.TypingResult.{TypingResult}
 use Rattle.ash_typing.specs.Items.{module_typed}
 use Rattle.ash_typing.specs.TypedModules.{IsTyped}
 use Rattle.ash_typing.proofs.ModuleLaws.{module_typed-exact}
 use Rattle.ash_classes.specs.References.{Refers, classes_of}
-use Rattle.ash_classes.specs.ToldCycle.{told_cycle}
-use Rattle.ash_classes.specs.Ways.{IsTold, Reaches}
-use Rattle.ash_classes.proofs.ToldSearches.{told_is, none_is_told}
-use Rattle.ash_check.specs.Checks.{Told, Broken, Cyclic, round_of, unless_round, checked_by, checked}
+use Rattle.ash_classes.specs.ReportedCycle.{reported_cycle}
+use Rattle.ash_classes.specs.Ways.{IsReported, Reaches}
+use Rattle.ash_classes.proofs.CycleSearches.{reported_is, none_is_reported}
+use Rattle.ash_check.specs.Checks.{ScriptFault, Broken, Cyclic, round_of, unless_round, checked_by, checked}
 use Rattle.ash_check.proofs.CheckLaws.{typed_is_checked, cycle_is_reported}
 
 -- outcomes
 
-same_answer : (x y : Module) → ◌≡◌ {A = Result Module Told} (Ok x) (Ok y) → x ≡ y
+same_answer : (x y : Module) → ◌≡◌ {A = Result Module ScriptFault} (Ok x) (Ok y) → x ≡ y
 same_answer x y h = cc
 
-same_names : (x y : List (List ℕ)) → ◌≡◌ {A = Result Module Told} (Err (Cyclic x)) (Err (Cyclic y)) → x ≡ y
+same_names : (x y : List (List ℕ)) → ◌≡◌ {A = Result Module ScriptFault} (Err (Cyclic x)) (Err (Cyclic y)) → x ≡ y
 same_names x y h = cc
 
-not_accepted : (why : Told) (x : Module) → ◌≡◌ {A = Result Module Told} (Err why) (Ok x) → ⊥
+not_accepted : (why : ScriptFault) (x : Module) → ◌≡◌ {A = Result Module ScriptFault} (Err why) (Ok x) → ⊥
 not_accepted why x h = cc
 
-not_cyclic : (x : Module) (why : Told) → ◌≡◌ {A = Result Module Told} (Ok x) (Err why) → ⊥
+not_cyclic : (x : Module) (why : ScriptFault) → ◌≡◌ {A = Result Module ScriptFault} (Ok x) (Err why) → ⊥
 not_cyclic x why h = cc
 
 -- what is accepted
@@ -35,25 +35,25 @@ unless_accepted : (classes : List Class) (way : Option (ℕ × List ℕ)) (m typ
 unless_accepted classes None m typed h = (refl, same_answer m typed h)
 unless_accepted classes (Some way) m typed h = absurd (not_accepted (Cyclic (round_of classes way)) typed h)
 
-by_accepted : (classes : List Class) (r : Checking Module) (typed : Module) → checked_by classes r ≡ Ok typed → (r ≡ Ok typed) × (told_cycle classes ≡ None)
-by_accepted classes (Ok m) typed h = let u = unless_accepted classes (told_cycle classes) m typed h in (ap Ok u.1, u.0)
+by_accepted : (classes : List Class) (r : TypingResult Module) (typed : Module) → checked_by classes r ≡ Ok typed → (r ≡ Ok typed) × (reported_cycle classes ≡ None)
+by_accepted classes (Ok m) typed h = let u = unless_accepted classes (reported_cycle classes) m typed h in (ap Ok u.1, u.0)
 by_accepted classes (Err f) typed h = absurd (not_accepted (Broken f) typed h)
 
-typed_accepted : (calls : List Call) (items : List Item) (typed : Module) → checked calls items ≡ Ok typed → (module_typed calls items ≡ Ok typed) × (told_cycle (classes_of items) ≡ None)
+typed_accepted : (calls : List Registration) (items : List Item) (typed : Module) → checked calls items ≡ Ok typed → (module_typed calls items ≡ Ok typed) × (reported_cycle (classes_of items) ≡ None)
 unfolding checked
 typed_accepted calls items typed h = by_accepted (classes_of items) (module_typed calls items) typed h
 
-pub accepted_is : (calls : List Call) (items : List Item) (typed : Module) → (checked calls items ≡ Ok typed) ↔ (IsTyped calls items typed × ((class : ℕ) → Reaches (Refers (classes_of items)) class class → ⊥))
+pub accepted_is : (calls : List Registration) (items : List Item) (typed : Module) → (checked calls items ≡ Ok typed) ↔ (IsTyped calls items typed × ((class : ℕ) → Reaches (Refers (classes_of items)) class class → ⊥))
 accepted_is calls items typed = (go, back)
   where
     go : checked calls items ≡ Ok typed → IsTyped calls items typed × ((class : ℕ) → Reaches (Refers (classes_of items)) class class → ⊥)
     go h =
         let t = typed_accepted calls items typed h in
         let is : IsTyped calls items typed = (module_typed-exact calls items typed).0 t.0 in
-        (is, (none_is_told (classes_of items)).0 t.1)
+        (is, (none_is_reported (classes_of items)).0 t.1)
 
     back : IsTyped calls items typed × ((class : ℕ) → Reaches (Refers (classes_of items)) class class → ⊥) → checked calls items ≡ Ok typed
-    back h = typed_is_checked calls items typed ((module_typed-exact calls items typed).1 h.0) ((none_is_told (classes_of items)).1 h.1)
+    back h = typed_is_checked calls items typed ((module_typed-exact calls items typed).1 h.0) ((none_is_reported (classes_of items)).1 h.1)
 
 -- what is refused for a cycle
 
@@ -61,38 +61,38 @@ unless_cyclic : (classes : List Class) (way : Option (ℕ × List ℕ)) (m : Mod
 unless_cyclic classes None m names h = absurd (not_cyclic m (Cyclic names) h)
 unless_cyclic classes (Some way) m names h = (way, refl, sym (same_names (round_of classes way) names h))
 
-other_fault : (f : Fault) (names : List (List ℕ)) → ◌≡◌ {A = Result Module Told} (Err (Broken f)) (Err (Cyclic names)) → ⊥
+other_fault : (f : Fault) (names : List (List ℕ)) → ◌≡◌ {A = Result Module ScriptFault} (Err (Broken f)) (Err (Cyclic names)) → ⊥
 other_fault f names h = cc
 
-by_cyclic : (classes : List Class) (r : Checking Module) (names : List (List ℕ)) → checked_by classes r ≡ Err (Cyclic names) → (typed : Module) × (r ≡ Ok typed) × (round : ℕ × List ℕ) × (told_cycle classes ≡ Some round) × (names ≡ round_of classes round)
-by_cyclic classes (Ok m) names h = let u = unless_cyclic classes (told_cycle classes) m names h in (m, refl, u.0, u.1, u.2)
+by_cyclic : (classes : List Class) (r : TypingResult Module) (names : List (List ℕ)) → checked_by classes r ≡ Err (Cyclic names) → (typed : Module) × (r ≡ Ok typed) × (round : ℕ × List ℕ) × (reported_cycle classes ≡ Some round) × (names ≡ round_of classes round)
+by_cyclic classes (Ok m) names h = let u = unless_cyclic classes (reported_cycle classes) m names h in (m, refl, u.0, u.1, u.2)
 by_cyclic classes (Err f) names h = absurd (other_fault f names h)
 
-typed_cyclic : (calls : List Call) (items : List Item) (names : List (List ℕ)) → checked calls items ≡ Err (Cyclic names) → (typed : Module) × (module_typed calls items ≡ Ok typed) × (round : ℕ × List ℕ) × (told_cycle (classes_of items) ≡ Some round) × (names ≡ round_of (classes_of items) round)
+typed_cyclic : (calls : List Registration) (items : List Item) (names : List (List ℕ)) → checked calls items ≡ Err (Cyclic names) → (typed : Module) × (module_typed calls items ≡ Ok typed) × (round : ℕ × List ℕ) × (reported_cycle (classes_of items) ≡ Some round) × (names ≡ round_of (classes_of items) round)
 unfolding checked
 typed_cyclic calls items names h = by_cyclic (classes_of items) (module_typed calls items) names h
 
 -- by the cycle that is returned
-pub cycle_is : (calls : List Call) (items : List Item) (names : List (List ℕ)) → (checked calls items ≡ Err (Cyclic names)) ↔ ((typed : Module) × (first : ℕ) × (others : List ℕ) × IsTyped calls items typed × IsTold (Refers (classes_of items)) first others × (names ≡ round_of (classes_of items) (first, others)))
+pub cycle_is : (calls : List Registration) (items : List Item) (names : List (List ℕ)) → (checked calls items ≡ Err (Cyclic names)) ↔ ((typed : Module) × (first : ℕ) × (others : List ℕ) × IsTyped calls items typed × IsReported (Refers (classes_of items)) first others × (names ≡ round_of (classes_of items) (first, others)))
 cycle_is calls items names = (go, back)
   where
-    go : checked calls items ≡ Err (Cyclic names) → (typed : Module) × (first : ℕ) × (others : List ℕ) × IsTyped calls items typed × IsTold (Refers (classes_of items)) first others × (names ≡ round_of (classes_of items) (first, others))
+    go : checked calls items ≡ Err (Cyclic names) → (typed : Module) × (first : ℕ) × (others : List ℕ) × IsTyped calls items typed × IsReported (Refers (classes_of items)) first others × (names ≡ round_of (classes_of items) (first, others))
     go h =
         let t = typed_cyclic calls items names h in
         let is : IsTyped calls items t.0 = (module_typed-exact calls items t.0).0 t.1 in
-        (t.0, (t.2).0, (t.2).1, is, (told_is (classes_of items) (t.2).0 (t.2).1).0 t.3, t.4)
+        (t.0, (t.2).0, (t.2).1, is, (reported_is (classes_of items) (t.2).0 (t.2).1).0 t.3, t.4)
 
-    back : (typed : Module) × (first : ℕ) × (others : List ℕ) × IsTyped calls items typed × IsTold (Refers (classes_of items)) first others × (names ≡ round_of (classes_of items) (first, others)) → checked calls items ≡ Err (Cyclic names)
+    back : (typed : Module) × (first : ℕ) × (others : List ℕ) × IsTyped calls items typed × IsReported (Refers (classes_of items)) first others × (names ≡ round_of (classes_of items) (first, others)) → checked calls items ≡ Err (Cyclic names)
     back h =
-        let found : told_cycle (classes_of items) ≡ Some (h.1, h.2) = (told_is (classes_of items) h.1 h.2).1 h.4 in
+        let found : reported_cycle (classes_of items) ≡ Some (h.1, h.2) = (reported_is (classes_of items) h.1 h.2).1 h.4 in
         cycle_is_reported calls items h.0 h.1 h.2 ((module_typed-exact calls items h.0).1 h.3) found ∙ ap (λ ns. Err (Cyclic ns)) (sym h.5)
 
-some_round : (classes : List Class) (way : Option (ℕ × List ℕ)) → told_cycle classes ≡ way → (class : ℕ) → Reaches (Refers classes) class class → (round : ℕ × List ℕ) × (told_cycle classes ≡ Some round)
-some_round classes None h class reaches = absurd ((none_is_told classes).0 h class reaches)
+some_round : (classes : List Class) (way : Option (ℕ × List ℕ)) → reported_cycle classes ≡ way → (class : ℕ) → Reaches (Refers classes) class class → (round : ℕ × List ℕ) × (reported_cycle classes ≡ Some round)
+some_round classes None h class reaches = absurd ((none_is_reported classes).0 h class reaches)
 some_round classes (Some round) h class reaches = (round, h)
 
 -- by the rules
-pub cyclic_is : (calls : List Call) (items : List Item) → ((names : List (List ℕ)) × (checked calls items ≡ Err (Cyclic names))) ↔ ((typed : Module) × (class : ℕ) × IsTyped calls items typed × Reaches (Refers (classes_of items)) class class)
+pub cyclic_is : (calls : List Registration) (items : List Item) → ((names : List (List ℕ)) × (checked calls items ≡ Err (Cyclic names))) ↔ ((typed : Module) × (class : ℕ) × IsTyped calls items typed × Reaches (Refers (classes_of items)) class class)
 cyclic_is calls items = (go, back)
   where
     go : (names : List (List ℕ)) × (checked calls items ≡ Err (Cyclic names)) → (typed : Module) × (class : ℕ) × IsTyped calls items typed × Reaches (Refers (classes_of items)) class class
@@ -101,26 +101,26 @@ cyclic_is calls items = (go, back)
     back : (typed : Module) × (class : ℕ) × IsTyped calls items typed × Reaches (Refers (classes_of items)) class class → (names : List (List ℕ)) × (checked calls items ≡ Err (Cyclic names))
     back h =
         let classes = classes_of items in
-        let r = some_round classes (told_cycle classes) refl h.1 h.3 in
-        let foremost : IsTold (Refers classes) (r.0).0 (r.0).1 = (told_is classes (r.0).0 (r.0).1).0 r.1 in
+        let r = some_round classes (reported_cycle classes) refl h.1 h.3 in
+        let foremost : IsReported (Refers classes) (r.0).0 (r.0).1 = (reported_is classes (r.0).0 (r.0).1).0 r.1 in
         (round_of classes r.0, (cycle_is calls items (round_of classes r.0)).1 (h.0, (r.0).0, (r.0).1, h.2, foremost, refl))
 
 -- what is refused for a rule that is broken
 
-same_fault : (x y : Fault) → ◌≡◌ {A = Result Module Told} (Err (Broken x)) (Err (Broken y)) → x ≡ y
+same_fault : (x y : Fault) → ◌≡◌ {A = Result Module ScriptFault} (Err (Broken x)) (Err (Broken y)) → x ≡ y
 same_fault x y h = cc
 
-other_cycle : (names : List (List ℕ)) (f : Fault) → ◌≡◌ {A = Result Module Told} (Err (Cyclic names)) (Err (Broken f)) → ⊥
+other_cycle : (names : List (List ℕ)) (f : Fault) → ◌≡◌ {A = Result Module ScriptFault} (Err (Cyclic names)) (Err (Broken f)) → ⊥
 other_cycle names f h = cc
 
 unless_broken : (classes : List Class) (way : Option (ℕ × List ℕ)) (m : Module) (f : Fault) → unless_round classes way m ≡ Err (Broken f) → ⊥
 unless_broken classes None m f h = not_cyclic m (Broken f) h
 unless_broken classes (Some way) m f h = other_cycle (round_of classes way) f h
 
-by_broken : (classes : List Class) (r : Checking Module) (f : Fault) → checked_by classes r ≡ Err (Broken f) → r ≡ Err f
-by_broken classes (Ok m) f h = absurd (unless_broken classes (told_cycle classes) m f h)
+by_broken : (classes : List Class) (r : TypingResult Module) (f : Fault) → checked_by classes r ≡ Err (Broken f) → r ≡ Err f
+by_broken classes (Ok m) f h = absurd (unless_broken classes (reported_cycle classes) m f h)
 by_broken classes (Err other) f h = ap Err (same_fault other f h)
 
-pub broken_is : (calls : List Call) (items : List Item) (fault : Fault) → (checked calls items ≡ Err (Broken fault)) ↔ (module_typed calls items ≡ Err fault)
+pub broken_is : (calls : List Registration) (items : List Item) (fault : Fault) → (checked calls items ≡ Err (Broken fault)) ↔ (module_typed calls items ≡ Err fault)
 unfolding checked
 broken_is calls items fault = (by_broken (classes_of items) (module_typed calls items) fault, λ h. ap (checked_by (classes_of items)) h)

@@ -18,7 +18,7 @@ use Rattle.ash_typed.specs.declared.tree.statements.Case as typed_case
 use Rattle.ash_typed.specs.declared.types.Kind.{Kind}
 use Rattle.ash_typed.specs.BodyViews as typed_views
 use Rattle.ash_typing.specs.Switches.{label_typed}
-use Rattle.ash_typing.specs.Checking.{Checking, ◌>>=◌}
+use Rattle.ash_typing.specs.TypingResult.{TypingResult, ◌>>=◌}
 use Rattle.ash_typed.specs.StatementTree.{Initialization, Stmt, Block, Stmts, no_stmt, stmt, stmts, Case, labelled, Cases, no_case, next_case, cases}
 use Rattle.ash_typing.specs.Environment.{Declared}
 use Rattle.ash_typing.specs.Statements.{stmt_typed, stmts_typed, cases_typed}
@@ -28,29 +28,29 @@ use Rattle.ash_expressions.specs.declared.error.CheckError.TheVariants as errors
 use Rattle.ash_expressions.specs.Agreement.{FailsWith}
 use Rattle.ash_expressions.specs.Views.{binding_of}
 use Rattle.ash_check.proofs.ReturnLaws.{case_is, begins_at}
-use Rattle.ash_typing.specs.Scopes.{Scope, block_of, behind}
+use Rattle.ash_typing.specs.Scopes.{Scope, block_of, after}
 use Rattle.ash_typing.specs.Labels.{is_last}
 
 -- the results so far, with those of the rest
 
-abbrev pub values_after : List Initialization → Checking (List Initialization) → Checking (List Initialization)
+abbrev pub values_after : List Initialization → TypingResult (List Initialization) → TypingResult (List Initialization)
 values_after done r = r >>= λ values. Ok (done ++ values)
 
 abbrev pub stmts_before : List Stmt → Stmts → Stmts
 stmts_before [] ss = ss
 stmts_before (s ∷ done) ss = stmt s (stmts_before done ss)
 
-abbrev pub stmts_after : List Stmt → Checking Stmts → Checking Stmts
+abbrev pub stmts_after : List Stmt → TypingResult Stmts → TypingResult Stmts
 stmts_after done r = r >>= λ ss. Ok (stmts_before done ss)
 
 abbrev pub cases_before : List Case → Cases → Cases
 cases_before [] cs = cs
 cases_before (c ∷ done) cs = next_case c (cases_before done cs)
 
-abbrev pub cases_after : List Case → Checking Cases → Checking Cases
+abbrev pub cases_after : List Case → TypingResult Cases → TypingResult Cases
 cases_after done r = r >>= λ cs. Ok (cases_before done cs)
 
-pub no_stmt_before : (r : Checking Stmts) → stmts_after [] r ≡ r
+pub no_stmt_before : (r : TypingResult Stmts) → stmts_after [] r ≡ r
 no_stmt_before (Ok ss) = refl
 no_stmt_before (Err f) = refl
 
@@ -65,15 +65,15 @@ before_more : (done : List Stmt) (s : Stmt) (ss : Stmts) → stmts_before done (
 before_more [] s ss = refl
 before_more (x ∷ done) s ss = ap (stmt x) (before_more done s ss)
 
-after_more : (done : List Stmt) (s : Stmt) (r : Checking Stmts) → stmts_after done (r >>= λ ss. Ok (stmt s ss)) ≡ stmts_after (done ++ s ∷ []) r
+after_more : (done : List Stmt) (s : Stmt) (r : TypingResult Stmts) → stmts_after done (r >>= λ ss. Ok (stmt s ss)) ≡ stmts_after (done ++ s ∷ []) r
 after_more done s (Ok ss) = ap Ok (before_more done s ss)
 after_more done s (Err f) = refl
 
 -- a statement, and those after it
-pub next_stmt : (done : List Stmt) (scope next : Scope) (s : written.Stmt) (ss : written.Stmts) (t : Stmt) → stmt_typed scope s ≡ Ok t → next ≡ behind scope s → stmts_after done (stmts_typed scope (written.stmt s ss)) ≡ stmts_after (done ++ t ∷ []) (stmts_typed next ss)
+pub next_stmt : (done : List Stmt) (scope next : Scope) (s : written.Stmt) (ss : written.Stmts) (t : Stmt) → stmt_typed scope s ≡ Ok t → next ≡ after scope s → stmts_after done (stmts_typed scope (written.stmt s ss)) ≡ stmts_after (done ++ t ∷ []) (stmts_typed next ss)
 next_stmt done scope next s ss t h k =
-    ap (λ r. stmts_after done (r >>= λ x. stmts_typed (behind scope s) ss >>= λ xs. Ok (stmt x xs))) h
-    ∙ after_more done t (stmts_typed (behind scope s) ss)
+    ap (λ r. stmts_after done (r >>= λ x. stmts_typed (after scope s) ss >>= λ xs. Ok (stmt x xs))) h
+    ∙ after_more done t (stmts_typed (after scope s) ss)
     ∙ ap (λ x. stmts_after (done ++ t ∷ []) (stmts_typed x ss)) (sym k)
 
 -- locals with others after them
@@ -87,24 +87,24 @@ extends_itself locals = ([], sym (append-nil locals))
 extends_more : (before locals more : List Declared) → Extends before locals → Extends before (locals ++ more)
 extends_more before locals more h = (h.0 ++ more, ap (λ xs. xs ++ more) h.1 ∙ append_assoc before h.0 more)
 
-extends_behind : (before : List Declared) (scope : Scope) (s : written.Stmt) → Extends before scope.env.locals → Extends before (behind scope s).env.locals
-extends_behind before scope (written.Declare p v) h = extends_more before scope.env.locals _ h
-extends_behind before scope (written.Empty p) h = h
-extends_behind before scope (written.Evaluate p e) h = h
-extends_behind before scope (written.Block p ss) h = h
-extends_behind before scope (written.If p c s) h = h
-extends_behind before scope (written.IfElse p c s t) h = h
-extends_behind before scope (written.While p c s) h = h
-extends_behind before scope (written.DoWhile p s c) h = h
-extends_behind before scope (written.For p f c es s) h = h
-extends_behind before scope (written.Switch p e cs) h = h
-extends_behind before scope (written.Break p) h = h
-extends_behind before scope (written.Continue p) h = h
-extends_behind before scope (written.Return p e) h = h
+extends_after : (before : List Declared) (scope : Scope) (s : written.Stmt) → Extends before scope.env.locals → Extends before (after scope s).env.locals
+extends_after before scope (written.Declare p v) h = extends_more before scope.env.locals _ h
+extends_after before scope (written.Empty p) h = h
+extends_after before scope (written.Evaluate p e) h = h
+extends_after before scope (written.Block p ss) h = h
+extends_after before scope (written.If p c s) h = h
+extends_after before scope (written.IfElse p c s t) h = h
+extends_after before scope (written.While p c s) h = h
+extends_after before scope (written.DoWhile p s c) h = h
+extends_after before scope (written.For p f c es s) h = h
+extends_after before scope (written.Switch p e cs) h = h
+extends_after before scope (written.Break p) h = h
+extends_after before scope (written.Continue p) h = h
+extends_after before scope (written.Return p e) h = h
 
 -- a statement leaves the locals before it
-pub extends_next : (before : List Declared) (scope next : Scope) (s : written.Stmt) → next ≡ behind scope s → Extends before scope.env.locals → Extends before next.env.locals
-extends_next before scope next s k h = subst (λ (x : Scope). Extends before x.env.locals) (sym k) (extends_behind before scope s h)
+pub extends_next : (before : List Declared) (scope next : Scope) (s : written.Stmt) → next ≡ after scope s → Extends before scope.env.locals → Extends before next.env.locals
+extends_next before scope next s k h = subst (λ (x : Scope). Extends before x.env.locals) (sym k) (extends_after before scope s h)
 
 -- at the end of a block its locals end
 pub locals_go : (old all new : List code_binding.Binding) (count : ℕ) → count ≡ length old → new ≡ take count all → Extends (map binding_of old) (map binding_of all) → map binding_of new ≡ map binding_of old
@@ -133,7 +133,7 @@ block_fails scope inner s p ss errors.NoMemory is k h = tt
 
 -- a turn of the walk over a block, and its end
 
-pub block_step : (done new : List typed_stmt.Stmt) (one : typed_stmt.Stmt) (scope next : Scope) (body : List code_stmt.Stmt) (i : ℕ) (s : code_stmt.Stmt) (whole : Checking Stmts) → new ≡ done ++ one ∷ [] → i < length body → s ≡ get_or body i s → stmt_typed scope (stmt_of s) ≡ Ok (typed_views.stmt_of one) → next ≡ behind scope (stmt_of s) → stmts_after (map typed_views.stmt_of done) (stmts_typed scope (written.stmts (map stmt_of (drop i body)))) ≡ whole → stmts_after (map typed_views.stmt_of new) (stmts_typed next (written.stmts (map stmt_of (drop (i + 1) body)))) ≡ whole
+pub block_step : (done new : List typed_stmt.Stmt) (one : typed_stmt.Stmt) (scope next : Scope) (body : List code_stmt.Stmt) (i : ℕ) (s : code_stmt.Stmt) (whole : TypingResult Stmts) → new ≡ done ++ one ∷ [] → i < length body → s ≡ get_or body i s → stmt_typed scope (stmt_of s) ≡ Ok (typed_views.stmt_of one) → next ≡ after scope (stmt_of s) → stmts_after (map typed_views.stmt_of done) (stmts_typed scope (written.stmts (map stmt_of (drop i body)))) ≡ whole → stmts_after (map typed_views.stmt_of new) (stmts_typed next (written.stmts (map stmt_of (drop (i + 1) body)))) ≡ whole
 block_step done new one scope next body i s whole n within is h k so =
     let rest : List code_stmt.Stmt = drop (i + 1) body in
     let begins : drop i body ≡ s ∷ rest = drop-cons body i s within ∙ ap (λ x. x ∷ drop (suc i) body) (sym is) ∙ ap (λ m. s ∷ drop m body) (sym (add-one i)) in
@@ -143,7 +143,7 @@ block_step done new one scope next body i s whole n within is h k so =
     ∙ ap (λ xs. stmts_after (map typed_views.stmt_of done) (stmts_typed scope (written.stmts (map stmt_of xs)))) (sym begins)
     ∙ so
 
-pub block_end : (done : List typed_stmt.Stmt) (scope : Scope) (body : List code_stmt.Stmt) (i : ℕ) (whole : Checking Stmts) → length body ≤ i → stmts_after (map typed_views.stmt_of done) (stmts_typed scope (written.stmts (map stmt_of (drop i body)))) ≡ whole → whole ≡ Ok (stmts (map typed_views.stmt_of done))
+pub block_end : (done : List typed_stmt.Stmt) (scope : Scope) (body : List code_stmt.Stmt) (i : ℕ) (whole : TypingResult Stmts) → length body ≤ i → stmts_after (map typed_views.stmt_of done) (stmts_typed scope (written.stmts (map stmt_of (drop i body)))) ≡ whole → whole ≡ Ok (stmts (map typed_views.stmt_of done))
 block_end done scope body i whole past so =
     sym so
     ∙ ap (λ xs. stmts_after (map typed_views.stmt_of done) (stmts_typed scope (written.stmts (map stmt_of xs)))) (drop_of_length-le body past)
@@ -159,20 +159,20 @@ cases_more : (done : List Case) (c : Case) (cs : Cases) → cases_before done (n
 cases_more [] c cs = refl
 cases_more (x ∷ done) c cs = ap (next_case x) (cases_more done c cs)
 
-cases_after_more : (done : List Case) (c : Case) (r : Checking Cases) → cases_after done (r >>= λ cs. Ok (next_case c cs)) ≡ cases_after (done ++ c ∷ []) r
+cases_after_more : (done : List Case) (c : Case) (r : TypingResult Cases) → cases_after done (r >>= λ cs. Ok (next_case c cs)) ≡ cases_after (done ++ c ∷ []) r
 cases_after_more done c (Ok cs) = ap Ok (cases_more done c cs)
 cases_after_more done c (Err f) = refl
 
-abbrev walked : Scope → Option Kind → List Label → List Case → List code_case.Case → Checking Cases
+abbrev walked : Scope → Option Kind → List Label → List Case → List code_case.Case → TypingResult Cases
 walked scope kind before done labels = cases_after done (cases_typed scope kind before (written.cases (map case_of labels)))
 
-abbrev first_label : Scope → Option Kind → List Label → List Case → code_case.Case → List code_case.Case → Checking Label → Checking Stmts → Checking Cases
+abbrev first_label : Scope → Option Kind → List Label → List Case → code_case.Case → List code_case.Case → TypingResult Label → TypingResult Stmts → TypingResult Cases
 first_label scope kind before done x rest known body = cases_after done (known >>= λ label. body >>= λ ss. cases_typed scope kind (before ++ (code_case.out-Case x).label ∷ []) (written.cases (map case_of rest)) >>= λ cs. Ok (next_case (labelled label ss) cs))
 
-abbrev known_at : Option Kind → List Label → code_case.Case → List code_case.Case → Checking Label
+abbrev known_at : Option Kind → List Label → code_case.Case → List code_case.Case → TypingResult Label
 known_at kind before x rest = label_typed kind before (is_last (written.cases (map case_of rest))) (code_case.out-Case x).place.at (code_case.out-Case x).label
 
-abbrev body_at : Scope → code_case.Case → Checking Stmts
+abbrev body_at : Scope → code_case.Case → TypingResult Stmts
 body_at scope x = stmts_typed scope (written.stmts (map stmt_of (code_case.out-Case x).body.items))
 
 first_is : (scope : Scope) (kind : Option Kind) (before : List Label) (done : List Case) (labels : List code_case.Case) (i : ℕ) (x : code_case.Case) → i < length labels → x ≡ get_or labels i x → walked scope kind before done (drop i labels) ≡ first_label scope kind before done x (drop (i + 1) labels) (known_at kind before x (drop (i + 1) labels)) (body_at scope x)
@@ -180,7 +180,7 @@ first_is scope kind before done labels i x within is =
     ap (walked scope kind before done) (begins_at labels i x within is)
     ∙ ap (λ c. cases_after done (cases_typed scope kind before (written.next_case c (written.cases (map case_of (drop (i + 1) labels)))))) (case_is x)
 
-pub cases_step : (done new : List typed_case.Case) (one : typed_case.Case) (scope next : Scope) (kind : Option Kind) (before more : List Label) (labels : List code_case.Case) (i : ℕ) (x : code_case.Case) (known : Label) (body : Stmts) (whole : Checking Cases) → new ≡ done ++ one ∷ [] → more ≡ before ++ (code_case.out-Case x).label ∷ [] → next ≡ scope → i < length labels → x ≡ get_or labels i x → known_at kind before x (drop (i + 1) labels) ≡ Ok known → body_at scope x ≡ Ok body → typed_views.case_of one ≡ labelled known body → walked scope kind before (map typed_views.case_of done) (drop i labels) ≡ whole → walked next kind more (map typed_views.case_of new) (drop (i + 1) labels) ≡ whole
+pub cases_step : (done new : List typed_case.Case) (one : typed_case.Case) (scope next : Scope) (kind : Option Kind) (before more : List Label) (labels : List code_case.Case) (i : ℕ) (x : code_case.Case) (known : Label) (body : Stmts) (whole : TypingResult Cases) → new ≡ done ++ one ∷ [] → more ≡ before ++ (code_case.out-Case x).label ∷ [] → next ≡ scope → i < length labels → x ≡ get_or labels i x → known_at kind before x (drop (i + 1) labels) ≡ Ok known → body_at scope x ≡ Ok body → typed_views.case_of one ≡ labelled known body → walked scope kind before (map typed_views.case_of done) (drop i labels) ≡ whole → walked next kind more (map typed_views.case_of new) (drop (i + 1) labels) ≡ whole
 cases_step done new one scope next kind before more labels i x known body whole n m same within is h k made so =
     let rest : List code_case.Case = drop (i + 1) labels in
     let earlier : List Case = map typed_views.case_of done in
@@ -196,14 +196,14 @@ cases_step done new one scope next kind before more labels i x known body whole 
     ∙ sym (first_is scope kind before earlier labels i x within is)
     ∙ so
 
-pub label_fails : (done : List typed_case.Case) (scope : Scope) (kind : Option Kind) (before : List Label) (labels : List code_case.Case) (i : ℕ) (x : code_case.Case) (e : CheckError) (whole : Checking Cases) → i < length labels → x ≡ get_or labels i x → FailsWith e (known_at kind before x (drop (i + 1) labels)) → walked scope kind before (map typed_views.case_of done) (drop i labels) ≡ whole → FailsWith e whole
+pub label_fails : (done : List typed_case.Case) (scope : Scope) (kind : Option Kind) (before : List Label) (labels : List code_case.Case) (i : ℕ) (x : code_case.Case) (e : CheckError) (whole : TypingResult Cases) → i < length labels → x ≡ get_or labels i x → FailsWith e (known_at kind before x (drop (i + 1) labels)) → walked scope kind before (map typed_views.case_of done) (drop i labels) ≡ whole → FailsWith e whole
 label_fails done scope kind before labels i x (errors.Fault f) whole within is h so =
     sym so
     ∙ first_is scope kind before (map typed_views.case_of done) labels i x within is
     ∙ ap (λ y. first_label scope kind before (map typed_views.case_of done) x (drop (i + 1) labels) y (body_at scope x)) h
 label_fails done scope kind before labels i x errors.NoMemory whole within is h so = tt
 
-pub labelled_fails : (done : List typed_case.Case) (scope : Scope) (kind : Option Kind) (before : List Label) (labels : List code_case.Case) (i : ℕ) (x : code_case.Case) (known : Label) (e : CheckError) (whole : Checking Cases) → i < length labels → x ≡ get_or labels i x → known_at kind before x (drop (i + 1) labels) ≡ Ok known → FailsWith e (body_at scope x) → walked scope kind before (map typed_views.case_of done) (drop i labels) ≡ whole → FailsWith e whole
+pub labelled_fails : (done : List typed_case.Case) (scope : Scope) (kind : Option Kind) (before : List Label) (labels : List code_case.Case) (i : ℕ) (x : code_case.Case) (known : Label) (e : CheckError) (whole : TypingResult Cases) → i < length labels → x ≡ get_or labels i x → known_at kind before x (drop (i + 1) labels) ≡ Ok known → FailsWith e (body_at scope x) → walked scope kind before (map typed_views.case_of done) (drop i labels) ≡ whole → FailsWith e whole
 labelled_fails done scope kind before labels i x known (errors.Fault f) whole within is h k so =
     sym so
     ∙ first_is scope kind before (map typed_views.case_of done) labels i x within is
@@ -211,7 +211,7 @@ labelled_fails done scope kind before labels i x known (errors.Fault f) whole wi
     ∙ ap (first_label scope kind before (map typed_views.case_of done) x (drop (i + 1) labels) (Ok known)) k
 labelled_fails done scope kind before labels i x known errors.NoMemory whole within is h k so = tt
 
-pub cases_end : (done : List typed_case.Case) (scope : Scope) (kind : Option Kind) (before : List Label) (labels : List code_case.Case) (i : ℕ) (whole : Checking Cases) → length labels ≤ i → walked scope kind before (map typed_views.case_of done) (drop i labels) ≡ whole → whole ≡ Ok (cases (map typed_views.case_of done))
+pub cases_end : (done : List typed_case.Case) (scope : Scope) (kind : Option Kind) (before : List Label) (labels : List code_case.Case) (i : ℕ) (whole : TypingResult Cases) → length labels ≤ i → walked scope kind before (map typed_views.case_of done) (drop i labels) ≡ whole → whole ≡ Ok (cases (map typed_views.case_of done))
 cases_end done scope kind before labels i whole past so =
     sym so
     ∙ ap (walked scope kind before (map typed_views.case_of done)) (drop_of_length-le labels past)

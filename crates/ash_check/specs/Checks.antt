@@ -3,25 +3,25 @@
 use Rattle.std.specs.Prelude.{◌≡◌, ℕ, List, [], ◌∷◌, Option, Some, None, Result, Ok, Err, map, slice_get, string_bytes}
 use Rattle.std.specs.List.{Contains}
 use Rattle.std.specs.Option.{option_map_or}
-use Rattle.ash_registrations.specs.Calls.{Call}
+use Rattle.ash_registrations.specs.Calls.{Registration}
 use Rattle.ash_tree.specs.Tree.{Class, Item}
 use Rattle.ash_typing.specs.declared.fault.Fault.{Fault}
 use Rattle.ash_typing.specs.declared.fault.Rule.{Rule}
 use Rattle.ash_typing.specs.declared.fault.Rule.TheVariants as rules
-use Rattle.ash_typing.specs.Checking.{Checking}
+use Rattle.ash_typing.specs.TypingResult.{TypingResult}
 use Rattle.ash_typed.specs.Modules.{Module}
 use Rattle.ash_typing.specs.Items.{module_typed}
 use Rattle.ash_classes.specs.References.{RefersTo, classes_of}
-use Rattle.ash_classes.specs.ToldCycle.{told_cycle}
+use Rattle.ash_classes.specs.ReportedCycle.{reported_cycle}
 use Rattle.ash_check.specs.declared.faults.CheckFault.{CheckFault}
 use Rattle.ash_check.specs.declared.faults.CheckFault.TheVariants as faults
 
 -- why a script is refused, without where names lie in memory
-pub data Told : Type 0 where
+pub data ScriptFault : Type 0 where
   -- a rule that is broken at an offset
-  Broken : Fault → Told
+  Broken : Fault → ScriptFault
   -- classes that could form a cycle, by their names: the first one, and the others on the way back to it
-  Cyclic : List (List ℕ) → Told
+  Cyclic : List (List ℕ) → ScriptFault
 
 -- the name of the class at this place
 abbrev pub name_at : List Class → ℕ → List ℕ
@@ -32,48 +32,48 @@ abbrev pub round_of : List Class → ℕ × List ℕ → List (List ℕ)
 round_of classes way = map (name_at classes) (way.0 ∷ way.1)
 
 -- the typed module, unless there is a cycle
-abbrev pub unless_round : List Class → Option (ℕ × List ℕ) → Module → Result Module Told
+abbrev pub unless_round : List Class → Option (ℕ × List ℕ) → Module → Result Module ScriptFault
 unless_round classes None typed = Ok typed
 unless_round classes (Some way) typed = Err (Cyclic (round_of classes way))
 
-abbrev pub checked_by : List Class → Checking Module → Result Module Told
-checked_by classes (Ok typed) = unless_round classes (told_cycle classes) typed
+abbrev pub checked_by : List Class → TypingResult Module → Result Module ScriptFault
+checked_by classes (Ok typed) = unless_round classes (reported_cycle classes) typed
 checked_by classes (Err fault) = Err (Broken fault)
 
 -- The typed module of a script; or its first fault; or, where no rule is broken, the classes that could form a cycle.
-unfoldable pub checked : List Call → List Item → Result Module Told
+unfoldable pub checked : List Registration → List Item → Result Module ScriptFault
 checked calls items = checked_by (classes_of items) (module_typed calls items)
 
 -- what the code's faults report
 
-abbrev pub broken_at : Rule → ℕ → Option Told
+abbrev pub broken_at : Rule → ℕ → Option ScriptFault
 broken_at rule at = Some (Broken (record { rule = rule; at = at }))
 
 -- why a script is refused; none where memory ran out, which says nothing of the script
-abbrev pub told_of : CheckFault → Option Told
-told_of (faults.UnknownName at) = broken_at rules.UnknownName at
-told_of (faults.UnknownType at) = broken_at rules.UnknownType at
-told_of (faults.NameTaken at) = broken_at rules.NameTaken at
-told_of (faults.TypeMismatch at) = broken_at rules.TypeMismatch at
-told_of (faults.WrongArgumentCount at) = broken_at rules.WrongArgumentCount at
-told_of (faults.NotAssignable at) = broken_at rules.NotAssignable at
-told_of (faults.NoReturn at) = broken_at rules.NoReturn at
-told_of (faults.Misplaced at) = broken_at rules.Misplaced at
-told_of (faults.CyclicType names) = Some (Cyclic (map string_bytes names.0.items))
-told_of (faults.NoFactory at) = broken_at rules.NoFactory at
-told_of (faults.TooMany at) = broken_at rules.TooMany at
-told_of (faults.ConstantOutOfRange at) = broken_at rules.ConstantOutOfRange at
-told_of (faults.DuplicateCase at) = broken_at rules.DuplicateCase at
-told_of faults.NoMemory = None
+abbrev pub script_fault_of : CheckFault → Option ScriptFault
+script_fault_of (faults.UnknownName at) = broken_at rules.UnknownName at
+script_fault_of (faults.UnknownType at) = broken_at rules.UnknownType at
+script_fault_of (faults.NameTaken at) = broken_at rules.NameTaken at
+script_fault_of (faults.TypeMismatch at) = broken_at rules.TypeMismatch at
+script_fault_of (faults.WrongArgumentCount at) = broken_at rules.WrongArgumentCount at
+script_fault_of (faults.NotAssignable at) = broken_at rules.NotAssignable at
+script_fault_of (faults.NoReturn at) = broken_at rules.NoReturn at
+script_fault_of (faults.Misplaced at) = broken_at rules.Misplaced at
+script_fault_of (faults.CyclicType names) = Some (Cyclic (map string_bytes names.0.items))
+script_fault_of (faults.NoFactory at) = broken_at rules.NoFactory at
+script_fault_of (faults.TooMany at) = broken_at rules.TooMany at
+script_fault_of (faults.ConstantOutOfRange at) = broken_at rules.ConstantOutOfRange at
+script_fault_of (faults.DuplicateCase at) = broken_at rules.DuplicateCase at
+script_fault_of faults.NoMemory = None
 
 -- this is what checking finds, where it is reported at all
-abbrev pub IsWhatIsTold : Option Told → Result Module Told → Type 0
-IsWhatIsTold None answer = Unit {0}
-IsWhatIsTold (Some why) answer = answer ≡ Err why
+abbrev pub IsReportedFault : Option ScriptFault → Result Module ScriptFault → Type 0
+IsReportedFault None answer = Unit {0}
+IsReportedFault (Some why) answer = answer ≡ Err why
 
 -- checking finds this fault, unless the fault says nothing of the script
-abbrev pub Tells : Result Module Told → CheckFault → Type 0
-Tells answer fault = IsWhatIsTold (told_of fault) answer
+abbrev pub Reports : Result Module ScriptFault → CheckFault → Type 0
+Reports answer fault = IsReportedFault (script_fault_of fault) answer
 
 -- a cycle as a reader of the script follows it
 
@@ -92,6 +92,6 @@ GoesRound classes [] = ⊥
 GoesRound classes (first ∷ others) = LeadsTo classes first others first
 
 -- the names of a cycle go round
-abbrev pub GoesRoundIfCyclic : List Class → Option Told → Type 0
+abbrev pub GoesRoundIfCyclic : List Class → Option ScriptFault → Type 0
 GoesRoundIfCyclic classes (Some (Cyclic names)) = GoesRound classes names
 GoesRoundIfCyclic classes _ = Unit {0}

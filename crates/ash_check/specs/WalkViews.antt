@@ -11,7 +11,7 @@ use Rattle.ash_typed.specs.Tree.{Expr}
 use Rattle.ash_typed.specs.Views.{expr_of}
 use Rattle.ash_typed.specs.declared.tree.expressions.Expr as typed_expr
 use Rattle.ash_tree.specs.Tree as written
-use Rattle.ash_typing.specs.Checking.{Checking, ◌>>=◌}
+use Rattle.ash_typing.specs.TypingResult.{TypingResult, ◌>>=◌}
 use Rattle.ash_typing.specs.Environment.{Environment, inside}
 use Rattle.ash_typing.specs.Items.{Names, Row, Signatures, Listed, Members, Walked, no_members, members_typed, class_of_members}
 use Rattle.ash_typed.specs.Modules.{Implementation, Class, variables_of, signature_of, implementation_of, class_of, module_of}
@@ -25,7 +25,7 @@ use Rattle.ash_check.specs.declared.interfaces.InterfaceParts as interface_parts
 use Rattle.ash_check.specs.declared.implementations.ListedInterfaces as listed_interfaces
 use Rattle.ash_tree.specs.Items.{Routine}
 
-abbrev pub registered_in : Option (Bor Registrations) → List host.Call
+abbrev pub registered_in : Option (Bor Registrations) → List host.Registration
 registered_in None = []
 registered_in (Some registry) = registered registry.now
 
@@ -63,5 +63,5 @@ abbrev pub optional_expr : Option typed_expr.Expr → Option Expr
 optional_expr value = option_map expr_of value
 
 -- the class of this place, with the interfaces that it lists
-abbrev pub class_with : Environment → ℕ → written.Class → List Implementation → Checking Class
+abbrev pub class_with : Environment → ℕ → written.Class → List Implementation → TypingResult Class
 class_with env place c listed = members_typed (inside env place) (no_members c listed) c.members >>= λ ms. Ok (class_of_members ms)

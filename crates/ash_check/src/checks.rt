@@ -2,7 +2,7 @@
 
 ghost use Rattle.std.specs.Prelude.{◌≡◌, ◌↔◌, ◌<◌, ℕ, List, Ok, Err, length, map, string_bytes, All, IfOk};
 ghost use Rattle.std.specs.Prelude.{IfErr, OnOk, MatchResult};
-ghost use Rattle.ash_registrations.specs.Calls.{Call};
+ghost use Rattle.ash_registrations.specs.Calls.{Registration};
 ghost use Rattle.ash_registrations.specs.Registered as table;
 ghost use Rattle.ash_registry.specs.Registered.{registered};
 ghost use Rattle.ash_tree.specs.Tree.{Item};
@@ -14,9 +14,9 @@ ghost use Rattle.ash_typing.specs.Items as definition;
 ghost use Rattle.ash_typing.specs.Nesting.{ItemsDeclareInBlocks};
 ghost use Rattle.ash_typing.specs.TypedModules.{IsTyped};
 ghost use Rattle.ash_classes.specs.References.{Refers, classes_of, seen};
-ghost use Rattle.ash_classes.specs.Ways.{IsTold, Reaches, AreRanks};
+ghost use Rattle.ash_classes.specs.Ways.{IsReported, Reaches, AreRanks};
 ghost use Rattle.ash_check.specs.CheckedModules.{IsChecked};
-ghost use Rattle.ash_check.specs.Checks.{Broken, Cyclic, checked, Tells, told_of, name_at, round_of, GoesRoundIfCyclic};
+ghost use Rattle.ash_check.specs.Checks.{Broken, Cyclic, checked, Reports, script_fault_of, name_at, round_of, GoesRoundIfCyclic};
 
 use crate::checked::Checked;
 use crate::faults::{CheckFault, ClassNames};
@@ -75,7 +75,7 @@ fn check_against(
     requires nested { ItemsDeclareInBlocks (written_module script.now) }
     ensures answer { MatchResult result
         (λ done. checked (table.registered registry.now) (written_module script.now) ≡ Ok (module_of done.typed))
-        (λ fault. Tells (checked (table.registered registry.now) (written_module script.now)) fault) }
+        (λ fault. Reports (checked (table.registered registry.now) (written_module script.now)) fault) }
     ensures typed { IfOk result (λ done.
         IsTyped (table.registered registry.now) (written_module script.now) (module_of done.typed)) }
     ensures ranks { IfOk result (λ done. AreRanks (Refers (classes_of (written_module script.now)))
@@ -86,7 +86,7 @@ fn check_against(
     ensures acyclic { OnOk result ((class : ℕ) →
         Reaches (Refers (classes_of (written_module script.now))) class class → ⊥) }
     ensures round { IfErr result
-        (λ fault. GoesRoundIfCyclic (classes_of (written_module script.now)) (told_of fault)) }
+        (λ fault. GoesRoundIfCyclic (classes_of (written_module script.now)) (script_fault_of fault)) }
 {
     let module = check_module(alloc, registry, script)?;
     match class_ranks(alloc, script)? {
@@ -116,7 +116,7 @@ pub fn check(
     requires nested { ItemsDeclareInBlocks (written_module script.now) }
     ensures answer { MatchResult result
         (λ done. checked (registered registry.now) (written_module script.now) ≡ Ok (module_of done.typed))
-        (λ fault. Tells (checked (registered registry.now) (written_module script.now)) fault) }
+        (λ fault. Reports (checked (registered registry.now) (written_module script.now)) fault) }
     ensures typed { IfOk result (λ done.
         IsTyped (registered registry.now) (written_module script.now) (module_of done.typed)) }
     ensures ranks { IfOk result (λ done. AreRanks (Refers (classes_of (written_module script.now)))
@@ -127,7 +127,7 @@ pub fn check(
     ensures acyclic { OnOk result ((class : ℕ) →
         Reaches (Refers (classes_of (written_module script.now))) class class → ⊥) }
     ensures round { IfErr result
-        (λ fault. GoesRoundIfCyclic (classes_of (written_module script.now)) (told_of fault)) }
+        (λ fault. GoesRoundIfCyclic (classes_of (written_module script.now)) (script_fault_of fault)) }
 {
     check_against(alloc, registry.registrations(), script)
 }
@@ -137,17 +137,17 @@ pub fn check(
 /// the cycle from the first class that does, by the first of its shortest ways back. Else it returns the first fault of
 /// the walk. It does nothing when it runs.
 pub fn check_is_exact()
-    ensures accepted { (calls : List Call) (items : List Item) (typed : modules.Module) →
+    ensures accepted { (calls : List Registration) (items : List Item) (typed : modules.Module) →
         (checked calls items ≡ Ok typed) ↔ (IsTyped calls items typed ×
         ((class : ℕ) → Reaches (Refers (classes_of items)) class class → ⊥)) }
-    ensures cyclic { (calls : List Call) (items : List Item) →
+    ensures cyclic { (calls : List Registration) (items : List Item) →
         ((names : List (List ℕ)) × (checked calls items ≡ Err (Cyclic names))) ↔
         ((typed : modules.Module) × (class : ℕ) × IsTyped calls items typed ×
         Reaches (Refers (classes_of items)) class class) }
-    ensures names { (calls : List Call) (items : List Item) (names : List (List ℕ)) →
+    ensures names { (calls : List Registration) (items : List Item) (names : List (List ℕ)) →
         (checked calls items ≡ Err (Cyclic names)) ↔
         ((typed : modules.Module) × (first : ℕ) × (others : List ℕ) × IsTyped calls items typed ×
-        IsTold (Refers (classes_of items)) first others × (names ≡ round_of (classes_of items) (first, others))) }
-    ensures broken { (calls : List Call) (items : List Item) (fault : Fault) →
+        IsReported (Refers (classes_of items)) first others × (names ≡ round_of (classes_of items) (first, others))) }
+    ensures broken { (calls : List Registration) (items : List Item) (fault : Fault) →
         (checked calls items ≡ Err (Broken fault)) ↔ (definition.module_typed calls items ≡ Err fault) }
 {}

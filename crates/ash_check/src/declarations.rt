@@ -6,7 +6,7 @@ ghost use Rattle.ash_tree.specs.Tree.{place_of_type};
 ghost use Rattle.ash_tree.specs.Views.{element_of, type_of, initializer_of, decl_of};
 ghost use Rattle.ash_typed.specs.BodyViews.{value_of};
 ghost use Rattle.ash_typing.specs.Environment as environment;
-ghost use Rattle.ash_typing.specs.Heads as type_names;
+ghost use Rattle.ash_typing.specs.ModuleDeclarations as type_names;
 ghost use Rattle.ash_typing.specs.Expressions as typing;
 ghost use Rattle.ash_typing.specs.Declarations as definition;
 ghost use Rattle.ash_expressions.specs.Agreement.{Agrees};

@@ -34,7 +34,7 @@ pub(crate) fn check_for_head<'n>(
         (written.stmt_of source.now)) }
     ensures locals { IfOk result
         (λ _. scope_of scope.now (locals_of locals.new)
-        ≡ scopes.behind (scope_of scope.now (locals_of locals.old)) (written.stmt_of source.now)) }
+        ≡ scopes.after (scope_of scope.now (locals_of locals.old)) (written.stmt_of source.now)) }
 {
     let at = source.place.at;
     match &source.kind {

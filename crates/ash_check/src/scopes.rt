@@ -4,7 +4,7 @@ ghost use Rattle.std.specs.Prelude.{◌≡◌, drop, map, IfOk};
 ghost use Rattle.std.specs.List.{list_any};
 ghost use Rattle.ash_tree.specs.Views.{decl_of};
 ghost use Rattle.ash_typing.specs.Environment.{declares};
-ghost use Rattle.ash_typing.specs.Heads.{declared};
+ghost use Rattle.ash_typing.specs.ModuleDeclarations.{declared};
 ghost use Rattle.ash_typing.specs.Scopes as scopes;
 ghost use Rattle.ash_typing.specs.Statements as definition;
 ghost use Rattle.ash_expressions.specs.Agreement.{Agrees};

@@ -6,7 +6,7 @@ ghost use Rattle.ash_tree.specs.Views.{vars_of, parameter_of, function_of as wri
 ghost use Rattle.ash_tree.specs.Views.{type_name_of, interface_method_of, interface_of as written_interface};
 ghost use Rattle.ash_tree.specs.Views.{class_of as written_class, item_of, module_of};
 ghost use Rattle.ash_tree.specs.Items as by_kind;
-ghost use Rattle.ash_typing.specs.Heads as definition;
+ghost use Rattle.ash_typing.specs.ModuleDeclarations as definition;
 ghost use Rattle.ash_expressions.specs.Views.{binding_of, function_signature_of, interface_signature_of};
 ghost use Rattle.ash_expressions.specs.Views.{class_signature_of, signatures_of};
 
@@ -339,7 +339,7 @@ fn resolve_signatures<'a>(
 ) -> Result<Signatures<'a>, AllocError>
     ensures { IfOk result
         (λ h. signatures_of h
-        ≡ definition.heads_by (registered registry.now) (signatures_of type_names.now)
+        ≡ definition.declarations_by (registered registry.now) (signatures_of type_names.now)
         (map item_of items.now)) }
 {
     let interfaces = interface_signatures(alloc, registry, type_names, items)?;
@@ -351,7 +351,7 @@ fn resolve_signatures<'a>(
 }
 
 /// What a module declares.
-#[tactic(auto, unfolding(ash_typing::specs::Heads::heads))]
+#[tactic(auto, unfolding(ash_typing::specs::ModuleDeclarations::declarations))]
 pub(crate) fn module_signatures<'a>(
     alloc: Global,
     registry: &Registrations,
@@ -359,7 +359,7 @@ pub(crate) fn module_signatures<'a>(
 ) -> Result<Signatures<'a>, AllocError>
     ensures { IfOk result
         (λ h. signatures_of h
-        ≡ definition.heads (registered registry.now) (module_of declared.now)) }
+        ≡ definition.declarations (registered registry.now) (module_of declared.now)) }
 {
     let type_names = type_names(alloc, &declared.items)?;
     resolve_signatures(alloc, registry, &type_names, &declared.items)

@@ -51,7 +51,7 @@ fn check_stmt<'n>(
         (written.stmt_of source.now)) }
     ensures locals { IfOk result
         (λ _. scope_of scope.now (locals_of locals.new)
-        ≡ scopes.behind (scope_of scope.now (locals_of locals.old)) (written.stmt_of source.now)) }
+        ≡ scopes.after (scope_of scope.now (locals_of locals.old)) (written.stmt_of source.now)) }
 {
     let place = source.place;
     match &source.kind {
@@ -109,7 +109,7 @@ fn check_declaration<'n>(
         (Declare place (written.vars_of vars.now))) }
     ensures locals { IfOk result
         (λ _. scope_of scope.now (locals_of locals.new)
-        ≡ scopes.behind (scope_of scope.now (locals_of locals.old))
+        ≡ scopes.after (scope_of scope.now (locals_of locals.old))
         (Declare place (written.vars_of vars.now))) }
 {
     let values = check_local_vars(scope, locals, vars)?;

@@ -6,4 +6,4 @@ pub mod Searches
 pub mod ReferenceLaws
 pub mod CycleLaws
 pub mod Shortcuts
-pub mod ToldSearches
+pub mod CycleSearches

@@ -24,7 +24,7 @@ module _ {X : Type 0} (Has : List X → Type 0) (Passes : X → Type 0) (any : I
       let next : Has (drop (suc i) xs) =
       elim (any.split (get_or xs i x) (drop (suc i) xs) (subst Has begins (left has))) [
         | inl it ↦ absurd (not_it (subst Passes (sym is) it))
-        | inr behind ↦ behind
+        | inr after ↦ after
       ] in
       subst (λ (n : ℕ). Has (drop n xs)) (sym (add-one i)) next
 

@@ -3,9 +3,9 @@
 ghost use Rattle.std.specs.Prelude.{◌≡◌, ◌↔◌, ℕ, List, Some, None, length, IfOk, IfErr, OnOk};
 ghost use Rattle.ash_tree.specs.Tree.{Class};
 ghost use Rattle.ash_tree.specs.Views.{module_of};
-ghost use Rattle.ash_classes.specs.Ways.{IsTold, Reaches, AreRanks};
+ghost use Rattle.ash_classes.specs.Ways.{IsReported, Reaches, AreRanks};
 ghost use Rattle.ash_classes.specs.References.{Refers, classes_of};
-ghost use Rattle.ash_classes.specs.ToldCycle.{told_cycle};
+ghost use Rattle.ash_classes.specs.ReportedCycle.{reported_cycle};
 
 use crate::cycles::{Cycle, ranks};
 use crate::references::{classes, referrers};
@@ -25,14 +25,14 @@ pub fn class_ranks(alloc: Global, script: &Module) -> Result<Result<Vec<usize>, 
         OnOk answer ((class : ℕ) → Reaches (Refers (classes_of (module_of script.now))) class class
         → ⊥)) }
     ensures cycle { IfOk result (λ answer. IfErr answer (λ cycle.
-        IsTold (Refers (classes_of (module_of script.now))) cycle.first cycle.others.items)) }
+        IsReported (Refers (classes_of (module_of script.now))) cycle.first cycle.others.items)) }
     ensures only { IfOk result (λ answer. IfErr answer (λ cycle. (first : ℕ) (others : List ℕ)
-        → IsTold (Refers (classes_of (module_of script.now))) first others
+        → IsReported (Refers (classes_of (module_of script.now))) first others
         → (first ≡ cycle.first) × (others ≡ cycle.others.items))) }
-    ensures told { IfOk result (λ answer. IfErr answer (λ cycle.
-        told_cycle (classes_of (module_of script.now)) ≡ Some (cycle.first, cycle.others.items))) }
+    ensures reported { IfOk result (λ answer. IfErr answer (λ cycle.
+        reported_cycle (classes_of (module_of script.now)) ≡ Some (cycle.first, cycle.others.items))) }
     ensures none { IfOk result (λ answer.
-        OnOk answer (told_cycle (classes_of (module_of script.now)) ≡ None)) }
+        OnOk answer (reported_cycle (classes_of (module_of script.now)) ≡ None)) }
 {
     let classes = classes(alloc, &script.items)?;
     let referrers = referrers(alloc, &classes)?;
@@ -41,8 +41,8 @@ pub fn class_ranks(alloc: Global, script: &Module) -> Result<Result<Vec<usize>, 
 
 /// The search for a cycle finds the one that is reported, and none exactly where no class reaches itself.
 pub fn search_is_exact()
-    ensures told { (classes : List Class) (first : ℕ) (others : List ℕ)
-        → (told_cycle classes ≡ Some (first, others)) ↔ IsTold (Refers classes) first others }
+    ensures reported { (classes : List Class) (first : ℕ) (others : List ℕ)
+        → (reported_cycle classes ≡ Some (first, others)) ↔ IsReported (Refers classes) first others }
     ensures none { (classes : List Class)
-        → (told_cycle classes ≡ None) ↔ ((class : ℕ) → Reaches (Refers classes) class class → ⊥) }
+        → (reported_cycle classes ≡ None) ↔ ((class : ℕ) → Reaches (Refers classes) class class → ⊥) }
 {}

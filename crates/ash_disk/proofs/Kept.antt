@@ -5,8 +5,8 @@ use Rattle.std.proofs.lemmas.Bool.{cases_lt}
 use Rattle.ash_disk.specs.Image.{after_write, Torn, TornFrom, torn_not}
 use Rattle.ash_disk.specs.Calls.{file_after, synced_after, MayLeave, file_may_stay}
 use Rattle.ash_disk.specs.Moments.{During}
-use Rattle.ash_disk.specs.declared.call.Call.{Call}
-use Rattle.ash_disk.specs.declared.call.Call.TheVariants.{Write, Sync}
+use Rattle.ash_disk.specs.declared.registration.Registration.{Call}
+use Rattle.ash_disk.specs.declared.registration.Registration.TheVariants.{Write, Sync}
 use Rattle.ash_disk.proofs.MomentLaws.{at_start}
 
 -- what a crash after the first calls may leave

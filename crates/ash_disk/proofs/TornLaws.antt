@@ -8,93 +8,93 @@ pub parts : (n : ℕ) (file : List ℕ) → file ≡ take n file ++ drop n file
 parts n file = sym (take-append-drop n file)
 
 -- What stands before the range stays.
-pub front_stays : (front behind : List ℕ) (at n : ℕ) (new : List ℕ) → length front ≤ at → Torn at n (front ++ behind) new → new ≡ front ++ drop (length front) new
-front_stays front behind at n new before torn =
-    parts (length front) new ∙ ap (λ (l : List ℕ). l ++ drop (length front) new) same
+pub prefix_stays : (prefix after : List ℕ) (at n : ℕ) (new : List ℕ) → length prefix ≤ at → Torn at n (prefix ++ after) new → new ≡ prefix ++ drop (length prefix) new
+prefix_stays prefix after at n new before torn =
+    parts (length prefix) new ∙ ap (λ (l : List ℕ). l ++ drop (length prefix) new) same
   where
-    long : length front ≤ length new
-    long = omega (arith, torn.no_shorter, length-append front behind)
+    long : length prefix ≤ length new
+    long = omega (arith, torn.no_shorter, length-append prefix after)
 
-    same_length : length (take (length front) new) ≡ length front
-    same_length = omega (arith, long, length-take (length front) new)
+    same_length : length (take (length prefix) new) ≡ length prefix
+    same_length = omega (arith, long, length-take (length prefix) new)
 
-    each : (k d : ℕ) → k < length (take (length front) new) → get_or (take (length front) new) k d ≡ get_or front k d
+    each : (k d : ℕ) → k < length (take (length prefix) new) → get_or (take (length prefix) new) k d ≡ get_or prefix k d
     each k d within =
-        let near : k < length front = omega (arith, within, same_length) in
-        let in_old : k < length (front ++ behind) = omega (arith, near, length-append front behind) in
+        let near : k < length prefix = omega (arith, within, same_length) in
+        let in_old : k < length (prefix ++ after) = omega (arith, near, length-append prefix after) in
         let in_new : k < length new = omega (arith, near, long) in
-        let stays : get_or new k 0 ≡ get_or (front ++ behind) k 0 = torn.outside k in_old (inl (omega arith)) in
-        get_or-take (length front) new k d near
+        let stays : get_or new k 0 ≡ get_or (prefix ++ after) k 0 = torn.outside k in_old (inl (omega arith)) in
+        get_or-take (length prefix) new k d near
         ∙ get_or_default new k d 0 in_new
         ∙ stays
-        ∙ get_or_default (front ++ behind) k 0 d in_old
+        ∙ get_or_default (prefix ++ after) k 0 d in_old
         ∙ search (arith, places)
 
-    same : take (length front) new ≡ front
-    same = same_lists (take (length front) new) front same_length each
+    same : take (length prefix) new ≡ prefix
+    same = same_lists (take (length prefix) new) prefix same_length each
 
--- What stands behind the range stays, and what the range leaves there is as long as it was.
-pub part_torn : (front middle back : List ℕ) (at n : ℕ) (new : List ℕ) → at ≡ length front → n ≡ length middle → Torn at n (front ++ middle ++ back) new → (torn : List ℕ) × (length torn ≡ length middle) × (new ≡ front ++ torn ++ back)
-part_torn front middle back at n new at_is n_is torn = (
+-- What stands after the range stays, and what the range leaves there is as long as it was.
+pub part_torn : (prefix middle back : List ℕ) (at n : ℕ) (new : List ℕ) → at ≡ length prefix → n ≡ length middle → Torn at n (prefix ++ middle ++ back) new → (torn : List ℕ) × (length torn ≡ length middle) × (new ≡ prefix ++ torn ++ back)
+part_torn prefix middle back at n new at_is n_is torn = (
   take (length middle) rest,
   omega (arith, length-take (length middle) rest, rest_length),
-  whole ∙ ap (λ (l : List ℕ). front ++ l) (parts (length middle) rest ∙ ap (λ (l : List ℕ). take (length middle) rest ++ l) back_same) ∙ sym (append_assoc front (take (length middle) rest) back),
+  whole ∙ ap (λ (l : List ℕ). prefix ++ l) (parts (length middle) rest ∙ ap (λ (l : List ℕ). take (length middle) rest ++ l) back_same) ∙ sym (append_assoc prefix (take (length middle) rest) back),
 )
   where
     rest : List ℕ
-    rest = drop (length front) new
+    rest = drop (length prefix) new
 
     total : ℕ
-    total = length front + length middle + length back
+    total = length prefix + length middle + length back
 
-    old_length : length (front ++ middle ++ back) ≡ length front + length middle + length back
-    old_length = omega (arith, length-append (front ++ middle) back, length-append front middle)
+    old_length : length (prefix ++ middle ++ back) ≡ length prefix + length middle + length back
+    old_length = omega (arith, length-append (prefix ++ middle) back, length-append prefix middle)
 
-    new_length : length new ≡ length front + length middle + length back
+    new_length : length new ≡ length prefix + length middle + length back
     new_length = omega (arith, old_length, torn.no_shorter, torn.no_longer)
 
     rest_length : length rest ≡ length middle + length back
-    rest_length = omega (arith, new_length, length-drop (length front) new)
+    rest_length = omega (arith, new_length, length-drop (length prefix) new)
 
-    whole : new ≡ front ++ rest
-    whole = front_stays front (middle ++ back) at n new (omega arith) (subst (λ (l : List ℕ). Torn at n l new) (append_assoc front middle back) torn)
+    whole : new ≡ prefix ++ rest
+    whole = prefix_stays prefix (middle ++ back) at n new (omega arith) (subst (λ (l : List ℕ). Torn at n l new) (append_assoc prefix middle back) torn)
 
     each : (k d : ℕ) → k < length (drop (length middle) rest) → get_or (drop (length middle) rest) k d ≡ get_or back k d
     each k d within =
         let near : k < length back = omega (arith, within, rest_length, length-drop (length middle) rest) in
-        let place : ℕ = length front + length middle + k in
-        let in_old : length front + length middle + k < length (front ++ middle ++ back) = omega (arith, near, old_length) in
-        let in_new : length front + length middle + k < length new = omega (arith, near, new_length) in
-        let stays : get_or new (length front + length middle + k) 0 ≡ get_or (front ++ middle ++ back) (length front + length middle + k) 0 = torn.outside (length front + length middle + k) in_old (inr (omega arith)) in
-        let behind : get_or (drop (length middle) rest) k d ≡ get_or new (length front + length middle + k) d = search (arith, places) in
-        let old_behind : get_or (front ++ middle ++ back) (length front + length middle + k) d ≡ get_or back k d = search (arith, places) in
-        behind ∙ get_or_default new (length front + length middle + k) d 0 in_new ∙ stays ∙ get_or_default (front ++ middle ++ back) (length front + length middle + k) 0 d in_old ∙ old_behind
+        let place : ℕ = length prefix + length middle + k in
+        let in_old : length prefix + length middle + k < length (prefix ++ middle ++ back) = omega (arith, near, old_length) in
+        let in_new : length prefix + length middle + k < length new = omega (arith, near, new_length) in
+        let stays : get_or new (length prefix + length middle + k) 0 ≡ get_or (prefix ++ middle ++ back) (length prefix + length middle + k) 0 = torn.outside (length prefix + length middle + k) in_old (inr (omega arith)) in
+        let after : get_or (drop (length middle) rest) k d ≡ get_or new (length prefix + length middle + k) d = search (arith, places) in
+        let old_after : get_or (prefix ++ middle ++ back) (length prefix + length middle + k) d ≡ get_or back k d = search (arith, places) in
+        after ∙ get_or_default new (length prefix + length middle + k) d 0 in_new ∙ stays ∙ get_or_default (prefix ++ middle ++ back) (length prefix + length middle + k) 0 d in_old ∙ old_after
 
     back_same : drop (length middle) rest ≡ back
     back_same = same_lists (drop (length middle) rest) back (omega (arith, rest_length, length-drop (length middle) rest)) each
 
 -- A torn write of one byte changes that byte and no other.
-pub byte_torn : (front : List ℕ) (byte : ℕ) (back : List ℕ) (at : ℕ) (new : List ℕ) → at ≡ length front → Torn at 1 (front ++ byte ∷ back) new → (torn : ℕ) × (new ≡ front ++ torn ∷ back)
-byte_torn front byte back at new at_is torn = one parted.0 parted.1 parted.2
+pub byte_torn : (prefix : List ℕ) (byte : ℕ) (back : List ℕ) (at : ℕ) (new : List ℕ) → at ≡ length prefix → Torn at 1 (prefix ++ byte ∷ back) new → (torn : ℕ) × (new ≡ prefix ++ torn ∷ back)
+byte_torn prefix byte back at new at_is torn = one parted.0 parted.1 parted.2
   where
-    parted : (bytes : List ℕ) × (length bytes ≡ 1) × (new ≡ front ++ bytes ++ back)
-    parted = part_torn front (byte ∷ []) back at 1 new at_is refl (subst (λ (l : List ℕ). Torn at 1 l new) (sym (append_assoc front (byte ∷ []) back)) torn)
+    parted : (bytes : List ℕ) × (length bytes ≡ 1) × (new ≡ prefix ++ bytes ++ back)
+    parted = part_torn prefix (byte ∷ []) back at 1 new at_is refl (subst (λ (l : List ℕ). Torn at 1 l new) (sym (append_assoc prefix (byte ∷ []) back)) torn)
 
-    one : (bytes : List ℕ) → length bytes ≡ 1 → new ≡ front ++ bytes ++ back → (torn : ℕ) × (new ≡ front ++ torn ∷ back)
+    one : (bytes : List ℕ) → length bytes ≡ 1 → new ≡ prefix ++ bytes ++ back → (torn : ℕ) × (new ≡ prefix ++ torn ∷ back)
     one [] long is = absurd (omega arith)
-    one (b ∷ []) long is = (b, is ∙ append_assoc front (b ∷ []) back)
+    one (b ∷ []) long is = (b, is ∙ append_assoc prefix (b ∷ []) back)
     one (b ∷ c ∷ bytes) long is = absurd (omega arith)
 
--- What a whole write leaves behind a front that it does not touch.
-pub written_behind : (front behind bytes : List ℕ) (at : ℕ) → at ≡ length front → after_write (front ++ behind) at bytes ≡ front ++ bytes ++ drop (length bytes) behind
-written_behind front behind bytes at at_is =
-    ap (λ (l : List ℕ). l ++ bytes ++ drop (at + length bytes) (front ++ behind)) (take_at front behind at (sym at_is))
-    ∙ ap (λ (l : List ℕ). front ++ bytes ++ l) (sym (drop-drop (length bytes) at (front ++ behind)) ∙ ap (λ (l : List ℕ). drop (length bytes) l) (drop_at front behind at (sym at_is)))
+-- What a whole write leaves after a prefix that it does not touch.
+pub written_after : (prefix after bytes : List ℕ) (at : ℕ) → at ≡ length prefix → after_write (prefix ++ after) at bytes ≡ prefix ++ bytes ++ drop (length bytes) after
+written_after prefix after bytes at at_is =
+    ap (λ (l : List ℕ). l ++ bytes ++ drop (at + length bytes) (prefix ++ after)) (take_at prefix after at (sym at_is))
+    ∙ ap (λ (l : List ℕ). prefix ++ bytes ++ l) (sym (drop-drop (length bytes) at (prefix ++ after)) ∙ ap (λ (l : List ℕ). drop (length bytes) l) (drop_at prefix after at (sym at_is)))
 
 -- One byte written in its place.
-pub byte_written : (front : List ℕ) (old new : ℕ) (back : List ℕ) (at : ℕ) → at ≡ length front → after_write (front ++ old ∷ back) at (new ∷ []) ≡ front ++ new ∷ back
-byte_written front old new back at at_is =
-    written_behind front (old ∷ back) (new ∷ []) at at_is ∙ append_assoc front (new ∷ []) back
+pub byte_written : (prefix : List ℕ) (old new : ℕ) (back : List ℕ) (at : ℕ) → at ≡ length prefix → after_write (prefix ++ old ∷ back) at (new ∷ []) ≡ prefix ++ new ∷ back
+byte_written prefix old new back at at_is =
+    written_after prefix (old ∷ back) (new ∷ []) at at_is ∙ append_assoc prefix (new ∷ []) back
 
 -- How long a file is after a write that begins within it.
 pub length-after_write : (at : ℕ) (old bytes : List ℕ) → at ≤ length old → length (after_write old at bytes) ≡ max (length old) (at + length bytes)
@@ -102,9 +102,9 @@ length-after_write at old bytes within =
     omega (arith, length-append (take at old ++ bytes) (drop (at + length bytes) old), length-append (take at old) bytes, length-take at old, length-drop (at + length bytes) old)
 
 -- What a read gives of a part.
-pub part_read : (front middle back : List ℕ) (at n : ℕ) → at ≡ length front → n ≡ length middle → bytes_at (front ++ middle ++ back) at n ≡ middle
-part_read front middle back at n at_is n_is =
-    ap (λ (l : List ℕ). take n l) (ap (λ (l : List ℕ). drop at l) (append_assoc front middle back) ∙ drop_at front (middle ++ back) at (sym at_is))
+pub part_read : (prefix middle back : List ℕ) (at n : ℕ) → at ≡ length prefix → n ≡ length middle → bytes_at (prefix ++ middle ++ back) at n ≡ middle
+part_read prefix middle back at n at_is n_is =
+    ap (λ (l : List ℕ). take n l) (ap (λ (l : List ℕ). drop at l) (append_assoc prefix middle back) ∙ drop_at prefix (middle ++ back) at (sym at_is))
     ∙ take_at middle back n (sym n_is)
 
 -- After a sync the file as it was read is all that a write can tear.

@@ -4,8 +4,8 @@ use Rattle.std.specs.Prelude.{◌≡◌, ℕ, List, [], ◌∷◌, length, rever
 use Rattle.std.proofs.Common.{sym, subst, arith}
 use Rattle.std.proofs.lemmas.List.{take_all}
 use Rattle.ash_disk.specs.Image.{after_write, TornFrom, torn_whole}
-use Rattle.ash_disk.specs.declared.call.Call.{Call}
-use Rattle.ash_disk.specs.declared.call.Call.TheVariants.{Write, Sync}
+use Rattle.ash_disk.specs.declared.registration.Registration.{Call}
+use Rattle.ash_disk.specs.declared.registration.Registration.TheVariants.{Write, Sync}
 
 -- the bytes that a read gives after the calls
 abbrev pub file_after : List ℕ → List Call → List ℕ

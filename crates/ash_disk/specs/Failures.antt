@@ -8,5 +8,5 @@ Rose old new = min (old + 1) (2 ^ 64 - 1) ≤ new
 -- a call that fails is one more failure, and a call that does not fail is none
 pub record CountsFailure {T E : Type 0} (result : Result T E) (old new : ℕ) : Type 0 where
   pub never_falls : old ≤ new
-  pub told : OnErr result (Rose old new)
+  pub reported : OnErr result (Rose old new)
   pub none : OnOk result (new ≡ old)

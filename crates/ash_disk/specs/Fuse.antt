@@ -1,4 +1,4 @@
--- What a disk behind a fuse shows.
+-- What a disk after a fuse shows.
 use Rattle.std.specs.Prelude.{◌≡◌, ℕ, ◌+◌, ◌-◌, ◌<◌, Result, IsErr}
 use Rattle.ash_disk.specs.Failures.{CountsFailure}
 use Rattle.ash_disk.specs.declared.fuse.FuseDisk.{FuseDisk}
@@ -15,7 +15,7 @@ calls_left f = f.calls_left
 abbrev pub fuse_failures : {D : Type 0} → (D → ℕ) → FuseDisk D → ℕ
 fuse_failures failures f = failures f.disk + f.stopped
 
--- One call on a disk behind a fuse. With no call left it fails and does not reach the disk. With some left there
+-- One call on a disk after a fuse. With no call left it fails and does not reach the disk. With some left there
 -- is one less, and a failure is that of the disk.
 pub record Burns {D T E : Type 0} (failures : D → ℕ) (result : Result T E) (old new : FuseDisk D) : Type 0 where
   pub one_less : calls_left new ≡ calls_left old - 1

@@ -11,7 +11,7 @@ bytes_at file at n = take n (drop at file)
 abbrev pub after_write : List ℕ → ℕ → List ℕ → List ℕ
 after_write file at bytes = take at file ++ bytes ++ drop (at + length bytes) file
 
--- a place before or behind a range of n bytes
+-- a place before or after a range of n bytes
 abbrev pub IsOutside : ℕ → ℕ → ℕ → Type 0
 IsOutside at n place = (place < at) ⊎ (at + n ≤ place)
 
@@ -37,7 +37,7 @@ torn_not at n old = record { outside = λ place within away. refl; no_shorter = 
 -- What the whole write leaves is one of those that it may leave when it is torn.
 pub torn_whole : (at : ℕ) (old bytes : List ℕ) → Torn at (length bytes) old (after_write old at bytes)
 torn_whole at old bytes = record {
-  outside = λ place within away. ⊎_elim (before place within) (behind place within) away;
+  outside = λ place within away. ⊎_elim (before place within) (after place within) away;
   no_shorter = omega (arith, long, length-take at old, length-drop (at + length bytes) old);
   no_longer = omega (arith, long, length-take at old, length-drop (at + length bytes) old);
 }
@@ -48,5 +48,5 @@ torn_whole at old bytes = record {
     before : (place : ℕ) → place < length old → place < at → get_or (after_write old at bytes) place 0 ≡ get_or old place 0
     before place within near = search (arith, places)
 
-    behind : (place : ℕ) → place < length old → at + length bytes ≤ place → get_or (after_write old at bytes) place 0 ≡ get_or old place 0
-    behind place within far = search (arith, places)
+    after : (place : ℕ) → place < length old → at + length bytes ≤ place → get_or (after_write old at bytes) place 0 ≡ get_or old place 0
+    after place within far = search (arith, places)

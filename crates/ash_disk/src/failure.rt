@@ -19,7 +19,7 @@ impl fmt::Display for DeviceFailed {
 
 impl Error for DeviceFailed {}
 
-/// Tells an error as a failure of the device, and counts it. The count stays at 2^64 - 1 once it is there.
+/// Reports an error as a failure of the device, and counts it. The count stays at 2^64 - 1 once it is there.
 pub(crate) fn counted<T, E: Drop>(
     outcome: Result<T, E>,
     failures: &mut u64,

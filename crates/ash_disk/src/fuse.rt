@@ -32,7 +32,7 @@ impl<D: Disk> FuseDisk<D> {
         }
     }
 
-    /// The disk behind the fuse.
+    /// The disk after the fuse.
     pub fn into_inner(self) -> D
         ensures { result ≡ inner self }
     {

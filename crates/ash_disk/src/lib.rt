@@ -1,6 +1,6 @@
 //! Disks as the store sees them: files of bytes that are read, written over and synced, any call of which may fail.
 //! It stands on nothing. It promises, of every disk that is honest, what a read gives and which images a crash at
-//! any moment may leave, and of every disk that `DeviceFailed` is told only where the device has failed.
+//! any moment may leave, and of every disk that `DeviceFailed` is reported only where the device has failed.
 //!
 //! In reading order: `failure` (the one error and its count), `disk` (the trait), `durably` (a write and its sync),
 //! `file` (a file of the system), `fuse` (a disk that fails from a chosen call on), `memory` (a disk in memory, with

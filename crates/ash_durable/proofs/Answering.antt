@@ -2,7 +2,7 @@
 use Rattle.std.proofs.Common.{◌≡◌, inl, inr, ℕ, Bool, true, false, cond, List, length, nat_le, not, Option, Some, None}
 use Rattle.std.proofs.Common.{Ok, Err, is_some, refl, sym, ap, subst}
 use Rattle.ash_host.specs.declared.word.Word.{Word}
-use Rattle.ash_registry.specs.Calls.{Call as Registration}
+use Rattle.ash_registry.specs.Calls.{Registration}
 use Rattle.ash_meaning.specs.Refusals.{Refusal}
 use Rattle.ash_meaning.specs.Refusals as refusals
 use Rattle.ash_meaning.specs.declared.request.Argument.{Argument}
@@ -15,7 +15,7 @@ use Rattle.ash_meaning.specs.Step.{unless_refused, is_spent, is_module_name, fin
 use Rattle.ash_meaning.specs.Step.{max_modules, load_of, call_in, call_of, call_with, words_for, read_in, read_of}
 use Rattle.ash_meaning.specs.Step.{word_named}
 use Rattle.ash_meaning.specs.Reading.{ReadResult, read_source}
-use Rattle.ash_meaning.proofs.ReadingLaws.{IsTold, read_source-reported}
+use Rattle.ash_meaning.proofs.ReadingLaws.{IsReported, read_source-reported}
 use Rattle.ash_durable.specs.Hosting.{Commits}
 
 -- No request is refused by the definition for a device, for the number of a generation, or because the host must be
@@ -30,14 +30,14 @@ by_cond : (b : Bool) (x y : Demand) → NotByHost x → NotByHost y → NotByHos
 by_cond true x y one other = one
 by_cond false x y one other = other
 
-refusal-fine : (refusal : Refusal) → IsTold refusal → NotByHost (Err refusal)
+refusal-fine : (refusal : Refusal) → IsReported refusal → NotByHost (Err refusal)
 refusal-fine refusals.DeviceFailed read = absurd read
 refusal-fine refusals.Reopen read = absurd read
 refusal-fine refusals.GenerationSpent read = absurd read
 refusal-fine _ read = tt
 
 load_of-fine : (name source : List ℕ) (reading : ReadResult)
-    → ((refusal : Refusal) → reading ≡ Err refusal → IsTold refusal) → NotByHost (load_of name source reading)
+    → ((refusal : Refusal) → reading ≡ Err refusal → IsReported refusal) → NotByHost (load_of name source reading)
 load_of-fine name source (Err refusal) read = refusal-fine refusal (read refusal refl)
 load_of-fine name source (Ok tree) read = tt
 

@@ -43,7 +43,7 @@ pub counts_as : (F G : Type 0) (a b c d : ℕ) → (F → G) → (G → F) → C
 counts_as F G a b c d to from counts = record {
   first_never_falls = counts.first_never_falls;
   second_never_falls = counts.second_never_falls;
-  told = λ failed. counts.told (from failed);
+  reported = λ failed. counts.reported (from failed);
   none = λ not. counts.none (λ failed. not (to failed));
 }
 
@@ -52,7 +52,7 @@ pub counts_none : (F : Type 0) (a b : ℕ) → (F → ⊥) → CountsFailures F 
 counts_none F a b not = record {
   first_never_falls = omega arith;
   second_never_falls = omega arith;
-  told = λ failed. absurd (not failed);
+  reported = λ failed. absurd (not failed);
   none = λ _. (refl, refl);
 }
 

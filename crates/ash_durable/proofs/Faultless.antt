@@ -1,13 +1,13 @@
 -- Files that represent contents have none of a journal's faults.
 use Rattle.std.proofs.Common.{◌≡◌, ◌≢◌, ◌⊎◌, inl, inr, ℕ, ◌<◌, ◌^◌, List, [], ◌∷◌, ◌++◌, length, sym, ◌∙◌, ap, arith}
 use Rattle.std.proofs.Common.{append_assoc, length-append}
-use Rattle.ash_journal.specs.Current.{Contents, IsBehind, IsCurrent, Represent}
+use Rattle.ash_journal.specs.Current.{Contents, IsOlder, IsCurrent, Represent}
 use Rattle.ash_journal.specs.Layout.{four_bytes, mark, block, records, solid, AreShort, IsFile, IsClosed, IsCut}
 use Rattle.ash_journal.specs.Layout.{LacksMark, IsCutAt}
 use Rattle.ash_journal.specs.Opening.{IsUnsound, IsCutCurrent, HasCurrent}
 use Rattle.ash_journal.proofs.LayoutLaws.{length-four, four_read, same_parts, length-mark, block_same, records-nil}
 use Rattle.ash_journal.proofs.LayoutLaws.{records-cons, same_mark, file_mark, open_closed, mark_closed}
-use Rattle.ash_journal.proofs.SettleLaws.{mark_behind}
+use Rattle.ash_journal.proofs.SettleLaws.{mark_after}
 
 -- ---- bytes
 
@@ -85,26 +85,26 @@ records_not_cut (body ∷ bodies) (other ∷ others) gate rest following short_b
 file_not_cut : (g : ℕ) (image : List ℕ) (bodies : List (List ℕ)) (file : List ℕ) (at : ℕ) → IsFile g image bodies file
     → IsCutAt at file → ⊥
 file_not_cut g image bodies file at whole (inl (h, rest, bytes, cut, at_is)) =
-    let more = records bodies ++ whole.gate ∷ whole.behind in
+    let more = records bodies ++ whole.gate ∷ whole.after in
     let plain : 1 ∷ (mark h ++ rest) ≡ 1 ∷ (mark g ++ (block image ++ more)) = sym bytes ∙ whole.bytes
-    ∙ solid_split g image bodies (whole.gate ∷ whole.behind) in
+    ∙ solid_split g image bodies (whole.gate ∷ whole.after) in
     let parts = same_parts (mark h) (mark g) rest (block image ++ more) (length-mark h ∙ sym (length-mark g))
     (ap tail_of plain) in
-    not_cut image more rest whole.fits.image_short (gate_left (records bodies) whole.behind whole.gate) parts.1 cut
+    not_cut image more rest whole.fits.image_short (gate_left (records bodies) whole.after whole.gate) parts.1 cut
 file_not_cut g image bodies file at whole (inr (h, other, others, rest, fits, bytes, cut, at_is)) =
     let one = block other ++ (records others ++ 1 ∷ rest) in
-    let two = block image ++ (records bodies ++ whole.gate ∷ whole.behind) in
+    let two = block image ++ (records bodies ++ whole.gate ∷ whole.after) in
     let plain : 1 ∷ (mark h ++ one) ≡ 1 ∷ (mark g ++ two) = sym (solid_split h other others (1 ∷ rest)) ∙ sym bytes
-    ∙ whole.bytes ∙ solid_split g image bodies (whole.gate ∷ whole.behind) in
+    ∙ whole.bytes ∙ solid_split g image bodies (whole.gate ∷ whole.after) in
     let parts = same_parts (mark h) (mark g) one two (length-mark h ∙ sym (length-mark g)) (ap tail_of plain) in
-    let images = block_same other image (records others ++ 1 ∷ rest) (records bodies ++ whole.gate ∷ whole.behind)
+    let images = block_same other image (records others ++ 1 ∷ rest) (records bodies ++ whole.gate ∷ whole.after)
     fits.image_short whole.fits.image_short parts.1 in
-    records_not_cut others bodies whole.gate rest whole.behind fits.bodies_short whole.fits.bodies_short whole.shut
+    records_not_cut others bodies whole.gate rest whole.after fits.bodies_short whole.fits.bodies_short whole.shut
     images.1 cut
 
 -- ---- two files, of which the first is current
 
-after_marked : (g : ℕ) (file : List ℕ) → IsBehind g file → LacksMark file → ⊥
+after_marked : (g : ℕ) (file : List ℕ) → IsOlder g file → LacksMark file → ⊥
 after_marked g file (inl closed) lacks = open_closed file lacks.0 closed
 after_marked g file (inr older) lacks = lacks.1 older.0 older.1
 
@@ -114,15 +114,15 @@ current_sound g image bodies x y current (inl lacks) = lacks.1 g (file_mark g im
 current_sound g image bodies x y current (inr (inl lacks)) = after_marked g y current.older lacks
 current_sound g image bodies x y current (inr (inr both)) =
     let same : both.0 ≡ g = same_mark both.0 g x both.1 (file_mark g image bodies x current.file) in
-    let under : both.0 < g = mark_behind both.0 g y both.2 current.older in
+    let under : both.0 < g = mark_after both.0 g y both.2 current.older in
     omega (arith, same, under)
 
 current_whole : (g : ℕ) (image : List ℕ) (bodies : List (List ℕ)) (x y : List ℕ) (at : ℕ) → IsCurrent g image bodies x y
     → IsCutCurrent at x y ⊎ IsCutCurrent at y x → ⊥
 current_whole g image bodies x y at current (inl cut) = file_not_cut g image bodies x at current.file cut.3
 current_whole g image bodies x y at current (inr cut) =
-    let above : g < cut.0 = mark_behind g cut.0 x (file_mark g image bodies x current.file) cut.2 in
-    let under : cut.0 < g = mark_behind cut.0 g y cut.1 current.older in
+    let above : g < cut.0 = mark_after g cut.0 x (file_mark g image bodies x current.file) cut.2 in
+    let under : cut.0 < g = mark_after cut.0 g y cut.1 current.older in
     omega (arith, above, under)
 
 -- ---- two files that represent contents

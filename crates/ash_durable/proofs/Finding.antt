@@ -14,7 +14,7 @@ use Rattle.ash_journal.specs.Reading.{AreAt, bodies_of}
 use Rattle.ash_journal.specs.Runs.{Extends, Nothing}
 use Rattle.ash_journal.proofs.RunLaws.{same_extends}
 use Rattle.ash_meaning.specs.State.{State}
-use Rattle.ash_registry.specs.Calls.{Call}
+use Rattle.ash_registry.specs.Calls.{Registration}
 use Rattle.ash_durable.specs.Contents.{after_image, ReadsAs}
 use Rattle.ash_durable.specs.Faults.{opening_fault}
 use Rattle.ash_durable.specs.States.{AreHonest}
@@ -41,7 +41,7 @@ counted_none : (failed : Type 0) (f s f' s' : ℕ) → (failed → ⊥) → Coun
 counted_none failed f s f' s' not counts = record {
   first_never_falls = counts.first_never_falls;
   second_never_falls = counts.second_never_falls;
-  told = λ is. absurd is;
+  reported = λ is. absurd is;
   none = λ never. counts.none not;
 }
 
@@ -50,7 +50,7 @@ uncounted : (failed : Type 0) (f s : ℕ) → (failed → ⊥) → CountsFailure
 uncounted failed f s not = record {
   first_never_falls = omega arith;
   second_never_falls = omega arith;
-  told = λ is. absurd (not is);
+  reported = λ is. absurd (not is);
   none = λ never. (refl, refl);
 }
 
@@ -60,30 +60,30 @@ opening_counts : (fault : OpenFault) (f s f' s' : ℕ) → CountsFailures (fault
 opening_counts opening.DeviceFailed f s f' s' counts = record {
   first_never_falls = counts.first_never_falls;
   second_never_falls = counts.second_never_falls;
-  told = λ is. counts.told refl;
+  reported = λ is. counts.reported refl;
   none = λ not. absurd (not tt);
 }
 opening_counts opening.NoGeneration f s f' s' counts = record {
   first_never_falls = counts.first_never_falls;
   second_never_falls = counts.second_never_falls;
-  told = λ is. absurd is;
+  reported = λ is. absurd is;
   none = λ not. counts.none (λ e. cc);
 }
 opening_counts (opening.Damaged at) f s f' s' counts = record {
   first_never_falls = counts.first_never_falls;
   second_never_falls = counts.second_never_falls;
-  told = λ is. absurd is;
+  reported = λ is. absurd is;
   none = λ not. counts.none (λ e. cc);
 }
 opening_counts opening.NoMemory f s f' s' counts = record {
   first_never_falls = counts.first_never_falls;
   second_never_falls = counts.second_never_falls;
-  told = λ is. absurd is;
+  reported = λ is. absurd is;
   none = λ not. counts.none (λ e. cc);
 }
 
 -- a fault of a journal is one of the store
-opening_cause : (registered : List Call) (fault : OpenFault) (x y : List ℕ) → FaultIs fault x y
+opening_cause : (registered : List Registration) (fault : OpenFault) (x y : List ℕ) → FaultIs fault x y
     → StoreFaultIs registered (opening_fault fault) x y
 opening_cause registered opening.DeviceFailed x y cause = cause
 opening_cause registered opening.NoGeneration x y cause = cause
@@ -92,7 +92,7 @@ opening_cause registered (opening.Damaged at) x y (inl unsound) = inl unsound
 opening_cause registered (opening.Damaged at) x y (inr cut) = inr (inl cut)
 
 -- contents that are read as no state
-reading_cause : (registered : List Call) (fault : StoreFault) (contents : Contents) (x y : List ℕ)
+reading_cause : (registered : List Registration) (fault : StoreFault) (contents : Contents) (x y : List ℕ)
     → Represent contents x y → IsFailed fault ⊎ ReadsAs registered contents (Err fault)
     → StoreFaultIs registered fault x y
 reading_cause registered faults.DeviceFailed contents x y is reads = tt
@@ -111,7 +111,7 @@ failed_is faults.DeviceFailed failed = refl
 failed_is _ failed = absurd failed
 
 -- what an image and records are read as, what the journal holds is read as
-pub read_as : {D : Type 0} (opened : Opened D) (registered : List Call) (result : Result State StoreFault)
+pub read_as : {D : Type 0} (opened : Opened D) (registered : List Registration) (result : Result State StoreFault)
     (image : List ℕ) (records : List Record) → image ≡ opened.image.items → records ≡ opened.records.items
     → (AreAt (after_image image) records → ReadsAs registered (image, bodies_of records) result) → AreInPlace opened
     → ReadsAs registered (contents_of opened) result
@@ -135,7 +135,7 @@ module _ {D : Type 0} (device : Device D) where
   -- ---- what an opened journal holds is read
 
   -- as no state
-  pub not_read : (registered : List Call) (opened : Opened D) (fault : StoreFault) (refused : OpenRefused D)
+  pub not_read : (registered : List Registration) (opened : Opened D) (fault : StoreFault) (refused : OpenRefused D)
       → refused.fault ≡ fault → refused.a ≡ first_disk opened.journal → refused.b ≡ second_disk opened.journal
       → (fault ≡ faults.DeviceFailed → ⊥) → (AreInPlace opened → ReadsAs registered (contents_of opened) (Err fault))
       → WasNotSettled device registered opened refused
@@ -162,7 +162,7 @@ module _ {D : Type 0} (device : Device D) where
       }
 
   -- as a state, and the gates are written over
-  pub settled_on : (registered : List Call) (opened : Opened D) (state : State) (journal : Journal D) (failed : Type 0)
+  pub settled_on : (registered : List Registration) (opened : Opened D) (state : State) (journal : Journal D) (failed : Type 0)
       → (failed → ⊥) → state.registered ≡ registered
       → (AreInPlace opened → ReadsAs registered (contents_of opened) (Ok state))
       → ((HasFailed opened.journal → ⊥) → IsReady journal) → OnlySettled device opened.journal journal
@@ -193,7 +193,7 @@ module _ {D : Type 0} (device : Device D) where
       }
 
   -- as a state, and a device failed then
-  pub not_settled : (registered : List Call) (opened : Opened D) (journal : Journal D) (refused : OpenRefused D)
+  pub not_settled : (registered : List Registration) (opened : Opened D) (journal : Journal D) (refused : OpenRefused D)
       (failed : Type 0) → failed → refused.fault ≡ faults.DeviceFailed → refused.a ≡ first_disk journal
       → refused.b ≡ second_disk journal → OnlySettled device opened.journal journal
       → (HoldsRead device opened → Extends device (first_disk opened.journal) (second_disk opened.journal)
@@ -223,7 +223,7 @@ module _ {D : Type 0} (device : Device D) where
               failures = record {
                 first_never_falls = counts.first_never_falls;
                 second_never_falls = counts.second_never_falls;
-                told = λ is. counts.told has;
+                reported = λ is. counts.reported has;
                 none = λ not. absurd (not is_failed);
               };
               honesty_first = honesty_first;
@@ -254,7 +254,7 @@ module _ {D : Type 0} (device : Device D) where
     honesty_second = is.read.read_second.honesty;
   }
 
-  found : (registered : List Call) (a b : D) (opened : Opened D) (state : State) (journal : Journal D)
+  found : (registered : List Registration) (a b : D) (opened : Opened D) (state : State) (journal : Journal D)
       → IsOpened a b opened → WasSettled device registered opened state journal
       → WasFound device registered a b state journal
   found registered a b opened state journal is settled = record {
@@ -278,7 +278,7 @@ module _ {D : Type 0} (device : Device D) where
         (second_disk journal) (opened_back a b opened is) settled.disks;
   }
 
-  not_found : (registered : List Call) (a b : D) (opened : Opened D) (refused : OpenRefused D) → IsOpened a b opened
+  not_found : (registered : List Registration) (a b : D) (opened : Opened D) (refused : OpenRefused D) → IsOpened a b opened
       → WasNotSettled device registered opened refused → WasNotFound device registered a b refused
   not_found registered a b opened refused is settled = record {
     cause = λ honest. reading_cause registered refused.fault (contents_of opened) (device.seen a) (device.seen b)
@@ -308,14 +308,14 @@ module _ {D : Type 0} (device : Device D) where
         refused.a refused.b (opened_back a b opened is) settled.disks;
   }
 
-  pub finds : (registered : List Call) (a b : D) (opened : Opened D) (result : Result (Found D) (OpenRefused D))
+  pub finds : (registered : List Registration) (a b : D) (opened : Opened D) (result : Result (Found D) (OpenRefused D))
       → IsOpened a b opened → Settled device registered opened result → Finds device registered a b result
   finds registered a b opened (Ok one) is settled = found registered a b opened one.state one.journal is settled
   finds registered a b opened (Err refused) is settled = not_found registered a b opened refused is settled
 
   -- ---- two disks whose journal was not
 
-  pub not_opened : (registered : List Call) (a b a' b' : D) (fault : OpenFault) (reported : StoreFault)
+  pub not_opened : (registered : List Registration) (a b a' b' : D) (fault : OpenFault) (reported : StoreFault)
       → reported ≡ opening_fault fault → (AreHonest device a b → FaultIs fault (device.seen a) (device.seen b))
       → (AreHonest device a b → Extends device a b a' b' Nothing) → IsOnlyRead device a a' → IsOnlyRead device b b'
       → CountsFailures (fault ≡ opening.DeviceFailed) (device.failures a) (device.failures b) (device.failures a')

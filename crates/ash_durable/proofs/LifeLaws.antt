@@ -14,7 +14,7 @@ use Rattle.ash_meaning.specs.Refusals as refusals
 use Rattle.ash_meaning.specs.State.{State, Request, Seq, Reply, Answered, Refused, empty}
 use Rattle.ash_meaning.specs.Step.{Demand, Initialize, Run, Remove, Read, Count, Rewrite, Steps, task_of}
 use Rattle.ash_meaning.specs.Step.{unless_refused}
-use Rattle.ash_registry.specs.Calls.{Call as Registration}
+use Rattle.ash_registry.specs.Calls.{Registration}
 use Rattle.ash_durable.specs.Hosting.{Hosted, first, second, IsRunning, IsSaved, IsHonest, IsAnswer, InstallRefused}
 use Rattle.ash_durable.specs.Hosting.{WasLost, Replies, reply_stopped, Handles}
 use Rattle.ash_durable.specs.Running.{IsFailure}

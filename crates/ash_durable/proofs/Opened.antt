@@ -6,7 +6,7 @@ use Rattle.ash_journal.specs.declared.journal.Journal.{Journal}
 use Rattle.ash_journal.specs.Current.{Contents, Represent}
 use Rattle.ash_journal.specs.Journal.{first_disk, second_disk}
 use Rattle.ash_meaning.specs.State.{State, empty}
-use Rattle.ash_registry.specs.Calls.{Call}
+use Rattle.ash_registry.specs.Calls.{Registration}
 use Rattle.ash_durable.specs.Hosting.{Hosted, first, second, IsRunning}
 use Rattle.ash_durable.specs.States.{AreHonest, HoldsState, IsOne, IsEither}
 use Rattle.ash_durable.specs.Store.{HandsBack, WasMade, WasCreated, WasFound, WasOpened, Opens, OpensAgain}
@@ -26,7 +26,7 @@ honest_before device failed a b a' b' back honest = record {
   honest_second = subst IsTrue back.honesty_second honest.honest_second;
 }
 
-pub created : {D : Type 0} (device : Device D) (registered : List Call) (a b : D) (host : Hosted D)
+pub created : {D : Type 0} (device : Device D) (registered : List Registration) (a b : D) (host : Hosted D)
     → IsRunning (empty registered) host → WasMade device (empty registered) a b host.journal
     → WasCreated device registered a b host
 created device registered a b host running made = record {
@@ -39,7 +39,7 @@ created device registered a b host running made = record {
 
 module _ {D : Type 0} (device : Device D) (stays : (disk : D) → IsTrue (device.honest disk)
     → device.leaves disk (device.clock disk) (device.seen disk)) where
-  pub opened : (registered : List Call) (a b : D) (state : State) (host : Hosted D) → IsRunning state host
+  pub opened : (registered : List Registration) (a b : D) (state : State) (host : Hosted D) → IsRunning state host
       → WasFound device registered a b state host.journal → WasOpened device registered a b host
   opened registered a b state host running found = record {
     state = state;

@@ -12,7 +12,7 @@ use Rattle.ash_journal.specs.Current.{Contents}
 use Rattle.ash_journal.specs.Reading.{AreAt, bodies_of}
 use Rattle.ash_meaning.specs.StoredModules.{Admits}
 use Rattle.ash_meaning.specs.State.{State}
-use Rattle.ash_registry.specs.Calls.{Call}
+use Rattle.ash_registry.specs.Calls.{Registration}
 use Rattle.ash_registry.specs.Text.{text_of}
 use Rattle.ash_durable.specs.States.{IsImageOf, LeadAll, IsStateOf, snapshot_of}
 use Rattle.ash_durable.specs.Contents.{IsImageWith, IsBodyWith, AreShaped, IsAdmittedImage, IsAdmittedBody}
@@ -35,7 +35,7 @@ pub no_failure : (P : ℕ → Type 0) (fault : StoreFault) → ReportsDamage P f
 no_failure P fault reported is = subst (ReportsDamage P) is reported
 
 -- the damage that is reported is that of the contents
-pub reads_damage : (P : ℕ → Type 0) (registered : List Call) (contents : Contents) (fault : StoreFault)
+pub reads_damage : (P : ℕ → Type 0) (registered : List Registration) (contents : Contents) (fault : StoreFault)
     → ((at : ℕ) → P at → IsMisshapen contents at ⊎ IsNotAdmitted registered contents at) → ReportsDamage P fault
     → ReadsAs registered contents (Err fault)
 reads_damage P registered contents (faults.Damaged at) says reported = says at reported
@@ -54,33 +54,33 @@ first_at P offset at (r ∷ records) placed first = elim first [
 -- ---- states that were stored
 
 -- a state is the one that was stored as its snapshot
-stored_once : (registered : List Call) (s : Snapshot) (state : State) → state.registered ≡ registered
+stored_once : (registered : List Registration) (s : Snapshot) (state : State) → state.registered ≡ registered
     → snapshot_of state ≡ s → state ≡ stored_state registered s
 stored_once registered s state same is =
-    let under : List Call → State = λ r. record { registered = r; modules = state.modules; seq = state.seq } in
+    let under : List Registration → State = λ r. record { registered = r; modules = state.modules; seq = state.seq } in
     ap under same ∙ ap (stored_state registered) is
 
 -- what was stored with the text of what is registered is the snapshot of its state
-snapshot_again : (registered : List Call) (s : Snapshot) → s.registered ≡ text_of registered
+snapshot_again : (registered : List Registration) (s : Snapshot) → s.registered ≡ text_of registered
     → s ≡ snapshot_of (stored_state registered s)
 snapshot_again registered s text =
     let with_text : List ℕ → Snapshot = λ t. record { registered = t; modules = s.modules; seq = s.seq } in
     ap with_text text
 
-admits_image : (registered : List Call) (image : List ℕ) (s : Snapshot) → Depicts image s
+admits_image : (registered : List Registration) (image : List ℕ) (s : Snapshot) → Depicts image s
     → IsAdmittedImage registered image → Admits (stored_state registered s)
 admits_image registered image s depicts stored =
     subst Admits (stored_once registered s stored.0 stored.1
     (depicts_once image (snapshot_of stored.0) s stored.2.depicts depicts)) stored.2.admitted
 
-admits_body : (registered : List Call) (body : List ℕ) (s : Snapshot) → IsBody body s → IsAdmittedBody registered body
+admits_body : (registered : List Registration) (body : List ℕ) (s : Snapshot) → IsBody body s → IsAdmittedBody registered body
     → Admits (stored_state registered s)
 admits_body registered body s is_body stored =
     subst Admits (stored_once registered s stored.0 stored.1 (body_once body (snapshot_of stored.0) s stored.2 is_body))
     stored.3
 
 -- an image is that of the state which was restored
-pub image_restored : (registered : List Call) (image : List ℕ) (s : Snapshot) (offset : ℕ) (state : State)
+pub image_restored : (registered : List Registration) (image : List ℕ) (s : Snapshot) (offset : ℕ) (state : State)
     → Depicts image s → s.registered ≡ text_of registered → Restores registered s offset (Ok state)
     → (state.registered ≡ registered) × IsImageOf image state
 image_restored registered image s offset state depicts text restore = (
@@ -93,7 +93,7 @@ image_restored registered image s offset state depicts text restore = (
 )
 
 -- a record leads to the state that was restored of it
-pub leads_on : (registered : List Call) (body : List ℕ) (s : Snapshot) (gate : ℕ) (result : Result State StoreFault)
+pub leads_on : (registered : List Registration) (body : List ℕ) (s : Snapshot) (gate : ℕ) (result : Result State StoreFault)
     → IsBody body s → s.registered ≡ text_of registered → Restores registered s gate result
     → LeadsOn registered body gate result
 leads_on registered body s gate (Ok state) is_body text restore = (
@@ -123,12 +123,12 @@ through_more before next r records (Err fault) on through =
     damage_is _ (FirstRecordWithout (IsAdmittedBody before.registered) (r ∷ records))
     (λ at later. inr (
       (next, on.0, on.1, on.2),
-      subst (λ (of : List Call). FirstRecordWithout (IsAdmittedBody of) records at) on.0 later,
+      subst (λ (of : List Registration). FirstRecordWithout (IsAdmittedBody of) records at) on.0 later,
     ))
     fault through
 
 -- what is registered is the same after records that were read as before
-pub through_registered : (registered : List Call) (before : State) (records : List Record)
+pub through_registered : (registered : List Registration) (before : State) (records : List Record)
     (result : Result State StoreFault) → before.registered ≡ registered → LeadsThrough before records result
     → IfOk result (λ after. after.registered ≡ registered)
 through_registered registered before records (Ok after) same through =
@@ -138,7 +138,7 @@ through_registered registered before records (Err fault) same through = tt
 -- ---- all of it
 
 -- the image has this text of what was registered, and a record is none with that text
-pub reads_misshapen : (registered : List Call) (text image : List ℕ) (records : List Record) (fault : StoreFault)
+pub reads_misshapen : (registered : List Registration) (text image : List ℕ) (records : List Record) (fault : StoreFault)
     → IsImageWith text image → AreAt (after_image image) records
     → ReportsDamage (FirstRecordWithout (IsBodyWith text) records) fault
     → ReadsAs registered (image, bodies_of records) (Err fault)
@@ -148,7 +148,7 @@ reads_misshapen registered text image records fault is_image placed reported =
     reported
 
 -- a host with this registered may not keep the state of the image
-pub reads_unadmitted : (registered : List Call) (image : List ℕ) (s : Snapshot) (bodies : List (List ℕ))
+pub reads_unadmitted : (registered : List Registration) (image : List ℕ) (s : Snapshot) (bodies : List (List ℕ))
     (fault : StoreFault) → Depicts image s → AreShaped (text_of registered) (image, bodies)
     → Restores registered s 0 (Err fault) → ReadsAs registered (image, bodies) (Err fault)
 reads_unadmitted registered image s bodies fault depicts shaped reported =
@@ -157,7 +157,7 @@ reads_unadmitted registered image s bodies fault depicts shaped reported =
     reported
 
 -- the state to which records lead from that of the image
-pub reads_through : (registered : List Call) (image : List ℕ) (records : List Record) (first : State)
+pub reads_through : (registered : List Registration) (image : List ℕ) (records : List Record) (first : State)
     (result : Result State StoreFault) → AreShaped (text_of registered) (image, bodies_of records)
     → first.registered ≡ registered → IsImageOf image first → AreAt (after_image image) records
     → LeadsThrough first records result → ReadsAs registered (image, bodies_of records) result
@@ -172,7 +172,7 @@ reads_through registered image records first (Err fault) shaped same is_image pl
       inr (
         (first, same, is_image),
         first_at (IsAdmittedBody registered) (after_image image) at records placed
-            (subst (λ (of : List Call). FirstRecordWithout (IsAdmittedBody of) records at) same without),
+            (subst (λ (of : List Registration). FirstRecordWithout (IsAdmittedBody of) records at) same without),
       ),
     ))
     through
@@ -194,7 +194,7 @@ led_shaped : (bodies : List (List ℕ)) (before after : State) → LeadAll bodie
 led_shaped [] before after led = tt
 led_shaped (body ∷ bodies) before after led = (
   (snapshot_of led.0, led.1.is_body, ap text_of led.1.registered),
-  subst (λ (of : List Call). AllByRecursion (IsBodyWith (text_of of)) bodies) led.1.registered
+  subst (λ (of : List Registration). AllByRecursion (IsBodyWith (text_of of)) bodies) led.1.registered
       (led_shaped bodies led.0 after led.2),
 )
 
@@ -204,7 +204,7 @@ led_stored : (bodies : List (List ℕ)) (before after : State) → LeadAll bodie
 led_stored [] before after led = tt
 led_stored (body ∷ bodies) before after led = (
   (led.0, led.1.registered, led.1.is_body, led.1.admitted),
-  subst (λ (of : List Call). AllByRecursion (IsAdmittedBody of) bodies) led.1.registered
+  subst (λ (of : List Registration). AllByRecursion (IsAdmittedBody of) bodies) led.1.registered
       (led_stored bodies led.0 after led.2),
 )
 
@@ -233,19 +233,19 @@ all_admitted contents state at is_state not_admitted = elim not_admitted.1 [
   | inl image ↦ image.0 (is_state.first, is_state.registered, is_state.image)
   | inr record_of ↦
       none_without (IsAdmittedBody state.registered) (after_image contents.0) at contents.1
-      (subst (λ (of : List Call). AllByRecursion (IsAdmittedBody of) contents.1) is_state.registered
+      (subst (λ (of : List Registration). AllByRecursion (IsAdmittedBody of) contents.1) is_state.registered
       (led_stored contents.1 is_state.first state is_state.records))
       record_of.1
 ]
 
 -- Where contents are of a state of a host with this registered, out of memory is the one fault that they are read as.
-pub only_memory : (registered : List Call) (contents : Contents) (state : State) (fault : StoreFault)
+pub only_memory : (registered : List Registration) (contents : Contents) (state : State) (fault : StoreFault)
     → state.registered ≡ registered → IsStateOf state contents → ReadsAs registered contents (Err fault)
     → fault ≡ faults.NoMemory
 only_memory registered contents state (faults.Damaged at) same is_state reads = elim reads [
   | inl misshapen ↦ absurd (not_misshapen contents state at is_state misshapen)
   | inr not_admitted ↦ absurd (all_admitted contents state at is_state
-      (subst (λ (of : List Call). IsNotAdmitted of contents at) (sym same) not_admitted))
+      (subst (λ (of : List Registration). IsNotAdmitted of contents at) (sym same) not_admitted))
 ]
 only_memory registered contents state faults.OtherInterface same is_state reads =
     absurd (reads.2 (text_once reads.0 contents.0 is_state.first is_state.image reads.1.0

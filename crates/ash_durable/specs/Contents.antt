@@ -8,7 +8,7 @@ use Rattle.ash_journal.specs.Current.{Contents}
 use Rattle.ash_journal.specs.Reading.{bodies_of}
 use Rattle.ash_meaning.specs.StoredModules.{Admits}
 use Rattle.ash_meaning.specs.State.{State}
-use Rattle.ash_registry.specs.Calls.{Call}
+use Rattle.ash_registry.specs.Calls.{Registration}
 use Rattle.ash_registry.specs.Text.{text_of}
 use Rattle.ash_durable.specs.States.{IsImageOf, LeadAll, IsStateOf, snapshot_of}
 use Rattle.ash_durable.specs.declared.fault.StoreFault.{StoreFault}
@@ -27,11 +27,11 @@ abbrev pub AreShaped : List ℕ → Contents → Type 0
 AreShaped text contents = IsImageWith text contents.0 × AllByRecursion (IsBodyWith text) contents.1
 
 -- the image of a state that a host with this registered may keep
-abbrev pub IsAdmittedImage : List Call → List ℕ → Type 0
+abbrev pub IsAdmittedImage : List Registration → List ℕ → Type 0
 IsAdmittedImage registered image = (state : State) × (state.registered ≡ registered) × IsImageOf image state
 
 -- the body of a record that leads to a state that a host with this registered may keep
-abbrev pub IsAdmittedBody : List Call → List ℕ → Type 0
+abbrev pub IsAdmittedBody : List Registration → List ℕ → Type 0
 IsAdmittedBody registered body = (state : State) × (state.registered ≡ registered) × IsBody body (snapshot_of state)
     × Admits state
 
@@ -56,7 +56,7 @@ IsMisshapen contents at =
     × FirstWithout (IsBodyWith text) (after_image contents.0) contents.1 at)
 
 -- All have their shape, and a host with this registered may not keep the state at an offset.
-abbrev pub IsNotAdmitted : List Call → Contents → ℕ → Type 0
+abbrev pub IsNotAdmitted : List Registration → Contents → ℕ → Type 0
 IsNotAdmitted registered contents at =
     AreShaped (text_of registered) contents
     × (((IsAdmittedImage registered contents.0 → ⊥) × (at ≡ 0))
@@ -64,12 +64,12 @@ IsNotAdmitted registered contents at =
     contents.1 at))
 
 -- all have their shape, and the text of what was registered is another
-abbrev pub AreOfOthers : List Call → Contents → Type 0
+abbrev pub AreOfOthers : List Registration → Contents → Type 0
 AreOfOthers registered contents = (text : List ℕ) × AreShaped text contents × (text ≡ text_of registered → ⊥)
 
 -- What contents are read as, with this registered: a state; or the first fault, all shapes before the text of what was
 -- registered, and this before sources and values.
-abbrev pub ReadsAs : List Call → Contents → Result State StoreFault → Type 0
+abbrev pub ReadsAs : List Registration → Contents → Result State StoreFault → Type 0
 ReadsAs registered contents (Ok state) = (state.registered ≡ registered) × IsStateOf state contents
 ReadsAs registered contents (Err (faults.Damaged at)) = IsMisshapen contents at ⊎ IsNotAdmitted registered contents at
 ReadsAs registered contents (Err faults.OtherInterface) = AreOfOthers registered contents
@@ -103,12 +103,12 @@ ChecksShapes text records result =
     (ReportsDamage (FirstRecordWithout (IsBodyWith text) records))
 
 -- the state that was stored, in a host with this registered
-abbrev pub stored_state : List Call → Snapshot → State
+abbrev pub stored_state : List Registration → Snapshot → State
 stored_state registered s = record { registered = registered; modules = s.modules; seq = s.seq }
 
 -- The state that was stored is one that a host with this registered may keep, and is given; or it is none, and damage
 -- is reported at this offset.
-abbrev pub Restores : List Call → Snapshot → ℕ → Result State StoreFault → Type 0
+abbrev pub Restores : List Registration → Snapshot → ℕ → Result State StoreFault → Type 0
 Restores registered s offset result =
     MatchResult result
     (λ state. (state ≡ stored_state registered s) × Admits state)
@@ -116,7 +116,7 @@ Restores registered s offset result =
 
 -- A record leads to the given state, which a host with this registered may keep; or it leads to none, and damage is
 -- reported at the offset of its gate.
-abbrev pub LeadsOn : List Call → List ℕ → ℕ → Result State StoreFault → Type 0
+abbrev pub LeadsOn : List Registration → List ℕ → ℕ → Result State StoreFault → Type 0
 LeadsOn registered body gate result =
     MatchResult result
     (λ state. (state.registered ≡ registered) × IsBody body (snapshot_of state) × Admits state)

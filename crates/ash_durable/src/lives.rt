@@ -7,7 +7,7 @@ ghost use Rattle.ash_durable.specs.States.{AreHonest, SettleNow};
 ghost use Rattle.ash_durable.specs.Store.{IsMishap, WasNotFound};
 ghost use Rattle.ash_durable.specs.declared.fault.OpenRefused.{OpenRefused};
 ghost use Rattle.ash_meaning.specs.State.{empty};
-ghost use Rattle.ash_registry.specs.Calls.{Call};
+ghost use Rattle.ash_registry.specs.Calls.{Registration};
 
 use ash_disk::Disk;
 
@@ -26,14 +26,14 @@ use ash_disk::Disk;
 ///
 /// It does nothing: the clauses are the theorem. Each step of a life is what the contract of a public call says.
 pub fn nothing_acknowledged_is_lost<D: Disk>()
-    ensures whole { (registered : List Call) (events : List Event) (place : Place D)
+    ensures whole { (registered : List Registration) (events : List Event) (place : Place D)
         → Life D.Disk registered events place → Outlives D.Disk registered events place }
-    ensures each { (registered : List Call) (later : List Event) (event : Event)
+    ensures each { (registered : List Registration) (later : List Event) (event : Event)
         (earlier : List Event) (place : Place D)
         → Life D.Disk registered (later ++ event ∷ earlier) place
         → SettleNow D.Disk (first_at place) (second_at place)
         (LeadBy later event earlier (empty registered)) }
-    ensures opens { (registered : List Call) (events : List Event) (a b : D)
+    ensures opens { (registered : List Registration) (events : List Event) (a b : D)
         (refused : OpenRefused D)
         → Life D.Disk registered events (OnDisks a b) → WasNotFound D.Disk registered a b refused
         → IsMishap refused.fault }

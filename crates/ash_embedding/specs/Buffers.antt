@@ -40,6 +40,6 @@ pub record IsOutOfMemory (before : List ℕ) (answer : HostAnswer) (after : List
   pub answered : answer ≡ NoMemory
   pub unchanged : after ≡ before
 
--- A buffer answers as its step says, or tells that memory ran out and changes nothing.
+-- A buffer answers as its step says, or reports that memory ran out and changes nothing.
 abbrev pub AllowsBuffer : HostCall → List ℕ → HostAnswer → List ℕ → Type 0
 AllowsBuffer call before answer after = IsStep (buffer_step call before) answer after ⊎ IsOutOfMemory before answer after

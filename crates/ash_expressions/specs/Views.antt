@@ -23,8 +23,8 @@ use Rattle.ash_expressions.specs.declared.operators.UnifiedOperands as unified
 use Rattle.ash_typing.specs.declared.types.Ty.{Ty}
 use Rattle.ash_typed.specs.declared.tree.expressions.Expr as expr_code
 use Rattle.ash_typing.specs.Types.{ty_of}
-use Rattle.ash_typing.specs.Environment.{Declared, Function, Interface, Class, Heads, Environment, Known, Callee, Invoked}
-use Rattle.ash_typing.specs.Expressions.{Typed, Met}
+use Rattle.ash_typing.specs.Environment.{Declared, Function, Interface, Class, ModuleDeclarations, Environment, Known, Callee, Invoked}
+use Rattle.ash_typing.specs.Expressions.{Typed, UnifiedOperands}
 
 abbrev pub typed_of : typed_expr.TypedExpr → Typed
 typed_of t = record { at = t.at; ty = t.ty; form = t.form; tree = expr_of t.tree }
@@ -41,11 +41,11 @@ interface_signature_of i = record { name = i.name.now; methods = map function_si
 abbrev pub class_signature_of : class.ClassSignature → Class
 class_signature_of c = record { name = c.name.now; interfaces = c.interfaces.items; fields = map binding_of c.fields.items; methods = map function_signature_of c.methods.items; parameters = c.parameters.items }
 
-abbrev pub signatures_of : signatures.Signatures → Heads
+abbrev pub signatures_of : signatures.Signatures → ModuleDeclarations
 signatures_of h = record { interfaces = map interface_signature_of h.interfaces.items; classes = map class_signature_of h.classes.items; functions = map function_signature_of h.functions.items; globals = map binding_of h.globals.items }
 
 abbrev pub environment_of : environment.Environment → Environment
-environment_of e = record { heads = signatures_of e.signatures.now; registered = registered e.registry.now; this = e.this; locals = map binding_of e.locals.now }
+environment_of e = record { declarations = signatures_of e.signatures.now; registered = registered e.registry.now; this = e.this; locals = map binding_of e.locals.now }
 
 -- the classes of the module
 abbrev pub classes_of : environment.Environment → List Class
@@ -85,7 +85,7 @@ callee_of c = record { target = c.target; result = c.result; parameters = option
 abbrev pub method_callee_of : method_callee.MethodCallee → Invoked
 method_callee_of m = record { method = m.method; result = m.result; parameters = parameters_of m.parameters }
 
-abbrev pub unified_of : unified.UnifiedOperands → Met
+abbrev pub unified_of : unified.UnifiedOperands → UnifiedOperands
 unified_of m = record { left = typed_of m.left; operands = m.operands; right = expr_of m.right }
 
 abbrev pub optional_method_callee : Option method_callee.MethodCallee → Option Invoked

@@ -41,7 +41,7 @@ fn coerce_arguments(
     arguments: Vec<TypedExpr>,
 ) -> CheckResult<Vec<Expr>>
     ensures { Agrees arguments_of result
-        (typing.all_fitted (classes_of env.now) (parameters_of parameters.now)
+        (typing.all_coerced (classes_of env.now) (parameters_of parameters.now)
         (map typed_of arguments.items)) }
 {
     let mut coerced = Vec::with_capacity(env.alloc, arguments.len())?;

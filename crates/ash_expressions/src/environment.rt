@@ -18,7 +18,7 @@ use crate::lookup::{first_binding, first_function, last_binding};
 use crate::parameters::Parameters;
 use crate::signatures::{Binding, ClassSignature, Signatures};
 use crate::types::{result_type, ty_of, var_type};
-use ash_registrations::{Call, Registrations};
+use ash_registrations::{Registration, Registrations};
 use ash_typed::{Expr, Member, ObjectType, Target, Variable, nodes};
 use ash_typing::{Callable, Ty};
 use std::alloc::{AllocError, Global};
@@ -74,11 +74,11 @@ fn global_named(signatures: &Signatures, name: &str) -> Option<(Expr, Ty)>
 }
 
 /// A property of a registered type, with its type.
-fn host_property(call: &Call) -> Option<(Member, Ty)>
+fn host_property(call: &Registration) -> Option<(Member, Ty)>
     ensures { result ≡ environment.property (call_of call.now) }
 {
     match call {
-        Call::Property { id, value, .. } => {
+        Registration::Property { id, value, .. } => {
             let of = ty_of(*value);
             let property = Member::Property {
                 id: *id,
@@ -152,12 +152,12 @@ impl<'a, 'n> Environment<'a, 'n> {
     }
 
     /// A registered type, as it is constructed.
-    pub fn host_type_callee(&self, call: &Call) -> Option<Callee<'a>>
+    pub fn host_type_callee(&self, call: &Registration) -> Option<Callee<'a>>
         ensures { option_map callee_of result
             ≡ environment.host_type (registered self.now.registry.now) (call_of call.now) }
     {
         match call {
-            Call::Type { name, kind } => Some(Callee {
+            Registration::Type { name, kind } => Some(Callee {
                 target: Callable::Target(Target::Host(*kind)),
                 result: Ty::Handle(ObjectType::Host(*kind)),
                 parameters: self.factory_parameters(name.as_str()),
@@ -214,14 +214,14 @@ impl<'a, 'n> Environment<'a, 'n> {
         ensures { result.now ≡ environment.name_of_kind (registered self.now.registry.now) kind }
     {
         match self.registry.of_kind(kind) {
-            Some(Call::Type { name, .. }) => name.as_str(),
+            Some(Registration::Type { name, .. }) => name.as_str(),
             _ => "",
         }
     }
 
     /// A method or a property of a registered type.
     #[tactic(auto, unfolding(ash_typing::specs::Environment::host_member_in))]
-    fn host_member(&self, kind: u16, name: &str) -> Option<&'a Call>
+    fn host_member(&self, kind: u16, name: &str) -> Option<&'a Registration>
         ensures { option_map call_of (option_copied result)
             ≡ environment.host_member_in (registered self.now.registry.now) kind name.now }
     {

@@ -3,8 +3,8 @@
 ghost use Rattle.std.specs.Prelude.{false, Ok, map};
 ghost use Rattle.ash_tree.specs.Tree.{exprs, links, suffixes};
 ghost use Rattle.ash_tree.specs.Views as written;
-ghost use Rattle.ash_typing.specs.Checking.{◌>>=◌ as ◌and_then◌};
-ghost use Rattle.ash_typing.specs.Heads.{object_named};
+ghost use Rattle.ash_typing.specs.TypingResult.{◌>>=◌ as ◌and_then◌};
+ghost use Rattle.ash_typing.specs.ModuleDeclarations.{object_named};
 ghost use Rattle.ash_typing.specs.Expressions as typing;
 ghost use Rattle.ash_expressions.specs.Agreement.{Agrees};
 ghost use Rattle.ash_expressions.specs.Views.{typed_of, all_typed_of, environment_of, classes_of, is_target};
@@ -120,7 +120,7 @@ fn check_conversion(
 fn check_cast(env: &Environment, at: usize, to: &TypeName, value: &Expr) -> CheckResult<TypedExpr>
     ensures { Agrees typed_of result
         (typing.cast_type to.now.place.at
-        (object_named (environment_of env.now).registered (environment_of env.now).heads
+        (object_named (environment_of env.now).registered (environment_of env.now).declarations
         (written.type_name_of to.now).name)
         and_then λ o. typing.typed (environment_of env.now) false (written.expr_of value.now)
         and_then λ t. typing.cast_at at o t) }

@@ -1,7 +1,7 @@
 //! What may be stored in a variable.
 
 ghost use Rattle.std.specs.Prelude.{◌≡◌, map};
-ghost use Rattle.ash_typing.specs.Fitting as fitting;
+ghost use Rattle.ash_typing.specs.Coercions as fitting;
 ghost use Rattle.ash_expressions.specs.Views.{class_signature_of};
 
 use crate::signatures::ClassSignature;
@@ -21,7 +21,7 @@ fn has_interface(interface: usize, class: &ClassSignature) -> bool
 }
 
 /// Whether the class of this place lists an interface.
-#[tactic(auto, unfolding(ash_typing::specs::Fitting::lists))]
+#[tactic(auto, unfolding(ash_typing::specs::Coercions::lists))]
 fn lists(classes: &[ClassSignature], class: usize, interface: usize) -> bool
     ensures { result ≡ fitting.lists (map class_signature_of classes.now) class interface }
 {

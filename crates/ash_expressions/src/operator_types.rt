@@ -7,22 +7,22 @@ ghost use Rattle.ash_typing.specs.Terms as terms;
 use crate::types::{common_integer_type, is_same_object};
 use ash_tree::{AssignOp, BinaryOp};
 use ash_typed::{Calculator, Comparator, Kind, Lazy, ObjectType, Operands};
-use ash_typing::{Operator, Sort, Ty};
+use ash_typing::{Operator, OperatorClass, Ty};
 
 /// The sort of an operator.
-pub(crate) fn operator_sort(operator: BinaryOp) -> Sort
+pub(crate) fn operator_sort(operator: BinaryOp) -> OperatorClass
     ensures { result ≡ types.sort_of operator }
 {
     match operator {
-        BinaryOp::Multiply | BinaryOp::Divide | BinaryOp::Remainder => Sort::Arithmetic,
-        BinaryOp::Add | BinaryOp::Subtract => Sort::Arithmetic,
-        BinaryOp::BitAnd | BinaryOp::BitXor | BinaryOp::BitOr => Sort::Arithmetic,
-        BinaryOp::ShiftLeft | BinaryOp::ShiftRight | BinaryOp::ShiftRightArithmetic => Sort::Shift,
-        BinaryOp::Less | BinaryOp::LessOrEqual => Sort::Order,
-        BinaryOp::Greater | BinaryOp::GreaterOrEqual => Sort::Order,
-        BinaryOp::Equal | BinaryOp::NotEqual => Sort::Equality,
-        BinaryOp::Is | BinaryOp::NotIs => Sort::Identity,
-        BinaryOp::Xor | BinaryOp::And | BinaryOp::Or => Sort::Logic,
+        BinaryOp::Multiply | BinaryOp::Divide | BinaryOp::Remainder => OperatorClass::Arithmetic,
+        BinaryOp::Add | BinaryOp::Subtract => OperatorClass::Arithmetic,
+        BinaryOp::BitAnd | BinaryOp::BitXor | BinaryOp::BitOr => OperatorClass::Arithmetic,
+        BinaryOp::ShiftLeft | BinaryOp::ShiftRight | BinaryOp::ShiftRightArithmetic => OperatorClass::Shift,
+        BinaryOp::Less | BinaryOp::LessOrEqual => OperatorClass::Order,
+        BinaryOp::Greater | BinaryOp::GreaterOrEqual => OperatorClass::Order,
+        BinaryOp::Equal | BinaryOp::NotEqual => OperatorClass::Equality,
+        BinaryOp::Is | BinaryOp::NotIs => OperatorClass::Identity,
+        BinaryOp::Xor | BinaryOp::And | BinaryOp::Or => OperatorClass::Logic,
     }
 }
 
@@ -106,27 +106,27 @@ pub(crate) fn assign_calculator(operator: AssignOp) -> Option<Calculator>
 }
 
 /// Whether an operator takes a type anywhere.
-pub(crate) fn accepts(sort: Sort, of: Ty) -> bool
+pub(crate) fn accepts(sort: OperatorClass, of: Ty) -> bool
     ensures { result ≡ types.takes sort of }
 {
     match (sort, of) {
         (_, Ty::Unknown) => true,
-        (Sort::Arithmetic | Sort::Shift | Sort::Order, Ty::Integer(_)) => true,
-        (Sort::Equality, Ty::Integer(_) | Ty::Bool) => true,
-        (Sort::Identity, Ty::Object(_) | Ty::Handle(_) | Ty::Null) => true,
-        (Sort::Logic, Ty::Bool) => true,
+        (OperatorClass::Arithmetic | OperatorClass::Shift | OperatorClass::Order, Ty::Integer(_)) => true,
+        (OperatorClass::Equality, Ty::Integer(_) | Ty::Bool) => true,
+        (OperatorClass::Identity, Ty::Object(_) | Ty::Handle(_) | Ty::Null) => true,
+        (OperatorClass::Logic, Ty::Bool) => true,
         _ => false,
     }
 }
 
 /// What an operand of an unknown type is taken for.
-pub(crate) fn assumed_type(sort: Sort, other: Ty, of: Ty) -> Ty
+pub(crate) fn assumed_type(sort: OperatorClass, other: Ty, of: Ty) -> Ty
     ensures { result ≡ types.assumed sort other of }
 {
     match (sort, other, of) {
-        (Sort::Equality, Ty::Bool, Ty::Unknown) => Ty::Bool,
-        (Sort::Identity, _, Ty::Unknown) => Ty::Null,
-        (Sort::Logic, _, Ty::Unknown) => Ty::Bool,
+        (OperatorClass::Equality, Ty::Bool, Ty::Unknown) => Ty::Bool,
+        (OperatorClass::Identity, _, Ty::Unknown) => Ty::Null,
+        (OperatorClass::Logic, _, Ty::Unknown) => Ty::Bool,
         (_, _, Ty::Unknown) => Ty::Integer(Kind::Int),
         _ => of,
     }
@@ -170,16 +170,16 @@ fn are_comparable(one: Ty, other: Ty) -> bool
 }
 
 /// What an operator does with operands of these types, where it takes them.
-pub(crate) fn common_operands(sort: Sort, one: Ty, other: Ty) -> Option<Operands>
+pub(crate) fn common_operands(sort: OperatorClass, one: Ty, other: Ty) -> Option<Operands>
     ensures { result ≡ types.meets sort one other }
 {
     match (sort, one, other) {
-        (Sort::Arithmetic | Sort::Order | Sort::Equality, Ty::Integer(j), Ty::Integer(k)) => {
+        (OperatorClass::Arithmetic | OperatorClass::Order | OperatorClass::Equality, Ty::Integer(j), Ty::Integer(k)) => {
             Some(Operands::Integers(common_integer_type(j, k)))
         }
-        (Sort::Shift, Ty::Integer(j), Ty::Integer(_)) => Some(Operands::Integers(j)),
-        (Sort::Equality | Sort::Logic, Ty::Bool, Ty::Bool) => Some(Operands::Bools),
-        (Sort::Identity, _, _) => {
+        (OperatorClass::Shift, Ty::Integer(j), Ty::Integer(_)) => Some(Operands::Integers(j)),
+        (OperatorClass::Equality | OperatorClass::Logic, Ty::Bool, Ty::Bool) => Some(Operands::Bools),
+        (OperatorClass::Identity, _, _) => {
             if are_comparable(one, other) {
                 Some(Operands::Handles)
             } else {
@@ -191,11 +191,11 @@ pub(crate) fn common_operands(sort: Sort, one: Ty, other: Ty) -> Option<Operands
 }
 
 /// The type of an operator's result.
-pub(crate) fn operator_result(sort: Sort, operands: Operands) -> Ty
+pub(crate) fn operator_result(sort: OperatorClass, operands: Operands) -> Ty
     ensures { result ≡ types.outcome sort operands }
 {
     match (sort, operands) {
-        (Sort::Arithmetic | Sort::Shift, Operands::Integers(kind)) => Ty::Integer(kind),
+        (OperatorClass::Arithmetic | OperatorClass::Shift, Operands::Integers(kind)) => Ty::Integer(kind),
         _ => Ty::Bool,
     }
 }

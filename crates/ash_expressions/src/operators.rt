@@ -20,7 +20,7 @@ use ash_tree::{BinaryOp, Primitive, UnaryOp};
 use ash_typed::{
     Calculation, Change, Expr, Kind, Lazy, ObjectType, Operand, Operands, Operation, Step, nodes,
 };
-use ash_typing::{Operator, Rule, Sort, Ty};
+use ash_typing::{Operator, Rule, OperatorClass, Ty};
 use std::alloc::{AllocError, Global};
 
 /// An operator before its operand, at the offset of the operator.
@@ -41,7 +41,7 @@ pub(crate) struct UnifiedOperands {
 
 fn right_operand(
     alloc: Global,
-    sort: Sort,
+    sort: OperatorClass,
     operands: Operands,
     right: TypedExpr,
 ) -> CheckResult<Expr>
@@ -49,18 +49,18 @@ fn right_operand(
         (Ok (terms.right_by sort operands (typing.term_of (typed_of right)))) }
 {
     match sort {
-        Sort::Shift => Ok(right.tree),
+        OperatorClass::Shift => Ok(right.tree),
         _ => Ok(coerce(alloc, operand_type(operands), right)?),
     }
 }
 
 fn unify_adapted(
     alloc: Global,
-    sort: Sort,
+    sort: OperatorClass,
     left: TypedExpr,
     right: TypedExpr,
 ) -> CheckResult<UnifiedOperands>
-    ensures { Agrees unified_of result (typing.met_by sort (typed_of left) (typed_of right)) }
+    ensures { Agrees unified_of result (typing.unified_by sort (typed_of left) (typed_of right)) }
 {
     let one = assumed_type(sort, right.ty, left.ty);
     let other = assumed_type(sort, left.ty, right.ty);
@@ -106,7 +106,7 @@ fn operation_tree(
 ) -> Result<Expr, AllocError>
     ensures { IfOk result
         (λ e. expr_of e
-        ≡ Operate operation (typing.brought (terms.operand_type operands) (typed_of left))
+        ≡ Operate operation (typing.coerced (terms.operand_type operands) (typed_of left))
         (expr_of right)) }
 {
     let next = Operand {
@@ -127,7 +127,7 @@ fn lazy_tree(
 ) -> Result<Expr, AllocError>
     ensures { IfOk result
         (λ e. expr_of e
-        ≡ Lazily operator (typing.brought (terms.operand_type operands) (typed_of left))
+        ≡ Lazily operator (typing.coerced (terms.operand_type operands) (typed_of left))
         (expr_of right)) }
 {
     let left = coerce(alloc, operand_type(operands), left)?;
@@ -145,7 +145,7 @@ fn operator_tree(
     ensures { IfOk result
         (λ e. expr_of e
         ≡ terms.applied operator operands
-        (typing.brought (terms.operand_type operands) (typed_of left)) (expr_of right)) }
+        (typing.coerced (terms.operand_type operands) (typed_of left)) (expr_of right)) }
 {
     match typed_operator(operator) {
         Operator::Calculate(operator) => {

@@ -4,29 +4,29 @@ ghost use Rattle.std.specs.Prelude.{◌≡◌, option_map};
 ghost use Rattle.ash_registrations.specs.Registered.{registered};
 ghost use Rattle.ash_registrations.specs.Calls.{call_of};
 ghost use Rattle.ash_tree.specs.Views.{element_of, type_of};
-ghost use Rattle.ash_typing.specs.Heads as definition;
+ghost use Rattle.ash_typing.specs.ModuleDeclarations as definition;
 ghost use Rattle.ash_expressions.specs.Views.{signatures_of};
 
 use crate::signatures::Signatures;
 use crate::types::ty_of;
-use ash_registrations::{Call, Registrations};
+use ash_registrations::{Registration, Registrations};
 use ash_tree::{ElementKind, Primitive, Type, TypeKind};
 use ash_typed::{Element, Kind, ObjectType};
 use ash_typing::Ty;
 
 /// The type of a registered type's objects.
-fn host_object_type(call: &Call) -> Option<ObjectType>
+fn host_object_type(call: &Registration) -> Option<ObjectType>
     ensures { result ≡ definition.host_object (call_of call.now) }
 {
     match call {
-        Call::Type { kind, .. } => Some(ObjectType::Host(*kind)),
+        Registration::Type { kind, .. } => Some(ObjectType::Host(*kind)),
         _ => None,
     }
 }
 
 /// A type of objects, by its name: a class of the module, else an interface, else a registered
 /// type.
-#[tactic(auto, unfolding(ash_typing::specs::Heads::object_named))]
+#[tactic(auto, unfolding(ash_typing::specs::ModuleDeclarations::object_named))]
 pub fn object_named(
     registry: &Registrations,
     signatures: &Signatures,
@@ -71,7 +71,7 @@ fn element_of_object(object: ObjectType) -> Option<Element>
 }
 
 /// The element type of an array, by its name.
-#[tactic(auto, unfolding(ash_typing::specs::Heads::element_named))]
+#[tactic(auto, unfolding(ash_typing::specs::ModuleDeclarations::element_named))]
 pub fn element_named(
     registry: &Registrations,
     signatures: &Signatures,
@@ -122,7 +122,7 @@ fn handle_type_of(object: Option<ObjectType>) -> Ty
 }
 
 /// The type that is written.
-#[tactic(auto, unfolding(ash_typing::specs::Heads::ty_named))]
+#[tactic(auto, unfolding(ash_typing::specs::ModuleDeclarations::ty_named))]
 pub fn ty_named(registry: &Registrations, signatures: &Signatures, of: &Type) -> Ty
     ensures { result
         ≡ definition.ty_named (registered registry.now) (signatures_of signatures.now)

@@ -13,7 +13,7 @@ use crate::error::{CheckResult, fault_at};
 use crate::fitting::fits;
 use crate::types::{conversion, holds, number_type};
 use ash_typed::{Expr, Kind, nodes};
-use ash_typing::{Form, Rule, Sort, Ty};
+use ash_typing::{Form, Rule, OperatorClass, Ty};
 use std::alloc::{AllocError, Global};
 
 /// A typed expression, with the offset of its first token and what it is by itself.
@@ -69,15 +69,15 @@ impl TypedExpr {
 
 /// The value, converted to the type `to`.
 pub(crate) fn coerce(alloc: Global, to: Ty, typed: TypedExpr) -> Result<Expr, AllocError>
-    ensures { IfOk result (λ e. expr_of e ≡ typing.brought to (typed_of typed)) }
+    ensures { IfOk result (λ e. expr_of e ≡ typing.coerced to (typed_of typed)) }
 {
     nodes::convert(alloc, conversion(to, typed.ty), typed.tree)
 }
 
 /// The value, converted to the type `to` of the variable that it is assigned to.
-#[tactic(auto, unfolding(ash_typing::specs::Expressions::fitted))]
+#[tactic(auto, unfolding(ash_typing::specs::Expressions::coerced_for_assignment))]
 pub fn coerce_for_assignment(env: &Environment, to: Ty, typed: TypedExpr) -> CheckResult<Expr>
-    ensures { Agrees expr_of result (typing.fitted (classes_of env.now) to (typed_of typed)) }
+    ensures { Agrees expr_of result (typing.coerced_for_assignment (classes_of env.now) to (typed_of typed)) }
 {
     if !fits(&env.signatures.classes, to, typed.ty) {
         return Err(fault_at(Rule::TypeMismatch, typed.at));
@@ -138,11 +138,11 @@ fn adapt_number(other: Form, of: Ty, typed: &mut TypedExpr)
 
 /// An operand beside another, whose type and form are given.
 #[tactic(auto, unfolding(ash_typing::specs::Expressions::adapted))]
-pub(crate) fn adapt_operand(sort: Sort, other: Form, of: Ty, typed: &mut TypedExpr)
+pub(crate) fn adapt_operand(sort: OperatorClass, other: Form, of: Ty, typed: &mut TypedExpr)
     ensures { typed_of typed.new ≡ typing.adapted sort other of (typed_of typed.old) }
 {
     match sort {
-        Sort::Shift => {}
+        OperatorClass::Shift => {}
         _ => adapt_number(other, of, typed),
     }
 }

@@ -116,12 +116,12 @@ fn operators(rt: HostRuntime) -> Result<(), Fail> {
             "int a = (b | c) & int64(d);",
             "Expr { @8, Binary { first: Expr { @8, Brackets(Expr { @9, Binary { first: Expr { @9, Name(\"b\") }, links: [Link { operator: BitOr, operand: Expr { @13, Name(\"c\") } }] } }) }, links: [Link { operator: BitAnd, operand: Expr { @18, Convert { to: Int64, value: Expr { @24, Name(\"d\") } } } }] } }",
         ),
-        // operators in front of an operand, and the words for operators
+        // operators before an operand, and the words for operators
         (
             "int a = -~!b and not c;",
             "Expr { @8, Binary { first: Expr { @8, Unary { operator: Minus, operand: Expr { @9, Unary { operator: BitNot, operand: Expr { @10, Unary { operator: Not, operand: Expr { @11, Name(\"b\") } } } } } } }, links: [Link { operator: And, operand: Expr { @17, Unary { operator: Not, operand: Expr { @21, Name(\"c\") } } } }] } }",
         ),
-        // suffixes are a list, and bind tighter than the operators in front
+        // suffixes are a list, and bind tighter than the operators in prefix
         (
             "int a = @b.c.d(1, e)++;",
             "Expr { @8, Unary { operator: Handle, operand: Expr { @9, Postfix { operand: Expr { @9, Name(\"b\") }, suffixes: [Field { @11, name: \"c\" }, Method { @13, name: \"d\", arguments: [Expr { @15, Number(1) }, Expr { @18, Name(\"e\") }] }, Increment] } } } }",

@@ -16,7 +16,7 @@ use Rattle.ash_host.specs.Objects.{Plain, Objects, object_at, numbers, reference
 use Rattle.ash_host.specs.Reach.{Root, Field, ReachableIn, is_among}
 use Rattle.ash_host.proofs.Membership.{or_cases, or_first, or_second, is_among_yes, is_among_says, refers_lives}
 use Rattle.ash_host.proofs.SweepLaws.{references_same}
-use Rattle.ash_host.proofs.Order.{object_here, object_later, none_behind, in_order_behind}
+use Rattle.ash_host.proofs.Order.{object_here, object_later, none_after, in_order_after}
 
 handles_to-cons : (n : ℕ) (w : Word) (ws : List Word) → handles_to n (w ∷ ws) ≡ cond (is_handle_to n w) 1 0 + handles_to n ws
 handles_to-cons n w ws = sum_by-cons (λ x. cond (is_handle_to n x) 1 0) w ws
@@ -73,7 +73,7 @@ refers_counted {M} objects one other f =
 pub counted_refers : {M : Type 0} (objects : Objects M) (n : ℕ) → IsInOrder objects → 0 < fields_to n objects → (one : ℕ) × Refers objects one n
 counted_refers [] n o h = absurd (omega arith)
 counted_refers {M} (e ∷ l) n o h =
-    go (is_among (handles (fields_of e.1)) n) refl (λ more. counted_refers l n (in_order_behind e l o) more)
+    go (is_among (handles (fields_of e.1)) n) refl (λ more. counted_refers l n (in_order_after e l o) more)
   where
     later : (b : ℕ) → handles_to n (fields_of e.1) ≡ b → is_among (handles (fields_of e.1)) n ≡ false → 0 < fields_to n l
     later zero none away = omega (arith, fields_to-cons n e l)
@@ -83,7 +83,7 @@ counted_refers {M} (e ∷ l) n o h =
     go true among rest = (e.0, is_among_says n (references (e ∷ l) e.0) (subst (λ (v : Option (Plain M)). is_among (option_map_or (λ object. handles (fields_of object)) v []) n ≡ true) (sym (object_here e l)) among))
     go false away rest =
         let (one, f) = rest (later (handles_to n (fields_of e.1)) refl away) in
-        (one, references_same l (e ∷ l) one n (sym (object_later one e l (none_behind e l one o (refers_lives l one n (is_among_yes n (references l one) f))))) f)
+        (one, references_same l (e ∷ l) one n (sym (object_later one e l (none_after e l one o (refers_lives l one n (is_among_yes n (references l one) f))))) f)
 
 -- what is counted with the globals is held by one of them or referred to, and the other way round
 pub counted_held : {M : Type 0} (globals : List Word) (objects : Objects M) (n : ℕ) → IsInOrder objects → 0 < count_of n globals objects → Contains (handles globals) n ⊎ ((one : ℕ) × Refers objects one n)

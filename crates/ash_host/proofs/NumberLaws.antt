@@ -7,7 +7,7 @@ use Rattle.ash_host.specs.Reach.{ReachableIn, Swept, is_reachable}
 use Rattle.ash_host.proofs.Order.{object_at-with_at, in_order-with_at}
 use Rattle.ash_host.proofs.ReachLaws.{is_reachable_says, is_reachable_yes}
 
--- the next number is put behind the others
+-- the next number is put after the others
 pub put_next : {M : Type 0} (last : ℕ) (object : Plain M) (objects : Objects M) → AreNumbered last objects → AreNumbered (last + 1) (with_at (last + 1) object objects)
 put_next {M} last object objects numbered = record {
   in_order = in_order-with_at (last + 1) object objects numbered.in_order;

@@ -115,9 +115,9 @@ rising_same (e ∷ a) (f ∷ b) ra rb same =
 pub same_in_order : {A : Type 0} (a b : List (ℕ × A)) → IsInOrder a → IsInOrder b → ((n : ℕ) → object_at n a ≡ object_at n b) → a ≡ b
 same_in_order a b oa ob same = rising_same a b (in_order_rises a oa) (in_order_rises b ob) same
 
--- behind an entry in order its number does not stand again
-pub none_behind : {A : Type 0} (e : ℕ × A) (l : List (ℕ × A)) (n : ℕ) → IsInOrder (e ∷ l) → IsSome (object_at n l) → nat_eq n e.0 ≡ false
-none_behind e l n o some =
+-- after an entry in order its number does not stand again
+pub none_after : {A : Type 0} (e : ℕ × A) (l : List (ℕ × A)) (n : ℕ) → IsInOrder (e ∷ l) → IsSome (object_at n l) → nat_eq n e.0 ≡ false
+none_after e l n o some =
     go (nat_eq n e.0) refl
   where
     go : (b : Bool) → nat_eq n e.0 ≡ b → nat_eq n e.0 ≡ false
@@ -129,9 +129,9 @@ none_behind e l n o some =
     go false is = is
 
 -- entries in order stay so without the first
-pub in_order_behind : {A : Type 0} (e : ℕ × A) (l : List (ℕ × A)) → IsInOrder (e ∷ l) → IsInOrder l
+pub in_order_after : {A : Type 0} (e : ℕ × A) (l : List (ℕ × A)) → IsInOrder (e ∷ l) → IsInOrder l
 unfolding IsStrictlySortedBy
-in_order_behind e l o = IsStrictlyIncreasing-from_sorted (numbers l) (sorted_from_strictly_increasing (numbers (e ∷ l)) o).1
+in_order_after e l o = IsStrictlyIncreasing-from_sorted (numbers l) (sorted_from_strictly_increasing (numbers (e ∷ l)) o).1
 
 greater : (x y : ℕ) → x < y → nat_cmp x y ≡ Less
 greater x y h = grind (arith, nat_tests)

@@ -117,5 +117,5 @@ module _ {M : Type 0} (held : List ℕ) (objects : Objects M) where
     stays = sweep_stays;
     goes = sweep_goes;
     in_order = subst IsStrictlyIncreasing (sym (numbers-filter (is_reachable held objects) objects)) (IsStrictlyIncreasing-filter (is_reachable held objects) (numbers objects) in_order);
-    told = refl;
+    reported = refl;
   }

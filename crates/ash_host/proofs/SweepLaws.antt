@@ -81,7 +81,7 @@ module _ {M : Type 0} {IsHeld : ℕ → Type 0} {old new : Objects M} {dropped :
     stays = λ n r. refl;
     goes = λ n unreached. s.goes n (λ r. unreached (swept_reachable n r));
     in_order = s.in_order;
-    told = sym (none_gone new new (λ n among. sym (is_among-numbers n new) ∙ among));
+    reported = sym (none_gone new new (λ n among. sym (is_among-numbers n new) ∙ among));
   }
 
 -- A cascade of counts is a sweep: where ranks fall along every reference, what it leaves is what is reachable.
@@ -116,7 +116,7 @@ module _ {M : Type 0} {IsHeld : ℕ → Type 0} {rank : ℕ → ℕ} {top : ℕ}
     stays = λ n r. c.unchanged n (reached_lives n r);
     goes = λ n unreached. goes_at n (is_some (object_at n new)) refl unreached;
     in_order = c.in_order;
-    told = refl;
+    reported = refl;
   }
 
 -- There is one sweep.
@@ -129,4 +129,4 @@ module _ {M : Type 0} (held : List ℕ) {old a b : Objects M} {gone_a gone_b : L
   sweep_is_one = same_in_order a b s.in_order t.in_order (λ n. same_at n (is_reachable held old n) refl)
 
   pub drops_are_one : gone_a ≡ gone_b
-  drops_are_one = s.told ∙ ap (hosts_gone old) sweep_is_one ∙ sym t.told
+  drops_are_one = s.reported ∙ ap (hosts_gone old) sweep_is_one ∙ sym t.reported

@@ -32,7 +32,7 @@ counter_step (Get prop) kept = gives (Value (if prop == 1 then Int kept else Nul
 counter_step (Set prop (Int number)) kept = gives Nothing (if prop == 1 then number else kept)
 counter_step _ kept = gives Nothing kept
 
--- Tally's functions: 1 adds its `int`, 2 takes nothing and tells the total
+-- Tally's functions: 1 adds its `int`, 2 takes nothing and reports the total
 abbrev pub tally_step : HostCall → ℤ → Answered
 tally_step (Invoke method (Int number ∷ [])) kept = if method == 1 then adds number kept else gives Nothing kept
 tally_step (Invoke method []) kept = gives (if method == 2 then Value (Int kept) else Nothing) kept

@@ -29,7 +29,7 @@ pub record Swept {M : Type 0} (IsHeld : ℕ → Type 0) (old new : Objects M) (d
   pub stays : (number : ℕ) → ReachableIn IsHeld old number → object_at number new ≡ object_at number old
   pub goes : (number : ℕ) → ¬ ReachableIn IsHeld old number → object_at number new ≡ None
   pub in_order : IsInOrder new
-  pub told : dropped ≡ hosts_gone old new
+  pub reported : dropped ≡ hosts_gone old new
 
 -- What a cascade of counts that fall to zero does: it takes away only what nothing that stays refers to and nothing
 -- holds, and leaves nothing of that kind.

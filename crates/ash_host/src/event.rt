@@ -1,4 +1,4 @@
-//! What a request does to host objects, as its answer tells it.
+//! What a request does to host objects, as its answer reports it.
 
 /// Whom a call goes to.
 #[derive(Clone, Copy, Debug, PartialEq, Eq)]

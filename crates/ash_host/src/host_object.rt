@@ -6,7 +6,7 @@ ghost use Rattle.ash_host.specs.Calls.{HostCall, Start, Invoke, Get, Set, Relati
 
 use crate::{HostAnswer, NoMemory, RestoreFault, Word};
 
-/// An object of the embedding program that scripts hold by handle, or a service behind registered functions
+/// An object of the embedding program that scripts hold by handle, or a service after registered functions
 /// (AngelScript manual, "Registering a reference type").
 ///
 /// It is known by four things, which no code can read and each implementation proves: the kind, which no call

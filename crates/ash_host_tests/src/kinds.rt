@@ -84,16 +84,16 @@ fn asked<B: HostObject>(alloc: Global, object: &mut B, ask: Ask) -> Result<Strin
     }
 }
 
-// What is told of a call, its answer and the state after it.
-fn told(alloc: Global, kind: u16, ask: Ask, answer: &str, state: &[u8]) -> Result<String, Fail> {
+// What is reported of a call, its answer and the state after it.
+fn reported(alloc: Global, kind: u16, ask: Ask, answer: &str, state: &[u8]) -> Result<String, Fail> {
     Ok(format!(in alloc; "kind {kind}, {ask:?}: {answer}, then {state:?}")?)
 }
 
-// Makes a call, and tells it.
+// Makes a call, and reports it.
 fn found<B: HostObject>(alloc: Global, object: &mut B, ask: Ask) -> Result<String, Fail> {
     let answer = asked(alloc, object, ask)?;
     let state = saved(alloc, object)?;
-    told(alloc, kind(object), ask, &answer, &state)
+    reported(alloc, kind(object), ask, &answer, &state)
 }
 
 fn check(rt: &impl Abort, found: &str, wanted: &str) {
@@ -108,7 +108,7 @@ fn answers_row<B: HostObject>(
     row: Row,
 ) -> Result<(), Fail> {
     let (ask, answer, state) = row;
-    let wanted = told(alloc, kind, ask, answer, state)?;
+    let wanted = reported(alloc, kind, ask, answer, state)?;
     let found = found(alloc, object, ask)?;
     check(rt, &found, &wanted);
     Ok(())

@@ -3,7 +3,7 @@ use Rattle.std.proofs.Common.{ℕ, zero, suc, ◌<◌, List, [], ◌∷◌, leng
 use Rattle.std.specs.List.{AllByRecursion}
 use Rattle.ash_host.specs.declared.word.Word.{Word}
 use Rattle.ash_host.specs.declared.word.Word.TheVariants as words
-use Rattle.ash_registry.specs.Calls.{Call}
+use Rattle.ash_registry.specs.Calls.{Registration}
 use Rattle.ash_image.specs.Image.{AreWithinLimits, IsWithinLimits, NamesObject, NameNoObject}
 use Rattle.ash_meaning.specs.StoredModules.{Admits, IsAdmitted, IsInt, loaded_module_in, loaded_modules_in, state_in}
 use Rattle.ash_meaning.specs.State.{LoadedModule}
@@ -19,7 +19,7 @@ no_handles : (globals : List Word) → AllByRecursion IsInt globals → NameNoOb
 no_handles [] ints = tt
 no_handles (w ∷ more) ints = (is_no_handle w ints.0, no_handles more ints.1)
 
-module_within : (registered : List Call) (m : LoadedModule) → IsAdmitted registered m → IsWithinLimits m
+module_within : (registered : List Registration) (m : LoadedModule) → IsAdmitted registered m → IsWithinLimits m
 module_within registered m h = record {
   name = h.name;
   source = admitted-source registered m h;
@@ -27,12 +27,12 @@ module_within registered m h = record {
   handles = no_handles m.globals h.ints;
 }
 
-modules_within : (registered : List Call) (loaded_modules : List LoadedModule)
+modules_within : (registered : List Registration) (loaded_modules : List LoadedModule)
     → AllByRecursion (IsAdmitted registered) loaded_modules → AllByRecursion IsWithinLimits loaded_modules
 modules_within registered [] h = tt
 modules_within registered (m ∷ more) h = (module_within registered m h.0, modules_within registered more h.1)
 
-pub within_limits : (registered : List Call) (parts : List ModuleParts) (seq : ℕ)
+pub within_limits : (registered : List Registration) (parts : List ModuleParts) (seq : ℕ)
     → Admits (state_in registered parts seq) → AreWithinLimits (loaded_modules_in parts)
 within_limits registered parts seq h = record {
   count = h.count;

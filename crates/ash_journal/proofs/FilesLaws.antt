@@ -7,7 +7,7 @@ use Rattle.ash_disk.proofs.MomentLaws.{at_start}
 use Rattle.ash_journal.specs.declared.other_state.OtherState.{OtherState}
 use Rattle.ash_journal.specs.declared.other_state.OtherState.TheVariants.{Shut, Older, Stray}
 use Rattle.ash_journal.specs.Layout.{mark, block, records, solid, FieldsFit, IsShut, HasMark}
-use Rattle.ash_journal.specs.Current.{Is, Either, IsBehind, Represent, reopened, SettleOn, MaySettleOn, SettleFurther}
+use Rattle.ash_journal.specs.Current.{Is, Either, IsOlder, Represent, reopened, SettleOn, MaySettleOn, SettleFurther}
 use Rattle.ash_journal.specs.Runs.{Run, Extends, Nothing}
 use Rattle.ash_journal.specs.Writes.{IsOn, WhileCommitted, WhileRepaired, WhileReplaced, repaired}
 use Rattle.ash_journal.specs.OtherState.{is_older, is_stray, repaired as state_repaired, first_of, second_of, OtherIs}
@@ -130,14 +130,14 @@ module _ {D : Type 0} (device : Device D) where
   -- the files represent what they hold
   pub found_represented : (number end size : ℕ) (stray : Bool) (other_state : OtherState) (c o : D) (image : List ℕ)
       (bodies : List (List ℕ)) → FilesAre device number end size stray other_state c o image bodies
-      → IsBehind number (device.seen o) → Represent (image, bodies) (device.seen c) (device.seen o)
+      → IsOlder number (device.seen o) → Represent (image, bodies) (device.seen c) (device.seen o)
   found_represented number end size stray other_state c o image bodies files older =
       inl (
         number,
         record {
           file = record {
             gate = files.gate;
-            behind = files.behind;
+            after = files.after;
             shut = files.shut;
             bytes = files.bytes;
             fits = files.fits;
@@ -154,9 +154,9 @@ module _ {D : Type 0} (device : Device D) where
       (second_of swapped c o) (Is (image, bodies))
   ready_run number end size stray other_state swapped c o image bodies files ready =
       run_now device swapped c o (Is (image, bodies)) files.current_durable files.other_durable
-      (repaired_settles number image bodies (device.seen c) files.behind (device.seen o)
+      (repaired_settles number image bodies (device.seen c) files.after (device.seen o)
       (files.bytes
-      ∙ ap (λ (g : ℕ). solid number image bodies ++ g ∷ files.behind)
+      ∙ ap (λ (g : ℕ). solid number image bodies ++ g ∷ files.after)
       (end_shut stray other_state files.gate ready files.gate_is)) files.fits
       (other_aside stray other_state number (device.seen o) ready files.other_is))
 
@@ -165,21 +165,21 @@ module _ {D : Type 0} (device : Device D) where
       (files : FilesAre device number end size stray other_state c o image bodies)
       (ready : NeedsNoRepair stray other_state) (short : length body < 2 ^ 32) where
     -- the current file, at rest
-    pub at_rest : device.seen c ≡ solid number image bodies ++ 0 ∷ files.behind
+    pub at_rest : device.seen c ≡ solid number image bodies ++ 0 ∷ files.after
     at_rest = files.bytes
-        ∙ ap (λ (g : ℕ). solid number image bodies ++ g ∷ files.behind)
+        ∙ ap (λ (g : ℕ). solid number image bodies ++ g ∷ files.after)
         (end_shut stray other_state files.gate ready files.gate_is)
 
     -- one record more
     pub append_files : (added : ℕ) → added ≡ 5 + length body → device.honest c' ≡ device.honest c
         → IsOn device c'
-        (solid number image bodies ++ 1 ∷ ((block body ++ 0 ∷ []) ++ drop (length (block body ++ 0 ∷ [])) files.behind))
+        (solid number image bodies ++ 1 ∷ ((block body ++ 0 ∷ []) ++ drop (length (block body ++ 0 ∷ [])) files.after))
         → FilesAre device number (end + added) (size + added) stray other_state c' o image (bodies ++ body ∷ [])
     append_files added added_is honest_is on = record {
       current_honest = subst IsTrue (sym honest_is) files.current_honest;
       other_honest = files.other_honest;
       gate = 0;
-      behind = rest;
+      after = rest;
       shut = λ e. omega (arith, e);
       bytes = on.bytes
           ∙ ap (λ (l : List ℕ). solid number image bodies ++ 1 ∷ l) (append_assoc (block body) (0 ∷ []) rest)
@@ -201,7 +201,7 @@ module _ {D : Type 0} (device : Device D) where
     }
       where
         rest : List ℕ
-        rest = drop (length (block body ++ 0 ∷ [])) files.behind
+        rest = drop (length (block body ++ 0 ∷ [])) files.after
 
         longer : length (records (bodies ++ body ∷ [])) ≡ length (records bodies) + 5 + length body
         longer = omega (
@@ -218,13 +218,13 @@ module _ {D : Type 0} (device : Device D) where
     -- at every moment the records before, or these and the new one
     pub append_extends : (swapped : Bool) → device.leaves c (device.clock c) (device.seen c)
         → device.leaves o (device.clock o) (device.seen o)
-        → Throughout device c c' (WhileCommitted (solid number image bodies) (block body ++ 0 ∷ []) files.behind)
+        → Throughout device c c' (WhileCommitted (solid number image bodies) (block body ++ 0 ∷ []) files.after)
         → Extends device (first_of swapped c o) (second_of swapped c o) (first_of swapped c' o) (second_of swapped c' o)
         (Is (image, bodies ++ body ∷ []))
     append_extends swapped left_c left_o call =
         extends_placed device swapped c o c' o new
         (extends_by device c o c' o (device.seen c) (device.seen o)
-        (WhileCommitted (solid number image bodies) (block body ++ 0 ∷ []) files.behind)
+        (WhileCommitted (solid number image bodies) (block body ++ 0 ∷ []) files.after)
         (λ (v : List ℕ). v ≡ device.seen o) new left_c left_o call
         (at_start (device.clock o) (device.leaves o) (λ (v : List ℕ). v ≡ device.seen o) files.other_durable)
         (λ x y p. settles x y p)
@@ -237,11 +237,11 @@ module _ {D : Type 0} (device : Device D) where
         new : Said
         new = Is (image, bodies ++ body ∷ [])
 
-        settles : (x y : List ℕ) → WhileCommitted (solid number image bodies) (block body ++ 0 ∷ []) files.behind x
+        settles : (x y : List ℕ) → WhileCommitted (solid number image bodies) (block body ++ 0 ∷ []) files.after x
             → SettleFurther (Is (image, bodies ++ body ∷ [])) (device.seen c) y x y
         settles x y p settle =
-            append_settles (MaySettleOn (device.seen c) y) number image bodies body (device.seen c) files.behind x y
-            at_rest files.fits short (block_growing (solid number image bodies) body files.behind x p) settle
+            append_settles (MaySettleOn (device.seen c) y) number image bodies body (device.seen c) files.after x y
+            at_rest files.fits short (block_growing (solid number image bodies) body files.after x p) settle
 
   -- ---- a new generation
 
@@ -261,7 +261,7 @@ module _ {D : Type 0} (device : Device D) where
       current_honest = subst IsTrue (sym honest_is) files.other_honest;
       other_honest = files.current_honest;
       gate = 0;
-      behind = rest;
+      after = rest;
       shut = λ e. omega (arith, e);
       bytes = on.bytes ∙ ap (λ (l : List ℕ). 1 ∷ l) (generation_append (number + 1) image rest)
           ∙ sym (solid_no_records (number + 1) image (0 ∷ rest));
@@ -271,7 +271,7 @@ module _ {D : Type 0} (device : Device D) where
       gate_is = refl;
       other_is = (
         number,
-        solid_mark number was bodies (files.gate ∷ files.behind) (device.seen c) files.fits.numbered files.bytes,
+        solid_mark number was bodies (files.gate ∷ files.after) (device.seen c) files.fits.numbered files.bytes,
         omega arith,
       );
       current_durable = on.durable;
@@ -294,9 +294,9 @@ module _ {D : Type 0} (device : Device D) where
         (Either (Is (image, [])) (Is (was, bodies)))
         (at_start (device.clock c) (device.leaves c) (λ (u : List ℕ). u ≡ device.seen c) files.current_durable) call
         (λ x y p q. subst (λ (l : List ℕ). SettleOn (Either (Is (image, [])) (Is (was, bodies))) l y) (sym p) (
-        install_settles number (number + 1) was image bodies (device.seen c) files.behind y
+        install_settles number (number + 1) was image bodies (device.seen c) files.after y
         (files.bytes
-        ∙ ap (λ (g : ℕ). solid number was bodies ++ g ∷ files.behind)
+        ∙ ap (λ (g : ℕ). solid number was bodies ++ g ∷ files.after)
         (end_shut stray other_state files.gate ready files.gate_is))
         files.fits new_fits (omega arith)
         (replaced_leaves stray other_state number (number + 1) image (device.seen o) y ready files.other_is q)
@@ -307,18 +307,18 @@ module _ {D : Type 0} (device : Device D) where
   module _ (number end size : ℕ) (stray : Bool) (other_state : OtherState) (c c' o o' : D) (image : List ℕ)
       (bodies : List (List ℕ)) (files : FilesAre device number end size stray other_state c o image bodies) where
     pub settle_files : device.honest c' ≡ device.honest c → device.honest o' ≡ device.honest o
-        → IsOn device c' (solid number image bodies ++ repaired stray (files.gate ∷ files.behind))
+        → IsOn device c' (solid number image bodies ++ repaired stray (files.gate ∷ files.after))
         → IsOn device o' (repaired (is_stray other_state) (device.seen o))
         → FilesAre device number end size false (state_repaired other_state) c' o' image bodies
     settle_files honest_c honest_o on_c on_o = record {
       current_honest = subst IsTrue (sym honest_c) files.current_honest;
       other_honest = subst IsTrue (sym honest_o) files.other_honest;
       gate = 0;
-      behind = files.behind;
+      after = files.after;
       shut = λ e. omega (arith, e);
       bytes = on_c.bytes
           ∙ ap (λ (l : List ℕ). solid number image bodies ++ l)
-          (end_repaired stray files.gate files.behind files.gate_is);
+          (end_repaired stray files.gate files.after files.gate_is);
       fits = files.fits;
       end_is = files.end_is;
       size_is = files.size_is;
@@ -331,14 +331,14 @@ module _ {D : Type 0} (device : Device D) where
     -- at every moment the same
     pub settle_extends : (swapped : Bool) → device.leaves c (device.clock c) (device.seen c)
         → device.leaves o (device.clock o) (device.seen o)
-        → Throughout device c c' (WhileRepaired stray (solid number image bodies) (files.gate ∷ files.behind))
+        → Throughout device c c' (WhileRepaired stray (solid number image bodies) (files.gate ∷ files.after))
         → Throughout device o o' (WhileRepaired (is_stray other_state) [] (device.seen o))
         → Extends device (first_of swapped c o) (second_of swapped c o) (first_of swapped c' o')
         (second_of swapped c' o') Nothing
     settle_extends swapped left_c left_o one two =
         extends_placed device swapped c o c' o' Nothing
         (extends_by device c o c' o' (device.seen c) (device.seen o)
-        (WhileRepaired stray (solid number image bodies) (files.gate ∷ files.behind))
+        (WhileRepaired stray (solid number image bodies) (files.gate ∷ files.after))
         (WhileRepaired (is_stray other_state) [] (device.seen o)) Nothing left_c left_o one two
         (λ x y p. nothing_new (device.seen c) y x y (λ settle.
         end_settled (MaySettleOn (device.seen c) y) x y p settle))
@@ -354,12 +354,12 @@ module _ {D : Type 0} (device : Device D) where
         not_shut false same is = absurd (false≢true same)
 
         end_settled : (P : Said) (x y : List ℕ)
-            → WhileRepaired stray (solid number image bodies) (files.gate ∷ files.behind) x
+            → WhileRepaired stray (solid number image bodies) (files.gate ∷ files.after) x
             → SettleOn P (device.seen c) y → SettleOn P x y
         end_settled P x y (inl same) settle = subst (λ (l : List ℕ). SettleOn P l y) (files.bytes ∙ sym same) settle
         end_settled P x y (inr torn) settle =
             subst (λ (l : List ℕ). SettleOn P l y) (sym torn.2)
-            (end_repair_settles P number image bodies (device.seen c) files.gate torn.1 files.behind y files.bytes
+            (end_repair_settles P number image bodies (device.seen c) files.gate torn.1 files.after y files.bytes
             files.fits files.shut (not_shut stray torn.0 files.gate_is) settle)
 
   -- ---- a first generation
@@ -372,7 +372,7 @@ module _ {D : Type 0} (device : Device D) where
     current_honest = honest_c;
     other_honest = honest_o;
     gate = 0;
-    behind = rest;
+    after = rest;
     shut = λ e. omega (arith, e);
     bytes = on.bytes ∙ ap (λ (l : List ℕ). 1 ∷ l) (generation_append 1 image rest)
         ∙ sym (solid_no_records 1 image (0 ∷ rest));

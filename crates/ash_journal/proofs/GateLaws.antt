@@ -5,7 +5,7 @@ use Rattle.ash_disk.specs.Device.{Device, IsDurable, Throughout}
 use Rattle.ash_disk.specs.Image.{after_write, Torn, TornFrom, Only, torn_not}
 use Rattle.ash_disk.specs.Moments.{During}
 use Rattle.ash_disk.proofs.MomentLaws.{at_start, weaker}
-use Rattle.ash_disk.proofs.TornLaws.{front_stays, byte_torn, written_behind, torn_from_only}
+use Rattle.ash_disk.proofs.TornLaws.{prefix_stays, byte_torn, written_after, torn_from_only}
 use Rattle.ash_journal.specs.OtherState.{first_of, second_of}
 use Rattle.ash_journal.specs.Writes.{IsSplit, WritesByte, WhileShut, WhileCommitted, IsIdle, AreIdle, repaired}
 use Rattle.ash_journal.specs.Layout.{IsShut}
@@ -22,7 +22,7 @@ within_next prefix suffix at file long is = omega (arith, ap length is, length-a
 pub shut_written : (prefix suffix : List ℕ) (at : ℕ) → length prefix ≡ at
     → after_write (prefix ++ suffix) at (0 ∷ []) ≡ prefix ++ 0 ∷ drop 1 suffix
 shut_written prefix suffix at long =
-    written_behind prefix suffix (0 ∷ []) at (sym long) ∙ append_assoc prefix (0 ∷ []) (drop 1 suffix)
+    written_after prefix suffix (0 ∷ []) at (sym long) ∙ append_assoc prefix (0 ∷ []) (drop 1 suffix)
 
 one_or_none : (prefix rest new : List ℕ) → length rest ≤ 1 → new ≡ prefix ++ rest → WhileShut prefix [] new
 one_or_none prefix [] new short is = inl is
@@ -33,7 +33,7 @@ one_or_none prefix (b ∷ c ∷ rest) new short is = absurd (omega arith)
 pub shut_torn : (prefix suffix : List ℕ) (at : ℕ) → length prefix ≡ at → (new : List ℕ)
     → Torn at 1 (prefix ++ suffix) new → WhileShut prefix suffix new
 shut_torn prefix [] at long new torn =
-    let stays : new ≡ prefix ++ drop (length prefix) new = front_stays prefix [] at 1 new (omega arith) torn in
+    let stays : new ≡ prefix ++ drop (length prefix) new = prefix_stays prefix [] at 1 new (omega arith) torn in
     one_or_none prefix (drop (length prefix) new) new
     (omega (arith, torn.no_longer, length-append prefix [], length-drop (length prefix) new)) stays
 shut_torn prefix (b ∷ rest) at long new torn = inr (byte_torn prefix b rest at new (sym long) torn)
@@ -43,14 +43,14 @@ pub bytes_written : (prefix bytes suffix : List ℕ) (gate at : ℕ) → length 
     → after_write (prefix ++ 0 ∷ suffix) at bytes ≡ prefix ++ 0 ∷ (bytes ++ drop (length bytes) suffix)
 bytes_written prefix bytes suffix gate at long at_is =
     ap (λ (l : List ℕ). after_write l at bytes) (sym (append_assoc prefix (0 ∷ []) suffix))
-    ∙ written_behind (prefix ++ 0 ∷ []) suffix bytes at (omega (arith, long, at_is, length-append prefix (0 ∷ [])))
+    ∙ written_after (prefix ++ 0 ∷ []) suffix bytes at (omega (arith, long, at_is, length-append prefix (0 ∷ [])))
     ∙ append_assoc (prefix ++ 0 ∷ []) bytes (drop (length bytes) suffix)
     ∙ append_assoc prefix (0 ∷ []) (bytes ++ drop (length bytes) suffix)
 
 pub bytes_torn : (prefix bytes suffix : List ℕ) (gate at : ℕ) → length prefix ≡ gate → at ≡ gate + 1 → (new : List ℕ)
     → Torn at (length bytes) (prefix ++ 0 ∷ suffix) new → WhileCommitted prefix bytes suffix new
 bytes_torn prefix bytes suffix gate at long at_is new torn =
-    let stays = front_stays (prefix ++ 0 ∷ []) suffix at (length bytes) new
+    let stays = prefix_stays (prefix ++ 0 ∷ []) suffix at (length bytes) new
     (omega (arith, long, at_is, length-append prefix (0 ∷ [])))
     (subst (λ (l : List ℕ). Torn at (length bytes) l new) (sym (append_assoc prefix (0 ∷ []) suffix)) torn) in
     inl (

@@ -3,12 +3,12 @@ use Rattle.std.proofs.Common.{◌≡◌, ◌⊎◌, inl, inr, ℕ, ◌<◌, ◌^
 use Rattle.std.proofs.Common.{arith, append_assoc}
 use Rattle.std.proofs.lemmas.Bool.{cases_eq}
 use Rattle.ash_journal.specs.Layout.{mark, block, solid, AreShort, FieldsFit, IsFile, IsOpen, IsClosed, IsShut, HasMark}
-use Rattle.ash_journal.specs.Current.{Is, Either, IsBehind, RepresentOne, reopened, Reopens, SettleOn}
+use Rattle.ash_journal.specs.Current.{Is, Either, IsOlder, RepresentOne, reopened, Reopens, SettleOn}
 use Rattle.ash_journal.specs.Opening.{IsCreatedOrClosed}
 use Rattle.ash_journal.specs.Writes.{IsIdle, WhileCreated}
 use Rattle.ash_journal.proofs.LayoutLaws.{same_file, solid_mark, file_mark, mark_closed, mark_open, solid_no_records}
 use Rattle.ash_journal.proofs.LayoutLaws.{solid-push}
-use Rattle.ash_journal.proofs.SettleLaws.{Said, by_invariant, mark_behind, older_by_mark, open_or_closed, open_reopened}
+use Rattle.ash_journal.proofs.SettleLaws.{Said, by_invariant, mark_after, older_by_mark, open_or_closed, open_reopened}
 use Rattle.ash_journal.proofs.SettleLaws.{open_shut, reopened_twice}
 use Rattle.ash_journal.proofs.ReopenLaws.{end_settles, rest_settles}
 
@@ -27,19 +27,19 @@ open_gate : (gate : ℕ) (rest file : List ℕ) → IsOpen file → file ≡ gat
 open_gate gate [] file is_open is = absurd (subst IsOpen is is_open)
 open_gate gate (second ∷ rest) file is_open is = subst IsOpen is is_open
 
-pub aside_closed_or_older : (g : ℕ) (file : List ℕ) → IsAside g file → IsBehind g file
+pub aside_closed_or_older : (g : ℕ) (file : List ℕ) → IsAside g file → IsOlder g file
 aside_closed_or_older g file aside = elim (open_or_closed file) [
   | inl is_open ↦ from is_open aside
   | inr closed ↦ inl closed
 ]
   where
-    from : IsOpen file → IsAside g file → IsBehind g file
+    from : IsOpen file → IsAside g file → IsOlder g file
     from is_open (inl shut) = absurd (open_shut file is_open shut)
     from is_open (inr older) =
         inr (older.0, subst (λ (l : List ℕ). HasMark older.0 l) (sym (open_reopened file is_open)) older.1, older.2)
 
 aside_mark : (g h : ℕ) (file : List ℕ) → IsAside g file → HasMark h file → h < g
-aside_mark g h file aside marked = mark_behind h g file marked (aside_closed_or_older g file aside)
+aside_mark g h file aside marked = mark_after h g file marked (aside_closed_or_older g file aside)
 
 reopened_shut : (file : List ℕ) → IsShut (reopened file) → ⊥
 reopened_shut [] shut = omega (arith, shut)
@@ -64,18 +64,18 @@ install_settles g n image image' bodies x rest y is fits fits_new less coming =
     both = Either (Is (image', [])) (Is (image, bodies))
 
     file : IsFile g image bodies x
-    file = record { gate = 0; behind = rest; shut = λ e. omega (arith, e); bytes = is; fits = fits }
+    file = record { gate = 0; after = rest; shut = λ e. omega (arith, e); bytes = is; fits = fits }
 
     marked : HasMark g x
     marked = file_mark g image bodies x file
 
-    old : (b : List ℕ) → IsBehind g b → RepresentOne (Either (Is (image', [])) (Is (image, bodies))) x b
+    old : (b : List ℕ) → IsOlder g b → RepresentOne (Either (Is (image', [])) (Is (image, bodies))) x b
     old b older = ((image, bodies), inr refl, inl (g, record { file = file; older = older }))
 
     new_file : (b more : List ℕ) → b ≡ 1 ∷ (mark n ++ (block image' ++ 0 ∷ more)) → IsFile n image' [] b
     new_file b more b_is = record {
       gate = 0;
-      behind = more;
+      after = more;
       shut = λ e. omega (arith, e);
       bytes = b_is ∙ sym (solid_no_records n image' (0 ∷ more));
       fits = fits_new;
@@ -108,7 +108,7 @@ install_settles g n image image' bodies x rest y is fits fits_new less coming =
 
     preserved : (a b s t : List ℕ) → Installs g n image' x a b → Reopens a b s t → Installs g n image' x s t
     preserved a b s t holds (inl (inl one)) =
-        let same = same_file one.0.generation g one.0.image image one.0.bodies bodies one.0.gate 0 one.0.behind rest
+        let same = same_file one.0.generation g one.0.image image one.0.bodies bodies one.0.gate 0 one.0.after rest
         one.0.fits fits one.0.not_open (λ e. omega (arith, e)) (sym one.0.bytes ∙ holds.0 ∙ is) in
         absurd (one.0.not_shut same.gates)
     preserved a b s t holds (inl (inr one)) = (one.1 ∙ holds.0, from holds.1)
@@ -120,12 +120,12 @@ install_settles g n image image' bodies x rest y is fits fits_new less coming =
     preserved a b s t holds (inr (inl one)) = absurd (from holds.1)
       where
         b_marked : HasMark one.0.generation b
-        b_marked = solid_mark one.0.generation one.0.image one.0.bodies (one.0.gate ∷ one.0.behind) b
+        b_marked = solid_mark one.0.generation one.0.image one.0.bodies (one.0.gate ∷ one.0.after) b
             one.0.fits.numbered one.0.bytes
 
         ahead : g < one.0.generation
-        ahead = mark_behind g one.0.generation x marked
-            (subst (λ (l : List ℕ). IsBehind one.0.generation l) holds.0 one.0.older)
+        ahead = mark_after g one.0.generation x marked
+            (subst (λ (l : List ℕ). IsOlder one.0.generation l) holds.0 one.0.older)
 
         from : IsAside g b ⊎ IsComing n image' b → ⊥
         from (inl aside) = let under : one.0.generation < g = aside_mark g one.0.generation b aside b_marked in
@@ -136,7 +136,7 @@ install_settles g n image image' bodies x rest y is fits fits_new less coming =
             whole.2 in
             let b_is = whole.2 ∙ ap (λ (c : ℕ). c ∷ (mark n ++ (block image' ++ 0 ∷ whole.1))) opened
             ∙ sym (solid_no_records n image' (0 ∷ whole.1)) in
-            let same = same_file one.0.generation n one.0.image image' one.0.bodies [] one.0.gate 0 one.0.behind whole.1
+            let same = same_file one.0.generation n one.0.image image' one.0.bodies [] one.0.gate 0 one.0.after whole.1
             one.0.fits fits_new one.0.not_open (λ e. omega (arith, e)) (sym one.0.bytes ∙ b_is) in
             one.0.not_shut same.gates
     preserved a b s t holds (inr (inr one)) = absurd (mark_closed g x marked (subst IsClosed holds.0 one.0.closed))
@@ -178,7 +178,7 @@ pub append_settles : (P : Said) (g : ℕ) (image : List ℕ) (bodies : List (Lis
 append_settles P g image bodies body x rest u y is fits short growing settle = from growing
   where
     file : IsFile g image bodies x
-    file = record { gate = 0; behind = rest; shut = λ e. omega (arith, e); bytes = is; fits = fits }
+    file = record { gate = 0; after = rest; shut = λ e. omega (arith, e); bytes = is; fits = fits }
 
     grown_settles : (w more v : List ℕ) → w ≡ solid g image bodies ++ 1 ∷ (block body ++ 0 ∷ more) → SettleOn P x v
         → SettleOn (Either (Is (image, bodies ++ body ∷ [])) P) w v
@@ -210,7 +210,7 @@ repaired_settles g image bodies x rest y is fits aside =
     by_invariant (Is (image, bodies)) (λ (a b : List ℕ). (a ≡ x) × IsAside g b) represents preserved x y (refl, aside)
   where
     file : IsFile g image bodies x
-    file = record { gate = 0; behind = rest; shut = λ e. omega (arith, e); bytes = is; fits = fits }
+    file = record { gate = 0; after = rest; shut = λ e. omega (arith, e); bytes = is; fits = fits }
 
     marked : HasMark g x
     marked = file_mark g image bodies x file
@@ -222,7 +222,7 @@ repaired_settles g image bodies x rest y is fits aside =
 
     preserved : (a b s t : List ℕ) → (a ≡ x) × IsAside g b → Reopens a b s t → (s ≡ x) × IsAside g t
     preserved a b s t holds (inl (inl one)) =
-        let same = same_file one.0.generation g one.0.image image one.0.bodies bodies one.0.gate 0 one.0.behind rest
+        let same = same_file one.0.generation g one.0.image image one.0.bodies bodies one.0.gate 0 one.0.after rest
         one.0.fits fits one.0.not_open (λ e. omega (arith, e)) (sym one.0.bytes ∙ holds.0 ∙ is) in
         absurd (one.0.not_shut same.gates)
     preserved a b s t holds (inl (inr one)) = (
@@ -231,11 +231,11 @@ repaired_settles g image bodies x rest y is fits aside =
     )
     preserved a b s t holds (inr (inl one)) =
         let b_marked : HasMark one.0.generation b =
-        solid_mark one.0.generation one.0.image one.0.bodies (one.0.gate ∷ one.0.behind) b one.0.fits.numbered
+        solid_mark one.0.generation one.0.image one.0.bodies (one.0.gate ∷ one.0.after) b one.0.fits.numbered
         one.0.bytes in
         let ahead : g < one.0.generation =
-        mark_behind g one.0.generation x marked
-        (subst (λ (l : List ℕ). IsBehind one.0.generation l) holds.0 one.0.older) in
+        mark_after g one.0.generation x marked
+        (subst (λ (l : List ℕ). IsOlder one.0.generation l) holds.0 one.0.older) in
         let under : one.0.generation < g = aside_mark g one.0.generation b holds.1 b_marked in
         absurd (omega (arith, under, ahead))
     preserved a b s t holds (inr (inr one)) = absurd (mark_closed g x marked (subst IsClosed holds.0 one.0.closed))
@@ -260,7 +260,7 @@ created_settles g image x rest y is fits idle =
     by_invariant (Is (image, [])) (λ (a b : List ℕ). (a ≡ x) × IsIdle b) represents preserved x y (refl, idle)
   where
     file : IsFile g image [] x
-    file = record { gate = 0; behind = rest; shut = λ e. omega (arith, e); bytes = is; fits = fits }
+    file = record { gate = 0; after = rest; shut = λ e. omega (arith, e); bytes = is; fits = fits }
 
     marked : HasMark g x
     marked = file_mark g image [] x file
@@ -272,14 +272,14 @@ created_settles g image x rest y is fits idle =
 
     preserved : (a b s t : List ℕ) → (a ≡ x) × IsIdle b → Reopens a b s t → (s ≡ x) × IsIdle t
     preserved a b s t holds (inl (inl one)) =
-        let same = same_file one.0.generation g one.0.image image one.0.bodies [] one.0.gate 0 one.0.behind rest
+        let same = same_file one.0.generation g one.0.image image one.0.bodies [] one.0.gate 0 one.0.after rest
         one.0.fits fits one.0.not_open (λ e. omega (arith, e)) (sym one.0.bytes ∙ holds.0 ∙ is) in
         absurd (one.0.not_shut same.gates)
     preserved a b s t holds (inl (inr one)) =
         (one.1 ∙ holds.0, subst IsIdle (sym one.0.opened) (idle_reopened b holds.1 one.0.not_shut))
     preserved a b s t holds (inr (inl one)) =
         absurd (mark_closed one.0.generation b
-        (solid_mark one.0.generation one.0.image one.0.bodies (one.0.gate ∷ one.0.behind) b one.0.fits.numbered
+        (solid_mark one.0.generation one.0.image one.0.bodies (one.0.gate ∷ one.0.after) b one.0.fits.numbered
         one.0.bytes) (idle_closed b holds.1))
     preserved a b s t holds (inr (inr one)) = absurd (mark_closed g x marked (subst IsClosed holds.0 one.0.closed))
 

@@ -213,7 +213,7 @@ pub record SameFile (g h : ℕ) (image other : List ℕ) (bodies others : List (
   pub images : image ≡ other
   pub bodies_same : bodies ≡ others
   pub gates : k ≡ l
-  pub behind : s ≡ t
+  pub after : s ≡ t
 
 pub same_file : (g h : ℕ) (image other : List ℕ) (bodies others : List (List ℕ)) (k l : ℕ) (s t : List ℕ)
     → FieldsFit g image bodies → FieldsFit h other others → k ≢ 1 → l ≢ 1
@@ -228,7 +228,7 @@ same_file g h image other bodies others k l s t fits_g fits_h shut_k shut_l is =
     block_same image other (records bodies ++ k ∷ s) (records others ++ l ∷ t) fits_g.image_short fits_h.image_short
     marks.1 in
     let rest = records_same bodies others k l s t fits_g.bodies_short fits_h.bodies_short shut_k shut_l images.1 in
-    record { generations = marks.0; images = images.0; bodies_same = rest.0; gates = rest.1; behind = rest.2 }
+    record { generations = marks.0; images = images.0; bodies_same = rest.0; gates = rest.1; after = rest.2 }
 
 -- ---- marks
 
@@ -248,7 +248,7 @@ solid_mark generation image bodies rest file fits is =
 pub file_mark : (generation : ℕ) (image : List ℕ) (bodies : List (List ℕ)) (file : List ℕ)
     → IsFile generation image bodies file → HasMark generation file
 file_mark generation image bodies file is =
-    solid_mark generation image bodies (is.gate ∷ is.behind) file is.fits.numbered is.bytes
+    solid_mark generation image bodies (is.gate ∷ is.after) file is.fits.numbered is.bytes
 
 -- an open file is not closed
 pub open_closed : (file : List ℕ) → IsOpen file → IsClosed file → ⊥

@@ -12,7 +12,7 @@ use Rattle.ash_journal.specs.declared.two_files.Choice.{Choice}
 use Rattle.ash_journal.specs.declared.one_file.CurrentFile.{CurrentFile}
 use Rattle.ash_journal.specs.declared.record.Record.{Record}
 use Rattle.ash_journal.specs.OtherState.{first_of, second_of, OtherIs}
-use Rattle.ash_journal.specs.Current.{IsBehind, Represent}
+use Rattle.ash_journal.specs.Current.{IsOlder, Represent}
 use Rattle.ash_journal.specs.Journal.{EndIs, FilesAre}
 use Rattle.ash_journal.specs.Layout.{HasMark}
 use Rattle.ash_journal.specs.Opening.{ChoiceIs, ContentsAre, FaultIs}
@@ -23,19 +23,19 @@ use Rattle.ash_journal.proofs.SettleLaws.{represent_turned}
 use Rattle.ash_journal.proofs.FilesLaws.{found_represented}
 
 pub other_closed_or_older : (other_state : OtherState) (g : ℕ) (file : List ℕ) → OtherIs other_state g file
-    → IsBehind g file
+    → IsOlder g file
 other_closed_or_older Shut g file is = aside_closed_or_older g file (inl is)
 other_closed_or_older Older g file is = inr is
 other_closed_or_older Stray g file is = inl is.0
 
-cut_first : (g : ℕ) (fault : OpenFault) (x y : List ℕ) → HasMark g x → IsBehind g y → IsCutFault fault x
+cut_first : (g : ℕ) (fault : OpenFault) (x y : List ℕ) → HasMark g x → IsOlder g y → IsCutFault fault x
     → FaultIs fault x y
 cut_first g DeviceFailed x y marked older cut = tt
 cut_first g NoMemory x y marked older cut = inl (g, marked, older)
 cut_first g NoGeneration x y marked older cut = absurd cut
 cut_first g (Damaged at) x y marked older cut = inr (inl (g, marked, older, cut))
 
-cut_second : (g : ℕ) (fault : OpenFault) (x y : List ℕ) → HasMark g y → IsBehind g x → IsCutFault fault y
+cut_second : (g : ℕ) (fault : OpenFault) (x y : List ℕ) → HasMark g y → IsOlder g x → IsCutFault fault y
     → FaultIs fault x y
 cut_second g DeviceFailed x y marked older cut = tt
 cut_second g NoMemory x y marked older cut = inr (g, marked, older)
@@ -107,7 +107,7 @@ module _ {D : Type 0} (device : Device D) where
         current_honest = honest_c;
         other_honest = honest_o;
         gate = gate;
-        behind = read.0.behind;
+        after = read.0.after;
         shut = read.1;
         bytes = seen_c ∙ read.0.bytes;
         fits = read.0.fits;

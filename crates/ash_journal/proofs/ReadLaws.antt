@@ -141,7 +141,7 @@ pub read_start : (g : ℕ) (image rest file : List ℕ) (found : List Record) (a
     → file ≡ solid g image [] ++ gate ∷ rest → at ≡ length (solid g image []) → IsReadTo g image found at gate file
 read_start g image rest file found at gate none fits is at_is =
     subst (λ (f : List Record). IsReadTo g image f at gate file) (sym none)
-    (record { behind = rest; bytes = is; fits = fits; end_is = at_is; placed = tt })
+    (record { after = rest; bytes = is; fits = fits; end_is = at_is; placed = tt })
 
 after_gate : (prefix suffix file : List ℕ) (at gate : ℕ) → file ≡ prefix ++ gate ∷ suffix → at ≡ length prefix
     → drop (at + 1) file ≡ suffix
@@ -157,10 +157,10 @@ read_cut g image file found at gate is_open so_far cut =
       g,
       image,
       bodies_of found,
-      so_far.behind,
+      so_far.after,
       so_far.fits,
-      so_far.bytes ∙ ap (λ (b : ℕ). solid g image (bodies_of found) ++ b ∷ so_far.behind) is_open,
-      subst IsCut (after_gate (solid g image (bodies_of found)) so_far.behind file at gate so_far.bytes so_far.end_is)
+      so_far.bytes ∙ ap (λ (b : ℕ). solid g image (bodies_of found) ++ b ∷ so_far.after) is_open,
+      subst IsCut (after_gate (solid g image (bodies_of found)) so_far.after file at gate so_far.bytes so_far.end_is)
           cut,
       so_far.end_is,
     )
@@ -170,10 +170,10 @@ pub read_more : (g : ℕ) (image file : List ℕ) (found : List Record) (r : Rec
     → IsReadTo g image found at gate file → IsBlock r.body.items next (drop (at + 1) file) → r.gate ≡ at
     → end ≡ at + (5 + length r.body.items) → IsReadTo g image (found ++ r ∷ []) end next file
 read_more g image file found r at gate next end is_open so_far is_block gate_is end_is = record {
-  behind = is_block.1;
-  bytes = so_far.bytes ∙ ap (λ (b : ℕ). prefix ++ b ∷ so_far.behind) is_open
+  after = is_block.1;
+  bytes = so_far.bytes ∙ ap (λ (b : ℕ). prefix ++ b ∷ so_far.after) is_open
       ∙ ap (λ (l : List ℕ). prefix ++ 1 ∷ l)
-      (sym (after_gate prefix so_far.behind file at gate so_far.bytes so_far.end_is) ∙ is_block.2)
+      (sym (after_gate prefix so_far.after file at gate so_far.bytes so_far.end_is) ∙ is_block.2)
       ∙ grown g image (bodies_of found) r.body.items (next ∷ is_block.1)
       ∙ ap (λ (bs : List (List ℕ)). solid g image bs ++ next ∷ is_block.1) (sym pushed);
   fits = subst

@@ -2,9 +2,9 @@
 use Rattle.std.proofs.Common.{◌≡◌, ◌≢◌, ◌⊎◌, inl, inr, ℕ, ◌<◌, List, ◌∷◌, ◌++◌, refl, sym, ◌∙◌, ap, subst, arith}
 use Rattle.std.proofs.lemmas.Bool.{cases_eq}
 use Rattle.ash_journal.specs.Layout.{solid, FieldsFit, IsFile, IsClosed, IsShut, HasMark}
-use Rattle.ash_journal.specs.Current.{IsBehind, RepresentOne, reopened, EndReopens, OtherReopens, Reopens, SettleOn}
+use Rattle.ash_journal.specs.Current.{IsOlder, RepresentOne, reopened, EndReopens, OtherReopens, Reopens, SettleOn}
 use Rattle.ash_journal.proofs.LayoutLaws.{same_file, same_mark, solid_mark, file_mark, mark_closed}
-use Rattle.ash_journal.proofs.SettleLaws.{Follow, Said, by_invariant, current_or_ahead, mark_behind, older_by_mark}
+use Rattle.ash_journal.proofs.SettleLaws.{Follow, Said, by_invariant, current_or_ahead, mark_after, older_by_mark}
 use Rattle.ash_journal.proofs.SettleLaws.{open_or_closed, open_reopened, settle_step, stand_now}
 
 -- ---- a current file that changes after its mark
@@ -22,7 +22,7 @@ rest_settles P Q g image image' bodies bodies' x w rest y file is fits among mor
     by_invariant Q (Rests P x w) represents preserved w y (refl, settle)
   where
     at_rest : IsFile g image' bodies' w
-    at_rest = record { gate = 0; behind = rest; shut = λ e. omega (arith, e); bytes = is; fits = fits }
+    at_rest = record { gate = 0; after = rest; shut = λ e. omega (arith, e); bytes = is; fits = fits }
 
     marked : HasMark g w
     marked = file_mark g image' bodies' w at_rest
@@ -45,7 +45,7 @@ rest_settles P Q g image image' bodies bodies' x w rest y file is fits among mor
 
     preserved : (a b s t : List ℕ) → Rests P x w a b → Reopens a b s t → Rests P x w s t
     preserved a b s t holds (inl (inl one)) =
-        let same = same_file one.0.generation g one.0.image image' one.0.bodies bodies' one.0.gate 0 one.0.behind rest
+        let same = same_file one.0.generation g one.0.image image' one.0.bodies bodies' one.0.gate 0 one.0.after rest
         one.0.fits fits one.0.not_open (λ e. omega (arith, e)) (sym one.0.bytes ∙ holds.0 ∙ is) in
         absurd (one.0.not_shut same.gates)
     preserved a b s t holds (inl (inr one)) = (
@@ -72,14 +72,14 @@ rest_settles P Q g image image' bodies bodies' x w rest y file is fits among mor
           image = one.0.image;
           bodies = one.0.bodies;
           gate = one.0.gate;
-          behind = one.0.behind;
+          after = one.0.after;
           fits = one.0.fits;
           bytes = one.0.bytes;
           not_open = one.0.not_open;
           not_shut = one.0.not_shut;
           older = older_by_mark g one.0.generation x x_marked
-              (mark_behind g one.0.generation w marked
-              (subst (λ (l : List ℕ). IsBehind one.0.generation l) holds.0 one.0.older));
+              (mark_after g one.0.generation w marked
+              (subst (λ (l : List ℕ). IsOlder one.0.generation l) holds.0 one.0.older));
           opened = one.0.opened;
         },
         refl,
@@ -113,12 +113,12 @@ end_for g x w b t x_marked w_marked one =
         image = one.image;
         bodies = one.bodies;
         gate = one.gate;
-        behind = one.behind;
+        after = one.after;
         fits = one.fits;
         bytes = one.bytes;
         not_open = one.not_open;
         not_shut = one.not_shut;
-        older = older_by_mark g one.generation x x_marked (mark_behind g one.generation w w_marked one.older);
+        older = older_by_mark g one.generation x x_marked (mark_after g one.generation w w_marked one.older);
         opened = one.opened;
       },
       refl,
@@ -132,7 +132,7 @@ Turns P Q x u a b = Rests P x u a b ⊎ SettleOn Q a b
 -- they settle so, where they do with 1 there.
 pub end_settles : (P Q : Said) (g : ℕ) (image : List ℕ) (bodies : List (List ℕ)) (x : List ℕ) (c : ℕ) (rest y : List ℕ)
     → IsFile g image bodies x → c ≢ 1 → Follow P Q
-    → ((v : List ℕ) → SettleOn P x v → IsBehind g v → SettleOn Q (solid g image bodies ++ 1 ∷ rest) v) → SettleOn P x y
+    → ((v : List ℕ) → SettleOn P x v → IsOlder g v → SettleOn Q (solid g image bodies ++ 1 ∷ rest) v) → SettleOn P x y
     → SettleOn Q (solid g image bodies ++ c ∷ rest) y
 end_settles P Q g image bodies x c rest y file shut more good settle =
     by_invariant Q (Turns P Q x u) represents preserved u y (inl (refl, settle))
@@ -141,7 +141,7 @@ end_settles P Q g image bodies x c rest y file shut more good settle =
     u = solid g image bodies ++ c ∷ rest
 
     is_file : IsFile g image bodies u
-    is_file = record { gate = c; behind = rest; shut = shut; bytes = refl; fits = file.fits }
+    is_file = record { gate = c; after = rest; shut = shut; bytes = refl; fits = file.fits }
 
     marked : HasMark g u
     marked = file_mark g image bodies u is_file
@@ -169,14 +169,14 @@ end_settles P Q g image bodies x c rest y file shut more good settle =
     preserved : (a b s t : List ℕ) → Turns P Q x u a b → Reopens a b s t → Turns P Q x u s t
     preserved a b s t (inr now) one = inr (settle_step Q a b s t now one)
     preserved a b s t (inl holds) (inl (inl one)) =
-        let same = same_file one.0.generation g one.0.image image one.0.bodies bodies one.0.gate c one.0.behind rest
+        let same = same_file one.0.generation g one.0.image image one.0.bodies bodies one.0.gate c one.0.after rest
         one.0.fits file.fits one.0.not_open shut (sym one.0.bytes ∙ holds.0) in
         let opened : s ≡ solid g image bodies ++ 1 ∷ rest =
-        one.0.opened ∙ ap (λ (n : ℕ). solid n one.0.image one.0.bodies ++ 1 ∷ one.0.behind) same.generations
-        ∙ ap (λ (i : List ℕ). solid g i one.0.bodies ++ 1 ∷ one.0.behind) same.images
-        ∙ ap (λ (bs : List (List ℕ)). solid g image bs ++ 1 ∷ one.0.behind) same.bodies_same
-        ∙ ap (λ (r : List ℕ). solid g image bodies ++ 1 ∷ r) same.behind in
-        let older : IsBehind g b = subst (λ (n : ℕ). IsBehind n b) same.generations one.0.older in
+        one.0.opened ∙ ap (λ (n : ℕ). solid n one.0.image one.0.bodies ++ 1 ∷ one.0.after) same.generations
+        ∙ ap (λ (i : List ℕ). solid g i one.0.bodies ++ 1 ∷ one.0.after) same.images
+        ∙ ap (λ (bs : List (List ℕ)). solid g image bs ++ 1 ∷ one.0.after) same.bodies_same
+        ∙ ap (λ (r : List ℕ). solid g image bodies ++ 1 ∷ r) same.after in
+        let older : IsOlder g b = subst (λ (n : ℕ). IsOlder n b) same.generations one.0.older in
         inr (subst (λ (l : List ℕ). SettleOn Q l t) (sym opened)
         (subst (λ (l : List ℕ). SettleOn Q (solid g image bodies ++ 1 ∷ rest) l) (sym one.1)
         (good b holds.1 older)))
@@ -202,8 +202,8 @@ follower_settles P g h x u y x_marked marked y_marked less settle =
     by_invariant P (Follows P h x u) represents preserved u y ((refl, settle), y_marked)
   where
     -- no file with the greater number is older than the smaller one
-    not_older : (b : List ℕ) (g' : ℕ) → HasMark h b → g' ≡ g → IsBehind g' b → ⊥
-    not_older b g' b_marked is older = let above : h < g' = mark_behind h g' b b_marked older in
+    not_older : (b : List ℕ) (g' : ℕ) → HasMark h b → g' ≡ g → IsOlder g' b → ⊥
+    not_older b g' b_marked is older = let above : h < g' = mark_after h g' b b_marked older in
         omega (arith, above, is, less)
 
     represents : (a b : List ℕ) → Follows P h x u a b → RepresentOne P a b
@@ -221,7 +221,7 @@ follower_settles P g h x u y x_marked marked y_marked less settle =
             is_current.0,
             record {
               file = is_current.1.file;
-              older = older_by_mark g is_current.0 u marked (mark_behind g is_current.0 x x_marked is_current.1.older);
+              older = older_by_mark g is_current.0 u marked (mark_after g is_current.0 x x_marked is_current.1.older);
             },
           ),
         )
@@ -230,16 +230,16 @@ follower_settles P g h x u y x_marked marked y_marked less settle =
     preserved a b s t holds (inl (inl one)) =
         absurd (not_older b one.0.generation holds.1
         (same_mark one.0.generation g a
-        (solid_mark one.0.generation one.0.image one.0.bodies (one.0.gate ∷ one.0.behind) a one.0.fits.numbered
+        (solid_mark one.0.generation one.0.image one.0.bodies (one.0.gate ∷ one.0.after) a one.0.fits.numbered
         one.0.bytes) (subst (λ (l : List ℕ). HasMark g l) (sym holds.0.0) marked)) one.0.older)
     preserved a b s t holds (inl (inr one)) = absurd (mark_closed h b holds.1 one.0.closed)
     preserved a b s t holds (inr (inl one)) =
         let number : one.0.generation ≡ h =
         same_mark one.0.generation h b
-        (solid_mark one.0.generation one.0.image one.0.bodies (one.0.gate ∷ one.0.behind) b one.0.fits.numbered
+        (solid_mark one.0.generation one.0.image one.0.bodies (one.0.gate ∷ one.0.after) b one.0.fits.numbered
         one.0.bytes) holds.1 in
         let t_marked : HasMark one.0.generation t =
-        solid_mark one.0.generation one.0.image one.0.bodies (1 ∷ one.0.behind) t one.0.fits.numbered
+        solid_mark one.0.generation one.0.image one.0.bodies (1 ∷ one.0.after) t one.0.fits.numbered
         one.0.opened in (
           (
             one.1 ∙ holds.0.0,
@@ -271,9 +271,9 @@ end_repair_settles P g image bodies x k c rest y is fits not_open not_shut settl
 ]
   where
     file : IsFile g image bodies x
-    file = record { gate = k; behind = rest; shut = not_open; bytes = is; fits = fits }
+    file = record { gate = k; after = rest; shut = not_open; bytes = is; fits = fits }
 
-    reopens : (v : List ℕ) → IsBehind g v → Reopens x v (solid g image bodies ++ 1 ∷ rest) v
+    reopens : (v : List ℕ) → IsOlder g v → Reopens x v (solid g image bodies ++ 1 ∷ rest) v
     reopens v older =
         inl (inl (
           record {
@@ -281,7 +281,7 @@ end_repair_settles P g image bodies x k c rest y is fits not_open not_shut settl
             image = image;
             bodies = bodies;
             gate = k;
-            behind = rest;
+            after = rest;
             fits = fits;
             bytes = is;
             not_open = not_open;
@@ -351,7 +351,7 @@ other_repair_settles P x y y' closed not_shut alike settle = elim (open_or_close
           image = one.0.image;
           bodies = one.0.bodies;
           gate = one.0.gate;
-          behind = one.0.behind;
+          after = one.0.after;
           fits = one.0.fits;
           bytes = one.0.bytes;
           not_open = one.0.not_open;
@@ -381,7 +381,7 @@ other_repair_settles P x y y' closed not_shut alike settle = elim (open_or_close
         )))
     preserved closed' a b s t (inl holds) (inr (inl one)) =
         absurd (mark_closed one.0.generation b
-        (solid_mark one.0.generation one.0.image one.0.bodies (one.0.gate ∷ one.0.behind) b one.0.fits.numbered
+        (solid_mark one.0.generation one.0.image one.0.bodies (one.0.gate ∷ one.0.after) b one.0.fits.numbered
         one.0.bytes) (subst IsClosed (sym holds.0) closed'))
     preserved closed' a b s t (inl holds) (inr (inr one)) =
         absurd (not_current one.0.generation one.0.image one.0.bodies b (subst IsClosed (sym holds.0) closed')

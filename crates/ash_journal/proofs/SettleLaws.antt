@@ -2,7 +2,7 @@
 use Rattle.std.proofs.Common.{◌≡◌, ◌⊎◌, inl, inr, ℕ, zero, suc, ◌<◌, List, [], ◌∷◌, refl, sym, ◌∙◌, ap, subst, arith}
 use Rattle.std.proofs.lemmas.Bool.{cases_eq}
 use Rattle.ash_journal.specs.Layout.{IsFile, IsOpen, IsClosed, IsShut, HasMark}
-use Rattle.ash_journal.specs.Current.{Contents, Is, Either, IsBehind, IsCurrent, Represent, RepresentOne, reopened}
+use Rattle.ash_journal.specs.Current.{Contents, Is, Either, IsOlder, IsCurrent, Represent, RepresentOne, reopened}
 use Rattle.ash_journal.specs.Current.{Reopens, ReopensTimes, SettleOn, MaySettleOn, SettleFurther}
 use Rattle.ash_journal.proofs.LayoutLaws.{SameFile, same_file, same_mark, file_mark, mark_closed}
 
@@ -79,18 +79,18 @@ settle_more P Q more x y settle = λ n u v times. let stand = settle n u v times
 
 pub same_contents : (g h : ℕ) (image other : List ℕ) (bodies others : List (List ℕ)) (file : List ℕ)
     (one : IsFile g image bodies file) (two : IsFile h other others file)
-    → SameFile g h image other bodies others one.gate two.gate one.behind two.behind
+    → SameFile g h image other bodies others one.gate two.gate one.after two.after
 same_contents g h image other bodies others file one two =
-    same_file g h image other bodies others one.gate two.gate one.behind two.behind one.fits two.fits one.shut two.shut
+    same_file g h image other bodies others one.gate two.gate one.after two.after one.fits two.fits one.shut two.shut
     (sym one.bytes ∙ two.bytes)
 
 -- a file with a mark that is no newer than a generation has a smaller number
-pub mark_behind : (g h : ℕ) (x : List ℕ) → HasMark g x → IsBehind h x → g < h
-mark_behind g h x marked (inl closed) = absurd (mark_closed g x marked closed)
-mark_behind g h x marked (inr older) = let same : g ≡ older.0 = same_mark g older.0 x marked older.1 in
+pub mark_after : (g h : ℕ) (x : List ℕ) → HasMark g x → IsOlder h x → g < h
+mark_after g h x marked (inl closed) = absurd (mark_closed g x marked closed)
+mark_after g h x marked (inr older) = let same : g ≡ older.0 = same_mark g older.0 x marked older.1 in
     omega (arith, same, older.2)
 
-pub older_by_mark : (g h : ℕ) (x : List ℕ) → HasMark g x → g < h → IsBehind h x
+pub older_by_mark : (g h : ℕ) (x : List ℕ) → HasMark g x → g < h → IsOlder h x
 older_by_mark g h x marked less = inr (g, marked, less)
 
 -- the other file is current, with a greater number, and represents one of these
@@ -100,11 +100,11 @@ IsAhead g P y =
 
 -- of two files that represent one of these, a file of a generation is current, or the other is ahead
 pub current_or_ahead : (g : ℕ) (image : List ℕ) (bodies : List (List ℕ)) (P : Said) (x y : List ℕ)
-    → IsFile g image bodies x → RepresentOne P x y → IsBehind g y × P (image, bodies) ⊎ IsAhead g P y
+    → IsFile g image bodies x → RepresentOne P x y → IsOlder g y × P (image, bodies) ⊎ IsAhead g P y
 current_or_ahead g image bodies P x y file (pair, among, inl is_current) =
     let same = same_contents g is_current.0 image pair.0 bodies pair.1 x file is_current.1.file in
     inl (
-      subst (λ (n : ℕ). IsBehind n y) (sym same.generations) is_current.1.older,
+      subst (λ (n : ℕ). IsOlder n y) (sym same.generations) is_current.1.older,
       subst (λ (i : List ℕ). P (i, bodies)) (sym same.images)
           (subst (λ (bs : List (List ℕ)). P (pair.0, bs)) (sym same.bodies_same) among),
     )
@@ -114,7 +114,7 @@ current_or_ahead g image bodies P x y file (pair, among, inr is_current) =
       pair.0,
       pair.1,
       is_current.1.file,
-      mark_behind g is_current.0 x (file_mark g image bodies x file) is_current.1.older,
+      mark_after g is_current.0 x (file_mark g image bodies x file) is_current.1.older,
       among,
     )
 
@@ -124,7 +124,7 @@ one_current contents other x y one two =
     elim (current_or_ahead one.0 contents.0 contents.1 (Is other) x y one.1.file (other, refl, two)) [
       | inl is_current ↦ is_current.1
       | inr ahead ↦ let under : ahead.0 < one.0 =
-          mark_behind ahead.0 one.0 y (file_mark ahead.0 ahead.1 ahead.2 y ahead.3) one.1.older in
+          mark_after ahead.0 one.0 y (file_mark ahead.0 ahead.1 ahead.2 y ahead.3) one.1.older in
           absurd (omega (arith, under, ahead.4))
     ]
 

@@ -15,13 +15,13 @@ abbrev pub Either : (Contents → Type 0) → (Contents → Type 0) → Contents
 Either P Q contents = P contents ⊎ Q contents
 
 -- The file is closed, or open with an older generation.
-abbrev pub IsBehind : ℕ → List ℕ → Type 0
-IsBehind generation file = IsClosed file ⊎ ((older : ℕ) × HasMark older file × (older < generation))
+abbrev pub IsOlder : ℕ → List ℕ → Type 0
+IsOlder generation file = IsClosed file ⊎ ((older : ℕ) × HasMark older file × (older < generation))
 
 -- The first of two files is current, with this generation, image and records.
 pub record IsCurrent (generation : ℕ) (image : List ℕ) (bodies : List (List ℕ)) (current other : List ℕ) : Type 0 where
   pub file : IsFile generation image bodies current
-  pub older : IsBehind generation other
+  pub older : IsOlder generation other
 
 -- Two files represent these contents, which are those of the current file.
 abbrev pub Represent : Contents → List ℕ → List ℕ → Type 0
@@ -40,18 +40,18 @@ reopened (gate ∷ rest) = 1 ∷ rest
 
 -- The first file is current, and 1 is put for the gate after its last open record, which a repair would write
 -- over since it is neither 0 nor 1.
-pub record EndReopens (current other after : List ℕ) : Type 0 where
+pub record EndReopens (current other current_after : List ℕ) : Type 0 where
   pub generation : ℕ
   pub image : List ℕ
   pub bodies : List (List ℕ)
   pub gate : ℕ
-  pub behind : List ℕ
+  pub after : List ℕ
   pub fits : FieldsFit generation image bodies
-  pub bytes : current ≡ solid generation image bodies ++ gate ∷ behind
+  pub bytes : current ≡ solid generation image bodies ++ gate ∷ after
   pub not_open : gate ≢ 1
   pub not_shut : gate ≢ 0
-  pub older : IsBehind generation other
-  pub opened : after ≡ solid generation image bodies ++ 1 ∷ behind
+  pub older : IsOlder generation other
+  pub opened : current_after ≡ solid generation image bodies ++ 1 ∷ after
 
 -- The first file is current, and 1 is put for the first gate of the other, which a repair would write over since the
 -- other is closed and this gate isn't 0.

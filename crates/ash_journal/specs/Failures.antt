@@ -6,5 +6,5 @@ use Rattle.ash_disk.specs.Failures.{Rose}
 pub record CountsFailures (failed : Type 0) (first second first_after second_after : ℕ) : Type 0 where
   pub first_never_falls : first ≤ first_after
   pub second_never_falls : second ≤ second_after
-  pub told : failed → Rose first first_after ⊎ Rose second second_after
+  pub reported : failed → Rose first first_after ⊎ Rose second second_after
   pub none : (failed → ⊥) → (first_after ≡ first) × (second_after ≡ second)

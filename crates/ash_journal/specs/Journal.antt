@@ -58,9 +58,9 @@ pub record FilesAre {D : Type 0} (device : Device D) (number end size : ℕ) (st
   pub current_honest : IsTrue (device.honest current)
   pub other_honest : IsTrue (device.honest other)
   pub gate : ℕ
-  pub behind : List ℕ
+  pub after : List ℕ
   pub shut : gate ≢ 1
-  pub bytes : device.seen current ≡ solid number image bodies ++ gate ∷ behind
+  pub bytes : device.seen current ≡ solid number image bodies ++ gate ∷ after
   pub fits : FieldsFit number image bodies
   pub end_is : end ≡ length (solid number image bodies)
   pub size_is : size ≡ length (records bodies)
@@ -106,8 +106,8 @@ abbrev pub LeavesOther : {D : Type 0} → Journal D → Journal D → Type 0
 LeavesOther old new = LeavesOtherOf old.swapped (first_disk old) (second_disk old) (first_disk new) (second_disk new)
 
 -- A disk of which no gate is to be written over stays as it was.
-abbrev pub KeepsUnowed : {D : Type 0} → Journal D → Journal D → Type 0
-KeepsUnowed old new =
+abbrev pub KeepsUnrepaired : {D : Type 0} → Journal D → Journal D → Type 0
+KeepsUnrepaired old new =
     (old.stray ≡ false → LeavesCurrent old new) × (is_stray old.other_state ≡ false → LeavesOther old new)
 
 -- Nothing was written to a journal's disks but the gates that a repair writes over: of the current file the one after

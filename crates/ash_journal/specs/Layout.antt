@@ -46,9 +46,9 @@ pub record FieldsFit (generation : ℕ) (image : List ℕ) (bodies : List (List 
 -- anything may follow it.
 pub record IsFile (generation : ℕ) (image : List ℕ) (bodies : List (List ℕ)) (file : List ℕ) : Type 0 where
   pub gate : ℕ
-  pub behind : List ℕ
+  pub after : List ℕ
   pub shut : gate ≢ 1
-  pub bytes : file ≡ solid generation image bodies ++ gate ∷ behind
+  pub bytes : file ≡ solid generation image bodies ++ gate ∷ after
   pub fits : FieldsFit generation image bodies
 
 -- The first gate is 1, and something follows it.

@@ -8,7 +8,7 @@ use Rattle.ash_journal.specs.declared.two_files.Choice.{Choice}
 use Rattle.ash_journal.specs.declared.two_files.Headers.{Headers}
 use Rattle.ash_journal.specs.declared.one_file.CurrentFile.{CurrentFile}
 use Rattle.ash_journal.specs.OtherState.{first_of, second_of, OtherIs}
-use Rattle.ash_journal.specs.Current.{Is, IsBehind, SettleOn}
+use Rattle.ash_journal.specs.Current.{Is, IsOlder, SettleOn}
 use Rattle.ash_journal.specs.Layout.{IsOpen, IsClosed, IsCutAt, HasMark, LacksMark}
 use Rattle.ash_journal.specs.Reading.{HeaderIs, IsRead}
 
@@ -20,13 +20,13 @@ IsUnsound first second =
 -- The first file is current, and it is cut short at this offset.
 abbrev pub IsCutCurrent : ℕ → List ℕ → List ℕ → Type 0
 IsCutCurrent at current other =
-    (generation : ℕ) × HasMark generation current × IsBehind generation other × IsCutAt at current
+    (generation : ℕ) × HasMark generation current × IsOlder generation other × IsCutAt at current
 
 -- One of two files has a mark, and the other is closed or older.
 abbrev pub HasCurrent : List ℕ → List ℕ → Type 0
 HasCurrent first second =
-    ((generation : ℕ) × HasMark generation first × IsBehind generation second)
-    ⊎ ((generation : ℕ) × HasMark generation second × IsBehind generation first)
+    ((generation : ℕ) × HasMark generation first × IsOlder generation second)
+    ⊎ ((generation : ℕ) × HasMark generation second × IsOlder generation first)
 
 -- `FaultIs fault first second` says what two files are like of which a fault is reported.
 abbrev pub FaultIs : OpenFault → List ℕ → List ℕ → Type 0

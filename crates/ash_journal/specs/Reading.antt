@@ -43,8 +43,8 @@ AreAt at (r ∷ found) = (r.gate ≡ at) × AreAt (at + 5 + length r.body.items)
 -- The file is read up to a gate: its records from the first gate after its image on, and that gate.
 pub record IsReadTo (generation : ℕ) (image : List ℕ) (found : List Record) (end : ℕ) (gate : ℕ)
     (file : List ℕ) : Type 0 where
-  pub behind : List ℕ
-  pub bytes : file ≡ solid generation image (bodies_of found) ++ gate ∷ behind
+  pub after : List ℕ
+  pub bytes : file ≡ solid generation image (bodies_of found) ++ gate ∷ after
   pub fits : FieldsFit generation image (bodies_of found)
   pub end_is : end ≡ length (solid generation image (bodies_of found))
   pub placed : AreAt (21 + length image) found

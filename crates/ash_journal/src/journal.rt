@@ -65,7 +65,7 @@ impl<D: Disk> Journal<D> {
     ghost use Rattle.ash_journal.specs.Journal.{first_disk, second_disk, generation, record_bytes, current_disk};
     ghost use Rattle.ash_journal.specs.Journal.{IsReady, IsRepaired, HasFailed, Finds, Holds, LeavesCurrent};
     ghost use Rattle.ash_journal.specs.Journal.{LeavesOther};
-    ghost use Rattle.ash_journal.specs.Journal.{KeepsUnowed, WritesGates};
+    ghost use Rattle.ash_journal.specs.Journal.{KeepsUnrepaired, WritesGates};
     ghost use Rattle.ash_journal.specs.Current.{Is, Either, Represent};
     ghost use Rattle.ash_disk.specs.Device.{IsOnlyRead, EveryMomentSince};
     ghost use Rattle.ash_journal.specs.Layout.{IsClosed};
@@ -325,7 +325,7 @@ impl<D: Disk> Journal<D> {
         ensures only_stray { IsRepaired self.old
             → (first_disk self.new ≡ first_disk self.old)
             × (second_disk self.new ≡ second_disk self.old) }
-        ensures each_owed { KeepsUnowed self.old self.new }
+        ensures each_owed { KeepsUnrepaired self.old self.new }
         ensures gates { (image : List ℕ) (bodies : List (List ℕ))
             → Finds D.Disk self.old image bodies
             → WritesGates D.Disk self.old self.new }

@@ -6,7 +6,7 @@ use Rattle.std.proofs.str.Laws.{order}
 use Rattle.ash_lex.specs.Bytes.{is_line_feed, value_in}
 use Rattle.ash_lex.specs.Signs.{sign_text}
 use Rattle.ash_lex.specs.Pieces.{IsName, IsNumeral}
-use Rattle.ash_lex.specs.Scan.{front, reserved_word, unsupported_word}
+use Rattle.ash_lex.specs.Scan.{prefix, reserved_word, unsupported_word}
 use Rattle.ash_lex.specs.Tokens.{Meaning, name, number, sign, reserved, unsupported, Lexeme, Means, byte_order_mark, Spells, FirstFault}
 use Rattle.ash_lex.specs.Steps.{IsCut, IsFront}
 use Rattle.ash_lex.specs.declared.words.ReservedWord.{ReservedWord}
@@ -17,7 +17,7 @@ use Rattle.ash_lex.specs.declared.faults.LexFault.{LexFault}
 use Rattle.ash_lex.specs.declared.faults.LexFault.TheVariants.{BadCharacter, UnclosedComment, NumberTooLarge}
 use Rattle.ash_lex.proofs.WordLookups.{reserved_word-is, unsupported_word-is, reserved_word-none, unsupported_word-none}
 use Rattle.ash_lex.proofs.Fronts.{starts-true}
-use Rattle.ash_lex.proofs.Found.{front_is, none_stands}
+use Rattle.ash_lex.proofs.Found.{prefix_is, none_stands}
 use Rattle.ash_lex.proofs.Reading.{IsReadTo, past_gap, past_token, first_fault, spelled, read_mark, read_nothing}
 
 abbrev pub HasReading : List ℕ → Type 0
@@ -59,13 +59,13 @@ module _ (text : List ℕ) (place line : ℕ) (tokens : List Lexeme) (read : IsR
   at_piece (Hexadecimal n) h = at_numeral n (value_in 16 (drop 2 (take n (drop place text)))) h.0 h.1
   at_piece (SignPiece s) h = at_token (length (sign_text s)) (sign s) h.0 h.1
 
-  at_front : (o : Option Piece) → front (drop place text) ≡ o → Onward text place
-  at_front None e =
+  at_prefix : (o : Option Piece) → prefix (drop place text) ≡ o → Onward text place
+  at_prefix None e =
       inl (BadCharacter place, first_fault text place line tokens (BadCharacter place) read (refl, omega (arith, length-drop place text, more), none_stands (drop place text) e))
-  at_front (Some p) e = at_piece p (front_is (drop place text) p e)
+  at_prefix (Some p) e = at_piece p (prefix_is (drop place text) p e)
 
   onward : Onward text place
-  onward = at_front (front (drop place text)) refl
+  onward = at_prefix (prefix (drop place text)) refl
 
 -- from a place on, with enough fuel to come to the end
 reading_from : (fuel : ℕ) (text : List ℕ) (place line : ℕ) (tokens : List Lexeme) → IsReadTo text place line tokens → length text ≤ place + fuel → HasReading text

@@ -1,4 +1,4 @@
--- What `front` finds stands there, and is the longest piece.
+-- What `prefix` finds stands there, and is the longest piece.
 use Rattle.std.proofs.Common.{◌≡◌, ℕ, suc, ◌+◌, ◌<◌, ◌≤◌, Bool, true, false, not, cond, ◌&&◌, nat_eq, List, [], ◌∷◌, ◌++◌, length, take, drop, slice_index, Option, Some, None, option_map, codes, sym, refl, ap, ◌∙◌, subst, inl, inr, arith, lit<}
 use Rattle.std.specs.List.{starts_with, prefix_len, take_while}
 use Rattle.std.proofs.lemmas.List.{append_assoc, length-append, length-take-le, take-append-drop, take_at}
@@ -6,7 +6,7 @@ use Rattle.std.proofs.lemmas.List.Sums.{take_while-cons, prefix_len-le-length}
 use Rattle.ash_lex.specs.Bytes.{is_blank, is_line_feed, is_digit, is_hex_digit, is_letter, is_word, begins_with_hex_digit, value_in}
 use Rattle.ash_lex.specs.Signs.{sign_text, may_follow}
 use Rattle.ash_lex.specs.Pieces.{IsOpenComment, IsGap, IsName, IsDecimal, IsHexadecimal, IsNumeral, IsPiece, gap, open_comment, name, numeral, sign, IsLongest}
-use Rattle.ash_lex.specs.Scan.{comment_end, block_comment, sign_piece, slash_piece, numeral_piece, front, first_sign}
+use Rattle.ash_lex.specs.Scan.{comment_end, block_comment, sign_piece, slash_piece, numeral_piece, prefix, first_sign}
 use Rattle.ash_lex.specs.Steps.{IsCut, IsFront}
 use Rattle.ash_lex.specs.declared.signs.Sign.{Sign}
 use Rattle.ash_lex.specs.declared.signs.Sign.TheVariants.{NotIs}
@@ -62,7 +62,7 @@ comment_stands rest = go (comment_end rest) refl
     go None e = open_stands rest e
     go (Some n) e = block_stands rest n e
 
--- the bytes from the front on that pass, where the first does
+-- the bytes from the prefix on that pass, where the first does
 taken_passes : (test : ℕ → Bool) (b : ℕ) (bs : List ℕ) → test b ≡ true → take (prefix_len test (b ∷ bs)) (b ∷ bs) ≡ b ∷ take_while test bs
 taken_passes test b bs h = take_while-cons test b bs ∙ rw h refl
 
@@ -139,8 +139,8 @@ numeral_stands text h =
     ]
 
 -- what is found stands there
-pub front_stands : (text : List ℕ) (p : Piece) → front text ≡ Some p → Stands text p
-front_stands text p h = at_blank (is_blank (slice_index text 0)) refl h
+pub prefix_stands : (text : List ℕ) (p : Piece) → prefix text ≡ Some p → Stands text p
+prefix_stands text p h = at_blank (is_blank (slice_index text 0)) refl h
   where
     at_slash : (v : Bool) → cond v (slash_piece text) (sign_piece text) ≡ Some p → Stands text p
     at_slash true g = slash_stands text p g
@@ -176,43 +176,43 @@ piece_nonempty [] after (numeral n (inr hexadecimal)) = cc
 piece_nonempty [] after (sign s is follows) = subst (λ p. 0 < length p) (sym is) (sign_text-nonempty s)
 
 -- where nothing is found no piece begins
-pub none_stands : (text : List ℕ) → front text ≡ None → (piece after : List ℕ) → text ≡ piece ++ after → IsPiece piece after → ⊥
+pub none_stands : (text : List ℕ) → prefix text ≡ None → (piece after : List ℕ) → text ≡ piece ++ after → IsPiece piece after → ⊥
 none_stands text h piece after e here =
-    let le = subst (λ l. length piece ≤ size l (front l)) (sym e) (bound piece after here) in
+    let le = subst (λ l. length piece ≤ size l (prefix l)) (sym e) (bound piece after here) in
     let none : length piece ≤ size text None = subst (λ o. length piece ≤ size text o) h le in
     omega (arith, piece_nonempty piece after here, none)
 
 -- a piece of the size that is found is the longest
-pub found_longest : (text : List ℕ) (p : Piece) (n : ℕ) → front text ≡ Some p → size text (Some p) ≡ n → n ≤ length text → IsPiece (take n text) (drop n text) → IsLongest (take n text) (drop n text)
+pub found_longest : (text : List ℕ) (p : Piece) (n : ℕ) → prefix text ≡ Some p → size text (Some p) ≡ n → n ≤ length text → IsPiece (take n text) (drop n text) → IsLongest (take n text) (drop n text)
 found_longest text p n h is within here = record {
   is_piece = here;
   longest = λ other rest stands same.
       let e : other ++ rest ≡ text = same ∙ take-append-drop n text in
-      let le = subst (λ l. length other ≤ size l (front l)) e (bound other rest stands) in
+      let le = subst (λ l. length other ≤ size l (prefix l)) e (bound other rest stands) in
       let at_most : length other ≤ size text (Some p) = subst (λ o. length other ≤ size text o) h le in
       omega (arith, at_most, is, length-take-le n text within);
 }
 
-cut : (text : List ℕ) (p : Piece) (n : ℕ) → front text ≡ Some p → size text (Some p) ≡ n → 0 < n → n ≤ length text → IsPiece (take n text) (drop n text) → IsCut text n
+cut : (text : List ℕ) (p : Piece) (n : ℕ) → prefix text ≡ Some p → size text (Some p) ≡ n → 0 < n → n ≤ length text → IsPiece (take n text) (drop n text) → IsCut text n
 cut text p n h is some within here = record { some = some; within = within; longest = found_longest text p n h is within here }
 
 -- what is found is the longest piece, with its meaning
-pub front_is : (text : List ℕ) (p : Piece) → front text ≡ Some p → IsFront text p
-front_is text (Gap n) h =
-    let w = front_stands text (Gap n) h in (cut text (Gap n) n h refl w.0 w.1 (gap w.2), w.2)
-front_is text Open h = front_stands text Open h
-front_is text (Name n) h =
-    let w = front_stands text (Name n) h in (cut text (Name n) n h refl w.0 w.1 (name w.2), w.2)
-front_is text (Decimal n) h =
-    let w = front_stands text (Decimal n) h in
+pub prefix_is : (text : List ℕ) (p : Piece) → prefix text ≡ Some p → IsFront text p
+prefix_is text (Gap n) h =
+    let w = prefix_stands text (Gap n) h in (cut text (Gap n) n h refl w.0 w.1 (gap w.2), w.2)
+prefix_is text Open h = prefix_stands text Open h
+prefix_is text (Name n) h =
+    let w = prefix_stands text (Name n) h in (cut text (Name n) n h refl w.0 w.1 (name w.2), w.2)
+prefix_is text (Decimal n) h =
+    let w = prefix_stands text (Decimal n) h in
     let here : IsNumeral (take n text) (value_in 10 (take n text)) = inl w.2 in
     (cut text (Decimal n) n h refl w.0 w.1 (numeral (value_in 10 (take n text)) here), here)
-front_is text (Hexadecimal n) h =
-    let w = front_stands text (Hexadecimal n) h in
+prefix_is text (Hexadecimal n) h =
+    let w = prefix_stands text (Hexadecimal n) h in
     let here : IsNumeral (take n text) (value_in 16 (drop 2 (take n text))) = inr w.2 in
     (cut text (Hexadecimal n) n h refl (omega (arith, w.0)) w.1 (numeral (value_in 16 (drop 2 (take n text))) here), here, omega (arith, w.0))
-front_is text (SignPiece s) h =
-    let w = front_stands text (SignPiece s) h in
+prefix_is text (SignPiece s) h =
+    let w = prefix_stands text (SignPiece s) h in
     let n : ℕ = length (sign_text s) in
     let taken : take n text ≡ sign_text s = ap (take n) w.0 ∙ take_at (sign_text s) (drop n text) n refl in
     (cut text (SignPiece s) n h refl (sign_text-nonempty s) (omega (arith, ap length w.0, length-append (sign_text s) (drop n text))) (sign s taken w.1), taken)

@@ -22,7 +22,7 @@ same_longest : (p r q s : List ℕ) → IsLongest p r → IsLongest q s → p ++
 same_longest p r q s h g e =
     same_split p r q s e (omega (arith, h.longest q s g.is_piece (sym e), g.longest p r h.is_piece e))
 
--- A text is cut, from a place on, into tokens up to another place: as Reads, but from the front.
+-- A text is cut, from a place on, into tokens up to another place: as Reads, but from the prefix.
 data Goes : List ℕ → List ℕ → List Lexeme → List ℕ → List ℕ → Type 0 where
   stop : (before left : List ℕ) → Goes before left [] before left
   past_gap : (before text : List ℕ) (tokens : List Lexeme) (end left piece rest : List ℕ) → text ≡ piece ++ rest → IsGap piece → IsLongest piece rest → Goes (before ++ piece) rest tokens end left → Goes before text tokens end left
@@ -58,7 +58,7 @@ one_way _ _ _ _ _ _ _ _ (past_token b l ts end left p r m e g long next) s (past
     let meant : m ≡ k = one_meaning p m k g (subst (λ x. Means x k) (sym same.0) g') in
     ((λ i. lexeme_at b (same.0 i) (meant i) ∷ later.0 i), later.1, later.2)
 
--- where a text begins to be read: behind a byte order mark, or else at once
+-- where a text begins to be read: after a byte order mark, or else at once
 abbrev Start : List ℕ → List ℕ → Type 0
 Start before text = (before ≡ byte_order_mark) ⊎ ((before ≡ []) × IsTrue (not (starts_with nat_eq text byte_order_mark)))
 

@@ -114,8 +114,8 @@ module _ (text : List ℕ) (place line n : ℕ) (tokens : List Lexeme) (read : I
         let same : lexeme_at before piece m ≡ record { meaning = m; line = line; from = place; to = place + n } =
         (λ i. record { meaning = m; line = sym read.line_is i; from = from_is i; to = to_is i }) in
         let here : Reads (before ++ piece) (tokens ++ lexeme_at before piece m ∷ []) (drop n (drop place text)) = token before piece (drop n (drop place text)) tokens m at_piece h cut.longest in
-        let told = subst (λ t. Reads (before ++ piece) (tokens ++ t ∷ []) (drop n (drop place text))) same here in
-        let moved = subst (λ b. Reads b (tokens ++ record { meaning = m; line = line; from = place; to = place + n } ∷ []) (drop n (drop place text))) (take_further text place n) told in
+        let reported = subst (λ t. Reads (before ++ piece) (tokens ++ t ∷ []) (drop n (drop place text))) same here in
+        let moved = subst (λ b. Reads b (tokens ++ record { meaning = m; line = line; from = place; to = place + n } ∷ []) (drop n (drop place text))) (take_further text place n) reported in
         subst (λ l. Reads (take (place + n) text) (tokens ++ record { meaning = m; line = line; from = place; to = place + n } ∷ []) l) (drop-drop n place text) moved;
   }
 
@@ -135,12 +135,12 @@ pub spelled : (text : List ℕ) (place line : ℕ) (tokens : List Lexeme) → Is
 spelled text place line tokens read h =
     subst (λ l. Reads l tokens []) (take_all place text h) (subst (λ l. Reads (take place text) tokens l) (drop_all place text h) read.reads)
 
--- a text that begins with the mark is read up to behind it
+-- a text that begins with the mark is read up to after it
 pub read_mark : (text : List ℕ) → starts_with nat_eq text byte_order_mark ≡ true → Reads (take 3 text) [] (drop 3 text)
 read_mark text h =
     let e : text ≡ byte_order_mark ++ drop 3 text = starts-true text byte_order_mark h in
-    let front : take 3 text ≡ byte_order_mark = ap (take 3) e in
-    subst (λ b. Reads b [] (drop 3 text)) (sym front) (marked (drop 3 text))
+    let prefix : take 3 text ≡ byte_order_mark = ap (take 3) e in
+    subst (λ b. Reads b [] (drop 3 text)) (sym prefix) (marked (drop 3 text))
 
 pub read_nothing : (text : List ℕ) → starts_with nat_eq text byte_order_mark ≡ false → Reads [] [] text
 read_nothing text h = unmarked text (not_false (starts_with nat_eq text byte_order_mark) h)

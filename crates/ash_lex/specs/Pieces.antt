@@ -24,7 +24,7 @@ abbrev pub IsBlockComment : List ℕ → Type 0
 IsBlockComment piece =
     (text : List ℕ) × (piece ≡ codes "/*" ++ (text ++ codes "*/")) × HasNoEnd (text ++ codes "*")
 
--- `/*` with no `*/` behind it
+-- `/*` with no `*/` after it
 abbrev pub IsOpenComment : List ℕ → Type 0
 IsOpenComment piece = (text : List ℕ) × (piece ≡ codes "/*" ++ text) × HasNoEnd text
 
@@ -50,7 +50,7 @@ IsHexadecimal piece n =
 abbrev pub IsNumeral : List ℕ → ℕ → Type 0
 IsNumeral piece n = IsDecimal piece n ⊎ IsHexadecimal piece n
 
--- a piece of a text, in front of what follows it
+-- a piece of a text, before what follows it
 pub data IsPiece (piece after : List ℕ) : Type 0 where
   gap : IsGap piece → IsPiece piece after
   -- a comment without an end takes the rest of the text
@@ -59,7 +59,7 @@ pub data IsPiece (piece after : List ℕ) : Type 0 where
   numeral : (n : ℕ) → IsNumeral piece n → IsPiece piece after
   sign : (s : Sign) → piece ≡ sign_text s → IsTrue (may_follow s after) → IsPiece piece after
 
--- a piece in front of what follows it, and no longer piece begins at its place
+-- a piece before what follows it, and no longer piece begins at its place
 pub record IsLongest (piece after : List ℕ) : Type 0 where
   pub is_piece : IsPiece piece after
   pub longest : (other rest : List ℕ) → IsPiece other rest → other ++ rest ≡ piece ++ after → length other ≤ length piece

@@ -1,4 +1,4 @@
--- How the longest piece at the front of a text is found, by its first bytes. That it is the longest is
+-- How the longest piece at the prefix of a text is found, by its first bytes. That it is the longest is
 -- proved of it.
 use Rattle.std.specs.Prelude.{◌&&◌, ℕ, ◌+◌, Bool, not, List, [], ◌∷◌, length, Option, Some, None, find, drop, nat_eq, slice_index, codes, if◌then◌else◌}
 use Rattle.std.specs.Option.{option_map}
@@ -53,7 +53,7 @@ comment_end [] = None
 comment_end (b ∷ bs) =
     if starts_with nat_eq (b ∷ bs) (codes "*/") then Some 2 else option_map (λ n. n + 1) (comment_end bs)
 
--- the comment whose text, behind the `/*`, begins so
+-- the comment whose text, after the `/*`, begins so
 abbrev pub block_comment : Option ℕ → Piece
 block_comment None = Open
 block_comment (Some n) = Gap (2 + n)
@@ -75,8 +75,8 @@ numeral_piece text =
     else Decimal (prefix_len is_digit text)
 
 -- the longest piece that the text begins with
-abbrev pub front : List ℕ → Option Piece
-front text =
+abbrev pub prefix : List ℕ → Option Piece
+prefix text =
     if is_blank (slice_index text 0) then Some (Gap 1)
     else (if is_letter (slice_index text 0) then Some (Name (prefix_len is_word text))
     else (if is_digit (slice_index text 0) then Some (numeral_piece text)

@@ -1,4 +1,4 @@
--- One step of the lexer, at the front of what is left of a text.
+-- One step of the lexer, at the prefix of what is left of a text.
 use Rattle.std.specs.Prelude.{◌≡◌, ℕ, ◌<◌, ◌≤◌, List, length, take, drop}
 use Rattle.ash_lex.specs.Bytes.{value_in}
 use Rattle.ash_lex.specs.Signs.{sign_text}
@@ -17,7 +17,7 @@ pub record IsCut (text : List ℕ) (n : ℕ) : Type 0 where
   pub within : n ≤ length text
   pub longest : IsLongest (take n text) (drop n text)
 
--- what the longest piece at the front of a text is
+-- what the longest piece at the prefix of a text is
 abbrev pub IsFront : List ℕ → Piece → Type 0
 IsFront text (GapPiece n) = IsCut text n × IsGap (take n text)
 IsFront text Open = IsOpenComment text
@@ -32,7 +32,7 @@ abbrev pub IsStep : List ℕ → Step → Type 0
 IsStep text (Gap n) = IsCut text n × IsGap (take n text)
 IsStep text (Token kind n) = IsCut text n × Means (take n text) (meaning_of kind)
 
--- the fault stands at the front of what is left, or memory ran out
+-- the fault stands at the prefix of what is left, or memory ran out
 abbrev pub StopsStep : ℕ → List ℕ → LexFault → Type 0
 StopsStep place left NoMemory = Unit {0}
 StopsStep place left fault = FaultAt place left fault

@@ -56,7 +56,7 @@ Means piece (unsupported w) = piece ≡ unsupported_text w
 abbrev pub byte_order_mark : List ℕ
 byte_order_mark = 0xef ∷ 0xbb ∷ 0xbf ∷ []
 
--- the token that a piece is, behind the bytes before it: a line is 1 and the line feeds before it
+-- the token that a piece is, after the bytes before it: a line is 1 and the line feeds before it
 abbrev pub lexeme_at : List ℕ → List ℕ → Meaning → Lexeme
 lexeme_at before piece m =
     record { meaning = m; line = 1 + count_by is_line_feed before; from = length before; to = length before + length piece }
@@ -78,7 +78,7 @@ Spells text tokens = Reads text tokens []
 abbrev pub BeginsNothing : List ℕ → Type 0
 BeginsNothing text = (piece after : List ℕ) → text ≡ piece ++ after → ¬ IsPiece piece after
 
--- the fault that stands at a place, in front of what is left: a character that begins no piece, a
+-- the fault that stands at a place, before what is left: a character that begins no piece, a
 -- comment without an end, or a numeral of 2^64 or more
 abbrev pub FaultAt : ℕ → List ℕ → LexFault → Type 0
 FaultAt place left (BadCharacter at) =
@@ -101,7 +101,7 @@ IsRefusal text SourceTooLong = 65536 < length text
 IsRefusal text NoMemory = Unit {0}
 IsRefusal text fault = (length text ≤ 65536) × FirstFault text fault
 
--- each token stands at or behind the place, and ends before the next begins and at most at the end
+-- each token stands at or after the place, and ends before the next begins and at most at the end
 abbrev pub Rises : ℕ → ℕ → List Lexeme → Type 0
 Rises place end [] = place ≤ end
 Rises place end (t ∷ ts) = (place ≤ t.from) × (t.from < t.to) × Rises t.to end ts

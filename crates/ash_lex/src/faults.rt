@@ -12,10 +12,10 @@ pub enum LexFault {
     /// A character that begins no token, no comment and no blank.
     #[error("101 BadCharacter {at}")]
     BadCharacter { at: usize },
-    /// A `/*` without its `*/`, told at the `/*`.
+    /// A `/*` without its `*/`, reported at the `/*`.
     #[error("102 UnclosedComment {at}")]
     UnclosedComment { at: usize },
-    /// A number of 2^64 or more, told at its first digit.
+    /// A number of 2^64 or more, reported at its first digit.
     #[error("103 NumberTooLarge {at}")]
     NumberTooLarge { at: usize },
     /// A text of more than 65,536 bytes, whatever is in it.

@@ -11,7 +11,7 @@ ghost use Rattle.ash_lex.specs.Steps.{IsStep, StopsStep, StopsText};
 use crate::bytes::line_feeds;
 use crate::faults::LexFault;
 use crate::numbers::value_in;
-use crate::pieces::{Piece, begins_with_blank, front};
+use crate::pieces::{Piece, begins_with_blank, prefix};
 use crate::tokens::{Token, TokenKind};
 use crate::words::{reserved_word, unsupported_word};
 use std::alloc::Global;
@@ -62,7 +62,7 @@ fn number(base: u64, digits: &[u8], at: usize) -> Result<TokenKind, LexFault>
     }
 }
 
-/// Passes the longest piece at the front of what is left of the text, which begins at the offset `at`.
+/// Passes the longest piece at the prefix of what is left of the text, which begins at the offset `at`.
 fn next_step(alloc: Global, left: &[u8], at: usize) -> Result<Step, LexFault>
     requires { 0 < length left.now }
     ensures passes { IfOk result (λ step. IsStep left.now step) }
@@ -72,7 +72,7 @@ fn next_step(alloc: Global, left: &[u8], at: usize) -> Result<Step, LexFault>
     if begins_with_blank(left) {
         return Ok(Step::Gap(1));
     }
-    let Some(piece) = front(left) else {
+    let Some(piece) = prefix(left) else {
         return Err(LexFault::BadCharacter { at });
     };
     match piece {

@@ -12,7 +12,7 @@ use crate::bytes::{
 };
 use crate::signs::{Sign, sign_at};
 
-/// What stands at the front of a text, with its length in bytes.
+/// What stands at the prefix of a text, with its length in bytes.
 #[derive(Clone, Copy, Debug)]
 pub enum Piece {
     /// A blank or a comment.
@@ -46,7 +46,7 @@ fn comment_end(text: &[u8]) -> Option<usize>
     }
 }
 
-/// The comment whose text, behind its `/*`, is the front of this one.
+/// The comment whose text, after its `/*`, is the prefix of this one.
 fn block_comment(text: &[u8]) -> Piece
     requires { length text.now + 2 < 2 ^ 64 }
     ensures { result ≡ spec.block_comment (spec.comment_end text.now) }
@@ -95,7 +95,7 @@ fn numeral(text: &[u8]) -> Piece
 /// What the first byte says of the longest piece.
 fn by_first_byte(text: &[u8]) -> Option<Piece>
     requires { 0 < length text.now }
-    ensures { result ≡ spec.front text.now }
+    ensures { result ≡ spec.prefix text.now }
 {
     let first = text[0];
     if is_blank(first) {
@@ -120,7 +120,7 @@ pub fn begins_with_blank(text: &[u8]) -> bool
 }
 
 /// The longest piece that the text begins with.
-pub fn front(text: &[u8]) -> Option<Piece>
+pub fn prefix(text: &[u8]) -> Option<Piece>
     requires { 0 < length text.now }
     ensures { MatchOption result (BeginsNothing text.now) (IsFront text.now) }
 {

@@ -9,7 +9,7 @@ use crate::bytes::begins_with_word;
 use std::fmt;
 
 /// A sign of the language. `**` and `::` are signs of AngelScript that this profile doesn't have: they
-/// are told apart here, so that the parser can name them.
+/// are reported apart here, so that the parser can name them.
 #[derive(Clone, Copy, Debug, PartialEq, Eq, Hash)]
 pub enum Sign {
     /// `(`
@@ -190,7 +190,7 @@ fn not_sign(after: &[u8]) -> Sign
     ensures { Some result ≡ first_sign (33 ∷ after.now) }
 {
     match after {
-        [b'i', b's', behind @ ..] if !begins_with_word(behind) => Sign::NotIs,
+        [b'i', b's', rest @ ..] if !begins_with_word(rest) => Sign::NotIs,
         [b'=', ..] => Sign::NotEqual,
         _ => Sign::LogicalNot,
     }

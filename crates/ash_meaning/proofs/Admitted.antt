@@ -2,7 +2,7 @@
 use Rattle.std.proofs.Common.{◌≡◌, ℕ, ◌≤◌, inl, inr, List, length, Some, None, sym, ◌∙◌, ap, subst, arith}
 use Rattle.std.specs.Bool.{IsTrue}
 use Rattle.std.proofs.lemmas.Bool.{cases_lt}
-use Rattle.ash_registry.specs.Calls.{Call}
+use Rattle.ash_registry.specs.Calls.{Registration}
 use Rattle.ash_meaning.specs.declared.loaded_module.LoadedModule as declared
 use Rattle.ash_meaning.specs.declared.request.Argument.{Argument}
 use Rattle.ash_meaning.specs.StoredModules.{IsAdmitted}
@@ -17,7 +17,7 @@ use Rattle.ash_meaning.proofs.Typed.{IsTypedModule, IsTypedFunction}
 use Rattle.ash_meaning.proofs.TypedRuns.{AreInts, load_globals-ints, call-ints, first_where-all, words_for-ints}
 
 -- a module that was loaded
-pub load_preserves : (registered : List Call) (budget : ℕ) (name source : List ℕ) (end : End)
+pub load_preserves : (registered : List Registration) (budget : ℕ) (name source : List ℕ) (end : End)
     (s : declared.LoadedModule) → IsTrue (is_module_name name) → IsLoaded registered budget name source end s
     → IsConsistent registered s
 load_preserves registered budget name source end s is is_loaded =
@@ -39,7 +39,7 @@ load_preserves registered budget name source end s is is_loaded =
     }
 
 -- a module of which a function was called
-pub call_preserves : (registered : List Call) (budget : ℕ) (name : List ℕ) (arguments : List Argument)
+pub call_preserves : (registered : List Registration) (budget : ℕ) (name : List ℕ) (arguments : List Argument)
     (old : declared.LoadedModule) (end : End) (new : declared.LoadedModule) → IsConsistent registered old
     → IsCalled budget name arguments old end new → IsConsistent registered new
 call_preserves registered budget name arguments old end new consistent called =
@@ -72,7 +72,7 @@ call_preserves registered budget name arguments old end new consistent called =
       };
     })
 
-short : (registered : List Call) (source : List ℕ) (tree : Module) → module_read registered source ≡ Some tree
+short : (registered : List Registration) (source : List ℕ) (tree : Module) → module_read registered source ≡ Some tree
     → length source ≤ 65536
 short registered source tree read = elim (cases_lt 65536 (length source)) [
   | inl long ↦ let none : module_read registered source ≡ None = module_read-long registered source long in absurd (cc)
@@ -80,12 +80,12 @@ short registered source tree read = elim (cases_lt 65536 (length source)) [
 ]
 
 -- a module that a host may keep has a source of 65,536 bytes at most
-pub admitted-source : (registered : List Call) (loaded : LoadedModule) → IsAdmitted registered loaded
+pub admitted-source : (registered : List Registration) (loaded : LoadedModule) → IsAdmitted registered loaded
     → length loaded.source ≤ 65536
 admitted-source registered loaded is = short registered loaded.source is.tree is.read
 
 -- and 256 globals at most
-pub admitted-globals : (registered : List Call) (loaded : LoadedModule) → IsAdmitted registered loaded
+pub admitted-globals : (registered : List Registration) (loaded : LoadedModule) → IsAdmitted registered loaded
     → length loaded.globals ≤ 256
 admitted-globals registered loaded is =
     let typed = module_read-typed registered loaded.source is.tree is.read in

@@ -7,7 +7,7 @@ use Rattle.std.proofs.Math.ListN.{set, length-set}
 use Rattle.std.proofs.lemmas.List.{length-map}
 use Rattle.std.proofs.lemmas.List.Edits.{length-remove}
 use Rattle.ash_host.specs.declared.word.Word.{Word}
-use Rattle.ash_registry.specs.Calls.{Call}
+use Rattle.ash_registry.specs.Calls.{Registration}
 use Rattle.ash_meaning.specs.declared.loaded_module.LoadedModule as declared
 use Rattle.ash_meaning.specs.StoredModules.{IsAdmitted, Admits}
 use Rattle.ash_subset.specs.Meaning.{End, Finished, Threw, Aborted}
@@ -20,7 +20,7 @@ use Rattle.ash_meaning.proofs.Ascending.{length-with_module}
 use Rattle.ash_meaning.proofs.Places.{all-at, all-set, all-remove, changed_at, found_within, removed_at}
 
 -- where one has other globals
-pub consistent-set : (registered : List Call) (name : List ℕ) (globals : List Word)
+pub consistent-set : (registered : List Registration) (name : List ℕ) (globals : List Word)
     (modules : List declared.LoadedModule) (place : ℕ) (new d : declared.LoadedModule) →
     AreConsistent registered modules → position (λ (s : declared.LoadedModule). has_name name (loaded_module_of s))
     modules ≡ Some place →
@@ -35,7 +35,7 @@ consistent-set registered name globals modules place new d consistent e changed 
 }
 
 -- where one is removed
-pub consistent-remove : (registered : List Call) (name : List ℕ) (modules : List declared.LoadedModule) (place : ℕ) →
+pub consistent-remove : (registered : List Registration) (name : List ℕ) (modules : List declared.LoadedModule) (place : ℕ) →
     AreConsistent registered modules → position (λ (s : declared.LoadedModule). has_name name (loaded_module_of s))
     modules ≡ Some place → AreConsistent registered (remove modules place)
 consistent-remove registered name modules place consistent e =
@@ -49,7 +49,7 @@ consistent-remove registered name modules place consistent e =
     }
 
 -- where one is inserted
-pub consistent-with : (registered : List Call) (new : declared.LoadedModule) (old modules : List declared.LoadedModule)
+pub consistent-with : (registered : List Registration) (new : declared.LoadedModule) (old modules : List declared.LoadedModule)
     →
     AreConsistent registered old → first_where (has_name (loaded_module_of new).name) (loaded_modules_of old) ≡ None
     → length old < max_modules →
@@ -70,7 +70,7 @@ consistent-with registered new old modules consistent absent few inserted each =
 }
 
 -- what is kept at the place of a name
-pub consistent-at : (registered : List Call) (name : List ℕ) (modules : List declared.LoadedModule) (place : ℕ)
+pub consistent-at : (registered : List Registration) (name : List ℕ) (modules : List declared.LoadedModule) (place : ℕ)
     (loaded : declared.LoadedModule) →
     AreConsistent registered modules → position (λ (s : declared.LoadedModule). has_name name (loaded_module_of s))
     modules ≡ Some place → loaded ≡ get_or modules place loaded → IsConsistent registered loaded
@@ -79,7 +79,7 @@ consistent-at registered name modules place loaded consistent e own =
     subst (IsConsistent registered) (sym own)
     (all-at (IsConsistent registered) modules place loaded within consistent.each)
 
-consistent-same : (registered : List Call) (old modules : List declared.LoadedModule) → AreConsistent registered old
+consistent-same : (registered : List Registration) (old modules : List declared.LoadedModule) → AreConsistent registered old
     → loaded_modules_of modules ≡ loaded_modules_of old → AllByRecursion (IsConsistent registered) modules
     → AreConsistent registered modules
 consistent-same registered old modules consistent same each = record {
@@ -95,7 +95,7 @@ consistent-same registered old modules consistent same each = record {
 }
 
 -- where the initializers of one came to an end
-pub consistent-end_and_globals : (registered : List Call) (new : declared.LoadedModule) (end : End)
+pub consistent-end_and_globals : (registered : List Registration) (new : declared.LoadedModule) (end : End)
     (old modules : List declared.LoadedModule) →
     AreConsistent registered old → first_where (has_name (loaded_module_of new).name) (loaded_modules_of old) ≡ None
     → length old < max_modules →
@@ -108,14 +108,14 @@ consistent-end_and_globals registered new (Threw exception function line) old mo
 consistent-end_and_globals registered new (Aborted function line) old modules consistent absent few left each =
     consistent-same registered old modules consistent left each
 
-each_admitted : (registered : List Call) (modules : List declared.LoadedModule)
+each_admitted : (registered : List Registration) (modules : List declared.LoadedModule)
     → AllByRecursion (IsConsistent registered) modules
     → AllByRecursion (IsAdmitted registered) (loaded_modules_of modules)
 each_admitted registered [] h = tt
 each_admitted registered (one ∷ more) h = (h.0.admitted, each_admitted registered more h.1)
 
 -- a state with such modules is one that a host may keep
-pub consistent-admitted : (registered : List Call) (modules : List declared.LoadedModule) (seq : ℕ)
+pub consistent-admitted : (registered : List Registration) (modules : List declared.LoadedModule) (seq : ℕ)
     → AreConsistent registered modules → Admits (state_of registered modules seq)
 consistent-admitted registered modules seq consistent = record {
   count = omega (arith, length-map modules loaded_module_of, consistent.count);

@@ -3,7 +3,7 @@ use Rattle.std.proofs.Common.{◌≡◌, ◌↔◌, ℕ, ◌<◌, ◌⊎◌, inl
 use Rattle.std.proofs.Common.{IfErr, refl, sym, ◌∙◌, ap, subst}
 use Rattle.ash_lex.specs.Tokens.{Lexeme}
 use Rattle.ash_tree.specs.Tree.{Item}
-use Rattle.ash_registry.specs.Calls.{Call}
+use Rattle.ash_registry.specs.Calls.{Registration}
 use Rattle.ash_meaning.specs.Lexing.{Lexes}
 use Rattle.ash_classes.specs.References.{classes_of}
 use Rattle.ash_check.specs.Checks.{Broken, Cyclic, round_of}
@@ -42,17 +42,17 @@ script_only items (Err refusal) h = refusal_only items refusal h
 
 -- what is read of a source
 
-read_checked-is : (registered : List Call) (source : List ℕ) (checking : CheckResult)
+read_checked-is : (registered : List Registration) (source : List ℕ) (checking : CheckResult)
     → Checks registered source checking → Reads registered source (read_checked checking)
 read_checked-is registered source (Ok items) h = typed items h (script_is items (resolved items) refl)
 read_checked-is registered source (Err refusal) h = refused refusal refl h
 
-read_source-is : (registered : List Call) (source : List ℕ) → Reads registered source (read_source registered source)
+read_source-is : (registered : List Registration) (source : List ℕ) → Reads registered source (read_source registered source)
 unfolding read_source
 read_source-is registered source = read_checked-is registered source (checked_source registered source)
     (checked_source-is registered source)
 
-pub read_source-only : (registered : List Call) (source : List ℕ) (reading : ReadResult)
+pub read_source-only : (registered : List Registration) (source : List ℕ) (reading : ReadResult)
     → Reads registered source reading → read_source registered source ≡ reading
 unfolding read_source
 read_source-only registered source reading (refused refusal e h) =
@@ -60,7 +60,7 @@ read_source-only registered source reading (refused refusal e h) =
 read_source-only registered source reading (typed items h reads) =
     ap read_checked (checked_source-only registered source (Ok items) h) ∙ script_only items reading reads
 
-pub read_source-exact : (registered : List Call) (source : List ℕ) (reading : ReadResult)
+pub read_source-exact : (registered : List Registration) (source : List ℕ) (reading : ReadResult)
     → (read_source registered source ≡ reading) ↔ Reads registered source reading
 read_source-exact registered source reading = (
   λ e. subst (Reads registered source) e (read_source-is registered source),
@@ -68,32 +68,32 @@ read_source-exact registered source reading = (
 )
 
 -- a source that is checked is read as its script is
-of_script : (registered : List Call) (source : List ℕ) (items : List Item) → checked_source registered source ≡ Ok items
+of_script : (registered : List Registration) (source : List ℕ) (items : List Item) → checked_source registered source ≡ Ok items
     → read_source registered source ≡ module_or_none (resolved items)
 unfolding read_source
 of_script registered source items e = ap read_checked e
 
 -- and one that isn't is refused
-of_unchecked : (registered : List Call) (source : List ℕ) (refusal : Refusal)
+of_unchecked : (registered : List Registration) (source : List ℕ) (refusal : Refusal)
     → checked_source registered source ≡ Err refusal → read_source registered source ≡ Err refusal
 unfolding read_source
 of_unchecked registered source refusal e = ap read_checked e
 
 -- the module that a source is read as is typed
 
-read_typed : (registered : List Call) (source : List ℕ) (tree : Module) (reading : ReadResult)
+read_typed : (registered : List Registration) (source : List ℕ) (tree : Module) (reading : ReadResult)
     → Reads registered source reading → reading ≡ Ok tree → IsTypedModule tree
 read_typed registered source tree reading (refused refusal e h) is = absurd (cc)
 read_typed registered source tree reading (typed items h reads) is =
     resolved-typed items tree (subst (ReadsScript items) is reads)
 
 -- a source of more than 65,536 bytes
-pub read_source-long : (registered : List Call) (source : List ℕ) → 65536 < length source
+pub read_source-long : (registered : List Registration) (source : List ℕ) → 65536 < length source
     → read_source registered source ≡ Err refusals.SourceTooLong
 read_source-long registered source h = of_unchecked registered source refusals.SourceTooLong
     (of_refusal registered source refusals.SourceTooLong h)
 
-pub module_read-long : (registered : List Call) (source : List ℕ) → 65536 < length source
+pub module_read-long : (registered : List Registration) (source : List ℕ) → 65536 < length source
     → module_read registered source ≡ None
 module_read-long registered source h = ap module_in (read_source-long registered source h)
 
@@ -101,7 +101,7 @@ module_in-some : (r : ReadResult) (tree : Module) → module_in r ≡ Some tree 
 module_in-some (Ok other) tree e = cc
 module_in-some (Err refusal) tree e = absurd (cc)
 
-pub module_read-typed : (registered : List Call) (source : List ℕ) (tree : Module)
+pub module_read-typed : (registered : List Registration) (source : List ℕ) (tree : Module)
     → module_read registered source ≡ Some tree → IsTypedModule tree
 module_read-typed registered source tree e =
     read_typed registered source tree (read_source registered source) (read_source-is registered source)
@@ -110,64 +110,64 @@ module_read-typed registered source tree e =
 -- what a source is refused for
 
 -- a refusal that reading reports
-abbrev pub IsTold : Refusal → Type 0
-IsTold refusals.SourceTooLong = Unit {0}
-IsTold refusal = TakesMemoryToRefuse refusal
+abbrev pub IsReported : Refusal → Type 0
+IsReported refusals.SourceTooLong = Unit {0}
+IsReported refusal = TakesMemoryToRefuse refusal
 
-takes_is_reported : (refusal : Refusal) → TakesMemoryToRefuse refusal → IsTold refusal
+takes_is_reported : (refusal : Refusal) → TakesMemoryToRefuse refusal → IsReported refusal
 takes_is_reported refusals.SourceTooLong h = tt
 takes_is_reported refusal h = h
 
-lexes_reported : (source : List ℕ) (refusal : Refusal) → Lexes source (Err refusal) → IsTold refusal
+lexes_reported : (source : List ℕ) (refusal : Refusal) → Lexes source (Err refusal) → IsReported refusal
 lexes_reported source refusals.SourceTooLong h = tt
 lexes_reported source (refusals.BadCharacter at) h = tt
 lexes_reported source (refusals.UnclosedComment at) h = tt
 lexes_reported source (refusals.NumberTooLarge at) h = tt
 lexes_reported source _ h = absurd h
 
-stop_reported : (tokens : List Lexeme) (refusal : Refusal) → IsNoScript tokens refusal → IsTold refusal
+stop_reported : (tokens : List Lexeme) (refusal : Refusal) → IsNoScript tokens refusal → IsReported refusal
 stop_reported tokens refusal h = takes_is_reported refusal
     (subst TakesMemoryToRefuse (sym h.reported) (takes_halt tokens h.halt))
 
-untyped_reported : (registered : List Call) (tokens : List Lexeme) (refusal : Refusal)
-    → IsUntypedScript registered tokens refusal → IsTold refusal
+untyped_reported : (registered : List Registration) (tokens : List Lexeme) (refusal : Refusal)
+    → IsUntypedScript registered tokens refusal → IsReported refusal
 untyped_reported registered tokens refusal h =
     takes_is_reported refusal (subst TakesMemoryToRefuse (sym h.reported) (takes_untyped (Broken h.fault)))
 
-cyclic_reported : (registered : List Call) (tokens : List Lexeme) (refusal : Refusal)
-    → IsCyclicScript registered tokens refusal → IsTold refusal
+cyclic_reported : (registered : List Registration) (tokens : List Lexeme) (refusal : Refusal)
+    → IsCyclicScript registered tokens refusal → IsReported refusal
 cyclic_reported registered tokens refusal h =
     takes_is_reported refusal (subst TakesMemoryToRefuse (sym h.reported)
     (takes_untyped (Cyclic (round_of (classes_of h.items) (h.first, h.others)))))
 
-tokens_reported : (registered : List Call) (tokens : List Lexeme) (refusal : Refusal) → IsNoScript tokens refusal
-    ⊎ IsUntypedScript registered tokens refusal ⊎ IsCyclicScript registered tokens refusal → IsTold refusal
+tokens_reported : (registered : List Registration) (tokens : List Lexeme) (refusal : Refusal) → IsNoScript tokens refusal
+    ⊎ IsUntypedScript registered tokens refusal ⊎ IsCyclicScript registered tokens refusal → IsReported refusal
 tokens_reported registered tokens refusal (inl h) = stop_reported tokens refusal h
 tokens_reported registered tokens refusal (inr (inl h)) = untyped_reported registered tokens refusal h
 tokens_reported registered tokens refusal (inr (inr h)) = cyclic_reported registered tokens refusal h
 
-checks_reported : (registered : List Call) (source : List ℕ) (checking : CheckResult) (refusal : Refusal)
-    → Checks registered source checking → checking ≡ Err refusal → IsTold refusal
+checks_reported : (registered : List Registration) (source : List ℕ) (checking : CheckResult) (refusal : Refusal)
+    → Checks registered source checking → checking ≡ Err refusal → IsReported refusal
 checks_reported registered source checking refusal (no_tokens other e h) is =
     let same : other ≡ refusal = cc in
-    subst IsTold same (lexes_reported source other h)
+    subst IsReported same (lexes_reported source other h)
 checks_reported registered source checking refusal (has_tokens ts h checks) is =
     tokens_reported registered ts refusal (subst (ChecksTokens registered ts) is checks)
 
-script_reported : (items : List Item) (refusal : Refusal) → ReadsScript items (Err refusal) → IsTold refusal
+script_reported : (items : List Item) (refusal : Refusal) → ReadsScript items (Err refusal) → IsReported refusal
 script_reported items refusals.NotYet h = tt
 script_reported items _ h = absurd h
 
-reported_in : (registered : List Call) (source : List ℕ) (reading : ReadResult) (refusal : Refusal)
-    → Reads registered source reading → reading ≡ Err refusal → IsTold refusal
+reported_in : (registered : List Registration) (source : List ℕ) (reading : ReadResult) (refusal : Refusal)
+    → Reads registered source reading → reading ≡ Err refusal → IsReported refusal
 reported_in registered source reading refusal (refused other e h) is =
     let same : other ≡ refusal = cc in
-    subst IsTold same (checks_reported registered source (Err other) other h refl)
+    subst IsReported same (checks_reported registered source (Err other) other h refl)
 reported_in registered source reading refusal (typed items h reads) is =
     script_reported items refusal (subst (ReadsScript items) is reads)
 
-pub read_source-reported : (registered : List Call) (source : List ℕ) (refusal : Refusal)
-    → read_source registered source ≡ Err refusal → IsTold refusal
+pub read_source-reported : (registered : List Registration) (source : List ℕ) (refusal : Refusal)
+    → read_source registered source ≡ Err refusal → IsReported refusal
 read_source-reported registered source refusal e =
     reported_in registered source (read_source registered source) refusal (read_source-is registered source) e
 
@@ -181,12 +181,12 @@ takes_checked : (checking : CheckResult) → TakesMemoryToCheck checking → Tak
 takes_checked (Ok items) h = takes_module (resolved items)
 takes_checked (Err refusal) h = h
 
-takes_source : (registered : List Call) (source : List ℕ) → TakesMemoryToCheck (checked_source registered source)
+takes_source : (registered : List Registration) (source : List ℕ) → TakesMemoryToCheck (checked_source registered source)
     → TakesMemoryToRead (read_source registered source)
 unfolding read_source
 takes_source registered source h = takes_checked (checked_source registered source) h
 
-pub check_refused : (registered : List Call) (source : List ℕ) (refusal : Refusal)
+pub check_refused : (registered : List Registration) (source : List ℕ) (refusal : Refusal)
     → ((refusal ≡ refusals.NoMemory) × TakesMemoryToCheck (checked_source registered source))
     ⊎ (checked_source registered source ≡ Err refusal)
     → ((refusal ≡ refusals.NoMemory) × TakesMemoryToRead (read_source registered source))
@@ -194,14 +194,14 @@ pub check_refused : (registered : List Call) (source : List ℕ) (refusal : Refu
 check_refused registered source refusal (inl h) = inl (h.0, takes_source registered source h.1)
 check_refused registered source refusal (inr h) = inr (of_unchecked registered source refusal h)
 
-pub module_found : (registered : List Call) (source : List ℕ) (items : List Item)
+pub module_found : (registered : List Registration) (source : List ℕ) (items : List Item)
     → checked_source registered source ≡ Ok items → (r : Result code.Module code_refusal.Refusal)
     → IfOk r (λ tree. module_or_none (resolved items) ≡ Ok (module_of tree))
     → IfOk r (λ tree. read_source registered source ≡ Ok (module_of tree))
 module_found registered source items h (Ok tree) e = of_script registered source items h ∙ e
 module_found registered source items h (Err refusal) e = tt
 
-refused_by : (registered : List Call) (source : List ℕ) (items : List Item)
+refused_by : (registered : List Registration) (source : List ℕ) (items : List Item)
     → checked_source registered source ≡ Ok items → (refusal : Refusal) → (refusal ≡ refusals.NoMemory)
     ⊎ (module_or_none (resolved items) ≡ Err refusal)
     → ((refusal ≡ refusals.NoMemory) × TakesMemoryToRead (read_source registered source))
@@ -210,7 +210,7 @@ refused_by registered source items h refusal (inl e) =
     inl (e, subst TakesMemoryToRead (sym (of_script registered source items h)) (takes_module (resolved items)))
 refused_by registered source items h refusal (inr e) = inr (of_script registered source items h ∙ e)
 
-pub module_refused : (registered : List Call) (source : List ℕ) (items : List Item)
+pub module_refused : (registered : List Registration) (source : List ℕ) (items : List Item)
     → checked_source registered source ≡ Ok items → (r : Result code.Module code_refusal.Refusal)
     → IfErr r (λ refusal. (refusal_of refusal ≡ refusals.NoMemory)
     ⊎ (module_or_none (resolved items) ≡ Err (refusal_of refusal)))

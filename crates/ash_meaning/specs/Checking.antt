@@ -15,11 +15,11 @@ use Rattle.ash_tree.specs.Tree.{Item}
 use Rattle.ash_tree.specs.Grammar.{Derives}
 use Rattle.ash_parse.specs.declared.faults.ParseFault.{ParseFault}
 use Rattle.ash_parse.specs.declared.faults.ParseFault.TheVariants as faults
-use Rattle.ash_parse.specs.Reading.{Halt, Reading as Parsing}
+use Rattle.ash_parse.specs.Readers.{Halt, ParseResult}
 use Rattle.ash_parse.specs.ItemReader.{module_at}
 use Rattle.ash_parse.specs.Faults.{fault_of}
 use Rattle.ash_parse.specs.FirstFault.{FirstFault}
-use Rattle.ash_registry.specs.Calls.{Call as Registration}
+use Rattle.ash_registry.specs.Calls.{Registration}
 use Rattle.ash_typing.specs.declared.fault.Rule.{Rule}
 use Rattle.ash_typing.specs.declared.fault.Rule.TheVariants as rules
 use Rattle.ash_typing.specs.declared.fault.Fault.{Fault}
@@ -27,8 +27,8 @@ use Rattle.ash_typing.specs.Items.{module_typed}
 use Rattle.ash_typing.specs.TypedModules.{IsTyped}
 use Rattle.ash_typed.specs.Modules.{Module}
 use Rattle.ash_classes.specs.References.{Refers, classes_of}
-use Rattle.ash_classes.specs.Ways.{IsTold, Reaches}
-use Rattle.ash_check.specs.Checks.{Told, Broken, Cyclic, checked, told_of, round_of}
+use Rattle.ash_classes.specs.Ways.{IsReported, Reaches}
+use Rattle.ash_check.specs.Checks.{ScriptFault, Broken, Cyclic, checked, script_fault_of, round_of}
 use Rattle.ash_check.specs.declared.faults.CheckFault.{CheckFault}
 use Rattle.ash_meaning.specs.Lexing.{Lexes}
 use Rattle.ash_meaning.specs.Scanning.{lexed}
@@ -92,17 +92,17 @@ broken_at rules.ConstantOutOfRange at = refusals.ConstantOutOfRange at
 broken_at rules.DuplicateCase at = refusals.DuplicateCase at
 
 -- the refusal of what the check of types reports
-abbrev pub untyped : Told → Refusal
+abbrev pub untyped : ScriptFault → Refusal
 untyped (Broken fault) = broken_at fault.rule fault.at
 untyped (Cyclic names) = refusals.CyclicType names
 
 -- the refusal of a fault of the check of types, which reports nothing where memory was refused
-abbrev pub refusal_of_error : Option Told → Refusal
+abbrev pub refusal_of_error : Option ScriptFault → Refusal
 refusal_of_error (Some why) = untyped why
 refusal_of_error None = refusals.NoMemory
 
 abbrev pub of_check : CheckFault → Refusal
-of_check fault = refusal_of_error (told_of fault)
+of_check fault = refusal_of_error (script_fault_of fault)
 
 -- The tokens are those of a script with these items: the rules of typing give it a typed module, and no class reaches
 -- itself.
@@ -132,7 +132,7 @@ pub record IsCyclicScript (registered : List Registration) (tokens : List Lexeme
   pub by_rules : IsTyped registered items typed
   pub first : ℕ
   pub others : List ℕ
-  pub cycle : IsTold (Refers (classes_of items)) first others
+  pub cycle : IsReported (Refers (classes_of items)) first others
   pub reported : refusal ≡ refusals.CyclicType (round_of (classes_of items) (first, others))
 
 -- what checking the tokens of a source comes to
@@ -177,14 +177,14 @@ pub record ReportsCycle (registered : List Registration) (source : List ℕ) (re
 
 -- The same as a function: that it gives what checking the source comes to is proved of it.
 
-abbrev pub unless_fault : List Item → Result Module Told → CheckResult
+abbrev pub unless_fault : List Item → Result Module ScriptFault → CheckResult
 unless_fault items (Ok typed) = Ok items
 unless_fault items (Err why) = Err (untyped why)
 
 abbrev pub items_checked : List Registration → List Item → CheckResult
 items_checked registered items = unless_fault items (checked registered items)
 
-abbrev pub script_checked : List Registration → List Lexeme → Parsing (List Item) → CheckResult
+abbrev pub script_checked : List Registration → List Lexeme → ParseResult (List Item) → CheckResult
 script_checked registered tokens (Ok script) = items_checked registered script.0
 script_checked registered tokens (Err halt) = Err (refusal_at tokens halt)
 

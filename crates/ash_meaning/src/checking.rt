@@ -5,7 +5,7 @@ ghost use Rattle.std.specs.List.{AllByRecursion};
 ghost use Rattle.ash_lex.specs.Tokens.{lexemes};
 ghost use Rattle.ash_tree.specs.Views.{module_of as items_of};
 ghost use Rattle.ash_tree.specs.Tree.{Item};
-ghost use Rattle.ash_registry.specs.Calls.{Call};
+ghost use Rattle.ash_registry.specs.Calls.{Registration};
 ghost use Rattle.ash_registry.specs.Registered.{registered};
 ghost use Rattle.ash_typed.specs.Modules.{Module as Typed};
 ghost use Rattle.ash_typing.specs.Nesting.{ItemsDeclareInBlocks};
@@ -117,12 +117,12 @@ pub fn check_source(alloc: Global, registry: &Registry, source: &[u8]) -> Result
 
 /// Checking a source comes to one script that is typed, or to one refusal.
 pub fn checking_has_one_result()
-    ensures { (registered : List Call) (source : List ℕ) (checking : CheckResult) →
+    ensures { (registered : List Registration) (source : List ℕ) (checking : CheckResult) →
         (checked_source registered source ≡ checking) ↔ Checks registered source checking }
 {}
 
 /// No script that is typed declares a registered name: those and the names of a module are one space.
 pub fn registered_names_are_taken()
-    ensures { (registered : List Call) (items : List Item) (typed : Typed) →
+    ensures { (registered : List Registration) (items : List Item) (typed : Typed) →
         IsTyped registered items typed → AllByRecursion (IsFree registered) (item_names items) }
 {}

@@ -2,7 +2,7 @@
 
 ghost use Rattle.std.specs.Prelude.{◌≡◌, ◌⊎◌, ◌↔◌, ℕ, List, Ok, Err, option_map, IfOk, IfErr};
 ghost use Rattle.ash_tree.specs.Views.{module_of as items_of};
-ghost use Rattle.ash_registry.specs.Calls.{Call};
+ghost use Rattle.ash_registry.specs.Calls.{Registration};
 ghost use Rattle.ash_registry.specs.Registered.{registered};
 ghost use Rattle.ash_meaning.specs.Reading.{ReadResult, Reads, module_or_none, read_source, module_read};
 ghost use Rattle.ash_meaning.specs.Reading.{TakesMemoryToRead};
@@ -69,6 +69,6 @@ pub fn module_read(
 
 /// A source is read as one module, or refused for one reason.
 pub fn reading_has_one_result()
-    ensures { (registered : List Call) (source : List ℕ) (reading : ReadResult) →
+    ensures { (registered : List Registration) (source : List ℕ) (reading : ReadResult) →
         (read_source registered source ≡ reading) ↔ Reads registered source reading }
 {}

@@ -16,7 +16,7 @@ use Rattle.ash_host.specs.Objects.{object_at, numbers, IsInOrder, Lives, handles
 use Rattle.ash_host.specs.Reach.{Reachable, Root, Field}
 use Rattle.ash_host.proofs.Membership.{is_among_yes, is_among_says, numbers-filter}
 use Rattle.ash_host.proofs.CountLaws.{handles_counted, counted_handles}
-use Rattle.ash_host.proofs.Order.{same_in_order, object_here, object_later, none_behind, in_order_behind}
+use Rattle.ash_host.proofs.Order.{same_in_order, object_here, object_later, none_after, in_order_after}
 use Rattle.ash_slots.specs.declared.entry.Entry.{Entry}
 use Rattle.ash_slots.specs.Bodies.{words_of, is_boxed}
 use Rattle.ash_slots.specs.Store.{Placed, NoneWaits}
@@ -222,13 +222,13 @@ module _ {B : Type 0} where
   some_refers : (n : ℕ) (objects : List (ℕ × Living B)) → IsInOrder objects → 0 < fields_holding n objects → (one : ℕ) × RefersTo objects one n
   some_refers n [] o h = absurd (omega arith)
   some_refers n (e ∷ l) o h =
-      go (handles_to n (words_of (e.1).body)) refl (λ more. some_refers n l (in_order_behind e l o) more)
+      go (handles_to n (words_of (e.1).body)) refl (λ more. some_refers n l (in_order_after e l o) more)
     where
       both : fields_holding n (e ∷ l) ≡ handles_to n (words_of (e.1).body) + fields_holding n l
       both = sum_by-cons (λ (object : Living B). handles_to n (words_of object.body)) e.1 (values_of l)
 
       move : (one : ℕ) → RefersTo l one n → RefersTo (e ∷ l) one n
-      move one f = subst (λ (v : Option (Living B)). IsSomeAnd v (λ object. Contains (handles (words_of object.body)) n)) (sym (object_later one e l (none_behind e l one o (lives (object_at one l) f)))) f
+      move one f = subst (λ (v : Option (Living B)). IsSomeAnd v (λ object. Contains (handles (words_of object.body)) n)) (sym (object_later one e l (none_after e l one o (lives (object_at one l) f)))) f
         where
           lives : (v : Option (Living B)) → IsSomeAnd v (λ object. Contains (handles (words_of object.body)) n) → IsSome v
           lives None f = absurd f

@@ -6,7 +6,7 @@ use Rattle.std.specs.Map.{values_of}
 use Rattle.std.proofs.lemmas.Bool.{eqb-true, eq-eqb}
 use Rattle.std.proofs.lemmas.List.Sums.{sum_by-cons, count_by-le-length}
 use Rattle.ash_host.specs.Objects.{object_at, numbers, IsInOrder, handles_to, is_handle_to}
-use Rattle.ash_host.proofs.Order.{none_behind, in_order_behind, same_in_order}
+use Rattle.ash_host.proofs.Order.{none_after, in_order_after, same_in_order}
 use Rattle.ash_slots.specs.Bodies.{words_of}
 use Rattle.ash_slots.specs.Store.{Placed, change_at}
 use Rattle.ash_objects.specs.Table.{Living, fields_holding, held, unheld}
@@ -48,14 +48,14 @@ module _ {B : Type 0} where
   fields_small n (e ∷ l) o short =
       let here : length (words_of (e.1.item).body) ≤ 4096 = subst (λ (v : Option (Placed B)). IfSome v (λ object. length (words_of (object.item).body) ≤ 4096)) (ap (λ (b : Bool). cond b (Some e.1) (object_at e.0 l)) (eq-eqb e.0 e.0 refl)) (short e.0) in
       let some = count_by-le-length (is_handle_to n) (words_of (e.1.item).body) in
-      let later = fields_small n l (in_order_behind e l o) (λ m. tail m (object_at m l) refl) in
+      let later = fields_small n l (in_order_after e l o) (λ m. tail m (object_at m l) refl) in
       let both = sum_by-cons (holding n) e.1 (values_of l) in
       omega (arith, here, some, later, both)
     where
       tail : (m : ℕ) (v : Option (Placed B)) → object_at m l ≡ v → IfSome (object_at m l) (λ object. length (words_of (object.item).body) ≤ 4096)
       tail m None is = subst (λ (v : Option (Placed B)). IfSome v (λ object. length (words_of (object.item).body) ≤ 4096)) (sym is) tt
       tail m (Some x) is =
-          let apart = none_behind e l m o (subst (λ (v : Option (Placed B)). IsSome v) (sym is) refl) in
+          let apart = none_after e l m o (subst (λ (v : Option (Placed B)). IsSome v) (sym is) refl) in
           subst (λ (v : Option (Placed B)). IfSome v (λ object. length (words_of (object.item).body) ≤ 4096)) (ap (λ (b : Bool). cond b (Some e.1) (object_at m l)) apart) (short m)
 
   -- no count comes near what the code can hold

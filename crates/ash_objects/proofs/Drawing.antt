@@ -105,9 +105,9 @@ module _ {B : Type 0} where
       let same : out ≡ Host back.0 = cc in
       (back.0, same, back.2)
 
-  -- the same behind the first of them
-  boxes_behind : (G : Ghosts B) (object : Stored) (objects : List Stored) (one other : Option B) (before after : List (Option B)) → AreBoxesBack G (object ∷ objects) (one ∷ before) (other ∷ after) → AreBoxesBack G objects before after
-  boxes_behind G object objects one other before after back = let all = back.many in record {
+  -- the same after the first of them
+  boxes_after : (G : Ghosts B) (object : Stored) (objects : List Stored) (one other : Option B) (before after : List (Option B)) → AreBoxesBack G (object ∷ objects) (one ∷ before) (other ∷ after) → AreBoxesBack G objects before after
+  boxes_after G object objects one other before after back = let all = back.many in record {
     many = omega (arith, all);
     each = λ place. back.each (suc place);
   }
@@ -121,7 +121,7 @@ module _ {B : Type 0} where
   fit_back G (object ∷ objects) (one ∷ before) [] fit back = let many = back.many in absurd (cc)
   fit_back G (object ∷ objects) (one ∷ before) (other ∷ after) fit back = (
     back_fit G object.body one other (back.each zero object one other refl refl refl) fit.0,
-    fit_back G objects before after fit.1 (boxes_behind G object objects one other before after back),
+    fit_back G objects before after fit.1 (boxes_after G object objects one other before after back),
   )
 
   -- what the objects are in the table is what they were stored as
@@ -136,5 +136,5 @@ module _ {B : Type 0} where
   bodies_put G (object ∷ objects) (one ∷ before) (other ∷ after) (e ∷ entries) fit back put = (
     put.0,
     body_joined G object.body one other (e.1.item).body (back.each zero object one other refl refl refl) put.1,
-    bodies_put G objects before after entries fit.1 (boxes_behind G object objects one other before after back) put.3,
+    bodies_put G objects before after entries fit.1 (boxes_after G object objects one other before after back) put.3,
   )

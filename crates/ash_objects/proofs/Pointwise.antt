@@ -1,4 +1,4 @@
--- Lists that are changed place by place, from the front, and lists that are taken apart from the end.
+-- Lists that are changed place by place, from the prefix, and lists that are taken apart from the end.
 use Rattle.std.proofs.Common.{◌≡◌, ℕ, List, [], ◌∷◌, refl, sym, ap, ◌∙◌, arith, Some, length, zero, suc, ◌+◌, ◌++◌, ◌≤◌, ◌<◌, ◌⊎◌, inl, inr, set, take, drop, map, min}
 use Rattle.std.specs.Prelude.{slice_get}
 use Rattle.std.proofs.lemmas.Bool.{cases_lt}
@@ -68,25 +68,25 @@ module _ {A : Type 0} (P : ℕ → A → A → Type 0) where
       let within = slice_get_within old place one was in
       h.done place one other (omega (arith, within, over)) was is
 
--- what stands in front of a place stands there
-pub front_at : {A : Type 0} (k : ℕ) (xs : List A) (j : ℕ) (x : A) → slice_get (take k xs) j ≡ Some x → (j < k) × (slice_get xs j ≡ Some x)
-front_at zero xs j x h = absurd (cc)
-front_at (suc k) [] j x h = absurd (cc)
-front_at (suc k) (y ∷ xs) zero x h = (omega arith, h)
-front_at (suc k) (y ∷ xs) (suc j) x h = let later = front_at k xs j x h in (omega (arith, later.0), later.1)
+-- what stands before a place stands there
+pub prefix_at : {A : Type 0} (k : ℕ) (xs : List A) (j : ℕ) (x : A) → slice_get (take k xs) j ≡ Some x → (j < k) × (slice_get xs j ≡ Some x)
+prefix_at zero xs j x h = absurd (cc)
+prefix_at (suc k) [] j x h = absurd (cc)
+prefix_at (suc k) (y ∷ xs) zero x h = (omega arith, h)
+prefix_at (suc k) (y ∷ xs) (suc j) x h = let later = prefix_at k xs j x h in (omega (arith, later.0), later.1)
 
 module _ {A : Type 0} (P : ℕ → A → A → Type 0) where
-  -- what is in front of the place that was reached
-  pub front_many : (k : ℕ) (old cur : List A) → IsDone P k old cur → length (take k cur) ≡ length (take k old)
-  front_many k old cur h = length-take k cur ∙ ap (λ (n : ℕ). min k n) h.many ∙ sym (length-take k old)
+  -- what is before the place that was reached
+  pub prefix_many : (k : ℕ) (old cur : List A) → IsDone P k old cur → length (take k cur) ≡ length (take k old)
+  prefix_many k old cur h = length-take k cur ∙ ap (λ (n : ℕ). min k n) h.many ∙ sym (length-take k old)
 
-  pub front_done : (k : ℕ) (old cur : List A) → IsDone P k old cur → (place : ℕ) (one other : A) → slice_get (take k old) place ≡ Some one → slice_get (take k cur) place ≡ Some other → P place one other
-  front_done k old cur h place one other was is =
-      let before = front_at k old place one was in
-      let after = front_at k cur place other is in
+  pub prefix_done : (k : ℕ) (old cur : List A) → IsDone P k old cur → (place : ℕ) (one other : A) → slice_get (take k old) place ≡ Some one → slice_get (take k cur) place ≡ Some other → P place one other
+  prefix_done k old cur h place one other was is =
+      let before = prefix_at k old place one was in
+      let after = prefix_at k cur place other is in
       h.done place one other before.0 before.1 after.1
 
--- What is left of the front of a list once its last item was taken.
+-- What is left of the prefix of a list once its last item was taken.
 pub record IsPopped {A : Type 0} (all rest : List A) (x : A) : Type 0 where
   pub left : rest ≡ take (length rest) all
   pub next : drop (length rest) all ≡ x ∷ drop (length rest + 1) all
@@ -110,8 +110,8 @@ popped (y ∷ all) [] x (suc k) h =
     }
 popped (y ∷ all) (r ∷ rest) x (suc k) h =
     let same : y ≡ r = cc in
-    let behind : take k all ≡ rest ++ x ∷ [] = cc in
-    let p = popped all rest x k behind in
+    let after : take k all ≡ rest ++ x ∷ [] = cc in
+    let p = popped all rest x k after in
     let more : suc (length rest) + 1 ≡ suc (length rest + 1) = omega arith in
     let inside = p.within in
     record {

@@ -8,7 +8,7 @@ use Rattle.std.proofs.lemmas.Bool.{eq-eqb}
 use Rattle.std.proofs.lemmas.List.{drop-map, length-append, length-take, take_all, drop_all}
 use Rattle.std.proofs.lemmas.Map.Keys.{sorted_from_strictly_increasing}
 use Rattle.ash_host.specs.Objects.{object_at, numbers, IsInOrder, with_at}
-use Rattle.ash_host.proofs.Order.{none_behind, in_order_behind}
+use Rattle.ash_host.proofs.Order.{none_after, in_order_after}
 use Rattle.ash_slots.specs.declared.body.Body.{Body}
 use Rattle.ash_slots.specs.declared.body.Body.TheVariants.{Script, Array, Host}
 use Rattle.ash_slots.specs.Bodies.{words_of}
@@ -19,17 +19,17 @@ use Rattle.ash_objects.specs.Restoring.{stored_in, with_taken, AreFit, IsFresh, 
 use Rattle.ash_objects.proofs.Pointwise.{IsPopped, popped}
 use Rattle.ash_objects.proofs.Drawing.{fit_length}
 
--- an entry before all others is put in front of them
-pub with_at_front : {A : Type 0} (n : ℕ) (p : A) (l : List (ℕ × A)) → IsStrictlySortedBy nat_cmp (n ∷ numbers l) → with_at n p l ≡ (n, p) ∷ l
+-- an entry before all others is put before them
+pub with_at_prefix : {A : Type 0} (n : ℕ) (p : A) (l : List (ℕ × A)) → IsStrictlySortedBy nat_cmp (n ∷ numbers l) → with_at n p l ≡ (n, p) ∷ l
 unfolding IsStrictlySortedBy
-with_at_front n p [] s = refl
-with_at_front n p (f ∷ l) s = ap (λ o. match_ordering o ((n, p) ∷ f ∷ l) ((f.0, p) ∷ l) (f ∷ with_at n p l)) s.0.0
+with_at_prefix n p [] s = refl
+with_at_prefix n p (f ∷ l) s = ap (λ o. match_ordering o ((n, p) ∷ f ∷ l) ((f.0, p) ∷ l) (f ∷ with_at n p l)) s.0.0
 
--- what stands behind some of the objects is in order
+-- what stands after some of the objects is in order
 pub order_drop : {A : Type 0} (k : ℕ) (l : List (ℕ × A)) → IsInOrder l → IsInOrder (drop k l)
 order_drop zero l o = o
 order_drop (suc k) [] o = o
-order_drop (suc k) (e ∷ l) o = order_drop k l (in_order_behind e l o)
+order_drop (suc k) (e ∷ l) o = order_drop k l (in_order_after e l o)
 
 module _ {B : Type 0} where
   -- words of what was put
@@ -82,10 +82,10 @@ module _ {B : Type 0} where
       go true later = put.2
       go false later = later
 
-  -- an object that is put in front of those behind it
-  pub put_front : (objects : List Stored) (boxes : List (Option B)) (k : ℕ) (object : Stored) (box : Option B) (p : Placed B) (l : List (ℕ × Placed B)) → IsInOrder (stored_in objects) → drop k objects ≡ object ∷ drop (k + 1) objects → drop k boxes ≡ box ∷ drop (k + 1) boxes → ArePut (drop (k + 1) objects) (drop (k + 1) boxes) l → with_taken object.body box ≡ Some (p.item).body → IsFresh p → ArePut (drop k objects) (drop k boxes) (with_at object.number p l)
-  put_front objects boxes k object box p l order os bs put is fresh =
-      subst (λ (es : List (ℕ × Placed B)). ArePut (drop k objects) (drop k boxes) es) (sym (with_at_front object.number p l sorted)) (rw (os, bs) (refl, is, fresh, put))
+  -- an object that is put before those after it
+  pub put_prefix : (objects : List Stored) (boxes : List (Option B)) (k : ℕ) (object : Stored) (box : Option B) (p : Placed B) (l : List (ℕ × Placed B)) → IsInOrder (stored_in objects) → drop k objects ≡ object ∷ drop (k + 1) objects → drop k boxes ≡ box ∷ drop (k + 1) boxes → ArePut (drop (k + 1) objects) (drop (k + 1) boxes) l → with_taken object.body box ≡ Some (p.item).body → IsFresh p → ArePut (drop k objects) (drop k boxes) (with_at object.number p l)
+  put_prefix objects boxes k object box p l order os bs put is fresh =
+      subst (λ (es : List (ℕ × Placed B)). ArePut (drop k objects) (drop k boxes) es) (sym (with_at_prefix object.number p l sorted)) (rw (os, bs) (refl, is, fresh, put))
     where
       ordered : IsInOrder (stored_in (object ∷ drop (k + 1) objects))
       ordered = subst (λ (xs : List Stored). IsInOrder (stored_in xs)) os (subst (λ (es : List (ℕ × Body Saved)). IsInOrder es) (drop-map (λ object. (object.number, object.body)) k objects) (order_drop k (stored_in objects) order))
@@ -105,7 +105,7 @@ module _ {B : Type 0} where
       go : (v : Option (Placed B)) → object_at object.number l ≡ v → object_at object.number l ≡ None
       go None is = is
       go (Some p) is =
-          let apart : nat_eq object.number object.number ≡ false = none_behind (object.number, p) l object.number rises (subst (λ (v : Option (Placed B)). IsSome v) (sym is) refl) in
+          let apart : nat_eq object.number object.number ≡ false = none_after (object.number, p) l object.number rises (subst (λ (v : Option (Placed B)). IsSome v) (sym is) refl) in
           let same = eq-eqb object.number object.number refl in
           absurd (cc)
 
@@ -166,21 +166,21 @@ module _ {B : Type 0} where
     next : drop (length os') boxes ≡ box ∷ drop (length os' + 1) boxes
     next = subst (λ (n : ℕ). drop n boxes ≡ box ∷ drop (n + 1) boxes) same second.next
 
-    behind : ArePut (drop (length os' + 1) objects) (drop (length os' + 1) boxes) l
-    behind = subst (λ (n : ℕ). ArePut (drop n objects) (drop n boxes) l) long s.put
+    after : ArePut (drop (length os' + 1) objects) (drop (length os' + 1) boxes) l
+    after = subst (λ (n : ℕ). ArePut (drop n objects) (drop n boxes) l) long s.put
 
     pub put_fits : IsSome (with_taken object.body box)
     put_fits = fit_at objects boxes (length os') object box fit first.there (subst (λ (n : ℕ). slice_get boxes n ≡ Some box) same second.there)
 
     pub put_new : object_at object.number l ≡ None
-    put_new = put_absent objects boxes (length os') object l order first.next behind
+    put_new = put_absent objects boxes (length os') object l order first.next after
 
     pub put_more : (p : Placed B) → with_taken object.body box ≡ Some (p.item).body → IsFresh p → PutState objects boxes os' bs' (with_at object.number p l)
     put_more p is fresh = record {
       left = first.left;
       right = subst (λ (n : ℕ). bs' ≡ take n boxes) same second.left;
       within = let inside = first.within in omega (arith, inside);
-      put = put_front objects boxes (length os') object box p l order first.next next behind is fresh;
+      put = put_prefix objects boxes (length os') object box p l order first.next next after is fresh;
     }
 
   -- all are put

@@ -6,7 +6,7 @@ use Rattle.std.specs.Map.{values_of}
 use Rattle.std.proofs.lemmas.List.Sums.{sum_by-cons, count_by-le-length}
 use Rattle.ash_host.specs.declared.word.Word.{Word}
 use Rattle.ash_host.specs.Objects.{object_at, numbers, Lives, IsInOrder, handles_to, is_handle_to}
-use Rattle.ash_host.proofs.Order.{object_here, object_later, none_behind, in_order_behind}
+use Rattle.ash_host.proofs.Order.{object_here, object_later, none_after, in_order_after}
 use Rattle.ash_slots.specs.Bodies.{words_of}
 use Rattle.ash_slots.specs.Store.{Placed, IsIn}
 use Rattle.ash_slots.specs.Counting.{counted}
@@ -23,13 +23,13 @@ module _ {A : Type 0} where
   each_later : (e : ℕ × A) (l s : List (ℕ × A)) → IsInOrder (e ∷ l) → EachIn s l → EachIn s (e ∷ l)
   each_later e l [] o h = tt
   each_later e l (f ∷ s) o h = (
-    object_later f.0 e l (none_behind e l f.0 o (subst (λ (v : Option A). IsSome v) (sym h.0) refl)) ∙ h.0,
+    object_later f.0 e l (none_after e l f.0 o (subst (λ (v : Option A). IsSome v) (sym h.0) refl)) ∙ h.0,
     each_later e l s o h.1,
   )
 
   pub each_in : (l : List (ℕ × A)) → IsInOrder l → EachIn l l
   each_in [] o = tt
-  each_in (e ∷ l) o = (object_here e l, each_later e l l o (each_in l (in_order_behind e l o)))
+  each_in (e ∷ l) o = (object_here e l, each_later e l l o (each_in l (in_order_after e l o)))
 
   -- what holds of each number that lives holds of all
   all_numbers_in : (P : ℕ → Type 0) (s l : List (ℕ × A)) → EachIn s l → ((n : ℕ) → Lives l n → P n) → (k d : ℕ) → k < length (numbers s) → P (get_or (numbers s) k d)

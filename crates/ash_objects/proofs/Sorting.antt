@@ -11,7 +11,7 @@ use Rattle.std.proofs.lemmas.Bool.{eq-eqb}
 use Rattle.std.proofs.lemmas.Bool.Decides.{nat_tests}
 use Rattle.std.proofs.lemmas.List.Sums.{sum_by-cons}
 use Rattle.ash_host.specs.Objects.{numbers, IsInOrder}
-use Rattle.ash_host.proofs.Order.{in_order_behind}
+use Rattle.ash_host.proofs.Order.{in_order_after}
 
 abbrev Marks : Type 0
 Marks = List (ℕ × Bool)
@@ -157,7 +157,7 @@ in_order_above e l o = all_above e.0 l (sorted_from_strictly_increasing (numbers
 ascend : (l : List (ℕ × Bool)) → IsInOrder l → Ascends l
 unfolding Ascends
 ascend [] o = tt
-ascend (e ∷ l) o = (in_order_above e l o, ascend l (in_order_behind e l o))
+ascend (e ∷ l) o = (in_order_above e l o, ascend l (in_order_after e l o))
 
 -- marks that do not fall by index
 not_below : (j : ℕ) (l : List (ℕ × Bool)) → IsNonDecreasingBy (λ e. e.0) l → ((d : ℕ × Bool) → 0 < length l → j ≤ (get_or l 0 d).0) → NotBelow j l

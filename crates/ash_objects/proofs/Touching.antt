@@ -13,7 +13,7 @@ use Rattle.std.proofs.lemmas.List.Sums.{sum_by-cons}
 use Rattle.ash_host.specs.Objects.{object_at, numbers, IsInOrder}
 use Rattle.ash_host.specs.Reach.{is_among}
 use Rattle.ash_host.proofs.Membership.{is_among-numbers}
-use Rattle.ash_host.proofs.Order.{same_in_order, object_here, object_later, none_behind, in_order_behind}
+use Rattle.ash_host.proofs.Order.{same_in_order, object_here, object_later, none_after, in_order_after}
 use Rattle.ash_slots.specs.declared.entry.Item.{Item}
 use Rattle.ash_slots.specs.Bodies.{words_of}
 use Rattle.ash_slots.specs.Store.{Placed, AreStored, IsIn, change_in, with_item, change_at}
@@ -144,7 +144,7 @@ module _ {B : Type 0} where
   unfolding is_touched
   among_marked m [] o = refl
   among_marked m (e ∷ l) o =
-      go (e.1.item).touched refl (nat_eq m e.0) refl (among_marked m l (in_order_behind e l o))
+      go (e.1.item).touched refl (nat_eq m e.0) refl (among_marked m l (in_order_after e l o))
     where
       rest : List (ℕ × Placed B)
       rest = filter (λ e. (e.1.item).touched) l
@@ -190,7 +190,7 @@ module _ {B : Type 0} where
   pub marked_less : (f : ℕ → ℕ) (n : ℕ) (l : List (ℕ × Placed B)) → IsInOrder l → IsSomeAnd (object_at n l) (λ object. (object.item).touched ≡ true) → sum_by f (marked_in l) ≡ f n + sum_by f (marked_in (change_at n unmarked l))
   marked_less f n [] o h = absurd h
   marked_less f n (e ∷ l) o h =
-      go (nat_eq n e.0) refl h (λ later. marked_less f n l (in_order_behind e l o) later)
+      go (nat_eq n e.0) refl h (λ later. marked_less f n l (in_order_after e l o) later)
     where
       now : (b : Bool) → marked_in ((e.0, cond b (unmarked e.1) e.1) ∷ change_at n unmarked l) ≡ cond ((cond b (unmarked e.1) e.1).item).touched (e.0 ∷ marked_in (change_at n unmarked l)) (marked_in (change_at n unmarked l))
       now b = cons_marked e.0 (cond b (unmarked e.1) e.1) (change_at n unmarked l)
@@ -221,15 +221,15 @@ module _ {B : Type 0} where
   pub none_marked : (l : List (ℕ × Placed B)) → IsInOrder l → NoneMarked l → marked_in l ≡ []
   none_marked [] o none = refl
   none_marked (e ∷ l) o none =
-      cons_marked e.0 e.1 l ∙ ap (λ (t : Bool). cond t (e.0 ∷ marked_in l) (marked_in l)) here ∙ none_marked l (in_order_behind e l o) (λ m. behind m (object_at m l) refl)
+      cons_marked e.0 e.1 l ∙ ap (λ (t : Bool). cond t (e.0 ∷ marked_in l) (marked_in l)) here ∙ none_marked l (in_order_after e l o) (λ m. after m (object_at m l) refl)
     where
       here : (e.1.item).touched ≡ false
       here = subst (λ (v : Option (Placed B)). IfSome v (λ object. (object.item).touched ≡ false)) (object_here e l) (none e.0)
 
-      behind : (m : ℕ) (v : Option (Placed B)) → object_at m l ≡ v → IfSome (object_at m l) (λ object. (object.item).touched ≡ false)
-      behind m None is = subst (λ (v : Option (Placed B)). IfSome v (λ object. (object.item).touched ≡ false)) (sym is) tt
-      behind m (Some p) is =
-          let apart = none_behind e l m o (subst (λ (v : Option (Placed B)). IsSome v) (sym is) refl) in
+      after : (m : ℕ) (v : Option (Placed B)) → object_at m l ≡ v → IfSome (object_at m l) (λ object. (object.item).touched ≡ false)
+      after m None is = subst (λ (v : Option (Placed B)). IfSome v (λ object. (object.item).touched ≡ false)) (sym is) tt
+      after m (Some p) is =
+          let apart = none_after e l m o (subst (λ (v : Option (Placed B)). IsSome v) (sym is) refl) in
           subst (λ (v : Option (Placed B)). IfSome v (λ object. (object.item).touched ≡ false)) (object_later m e l apart) (none m)
 
   -- one mark less to clear

@@ -8,19 +8,19 @@ use Rattle.ash_tree.specs.Tree.{Named, Prim, Declaration, ASignature, AProperty}
 use Rattle.ash_tree.specs.Tokens.{Tokens}
 use Rattle.ash_tree.specs.Types.{IsType}
 use Rattle.ash_tree.specs.Grammar.{IsResultType, typed, IsUnnamed, unnamed, with_name, AreMoreUnnamed, no_more_unnamed, more_unnamed, AreUnnamed, no_unnamed, some_unnamed, Declares, signature, property}
-use Rattle.ash_parse.specs.Reading.{Unexpected, next_is_sign}
+use Rattle.ash_parse.specs.Readers.{Unexpected, next_is_sign}
 use Rattle.ash_parse.specs.StatementReader.{is_name, next_is_name, type_at}
-use Rattle.ash_parse.specs.ItemReader.{behind as behind_first, is_left, result_type_at, unnamed_at, next_unnamed_at, more_unnamed_at, unnamed_list_at, unnamed_parameters_at, property_by, declaration_behind, declaration_at}
+use Rattle.ash_parse.specs.ItemReader.{after as after_first, is_left, result_type_at, unnamed_at, next_unnamed_at, more_unnamed_at, unnamed_list_at, unnamed_parameters_at, property_by, declaration_after, declaration_at}
 use Rattle.ash_parse.specs.Faults.{whole_declaration_at}
-use Rattle.ash_parse.proofs.BeginLaws.{Stopped, Law, Then, Behind, Grows, then, law_as, done, fill_here, stops_here, behind, fill_behind, either, sign_then, name_then, put_law, all_of, nowhere}
+use Rattle.ash_parse.proofs.BeginLaws.{Stopped, Law, Then, Behind, Grows, then, law_as, done, fill_here, stops_here, after, fill_after, either, sign_then, name_then, put_law, all_of, nowhere}
 use Rattle.ash_parse.proofs.BeginTypes.{begin_type}
 use Rattle.ash_parse.proofs.BeginItems.{begin_result_type, stops_with}
 
--- [NAME], behind a type
-begin_name : (t : Named) (ts : Tokens) → Law (Ok (t, cond (next_is_name ts) (behind_first ts) ts)) ts (Then (λ free. IsType) (λ free. IsUnnamed) t)
-unfolding next_is_name is_name behind_first
+-- [NAME], after a type
+begin_name : (t : Named) (ts : Tokens) → Law (Ok (t, cond (next_is_name ts) (after_first ts) ts)) ts (Then (λ free. IsType) (λ free. IsUnnamed) t)
+unfolding next_is_name is_name after_first
 begin_name t [] = done _ t [] (λ free left before d. unnamed d)
-begin_name t ((name text, p) ∷ ts) = behind _ (name text, p) _ ts (done _ t ts (λ free left before d. with_name d))
+begin_name t ((name text, p) ∷ ts) = after _ (name text, p) _ ts (done _ t ts (λ free left before d. with_name d))
 begin_name t ((m, p) ∷ ts) = done _ t ((m, p) ∷ ts) (λ free left before d. unnamed d)
 
 begin_unnamed : (ts : Tokens) → Law (unnamed_at ts) ts (λ free. IsUnnamed)
@@ -40,7 +40,7 @@ begin_more_unnamed ts = all_of (next_is_sign signs.Comma) next_unnamed_at (λ fr
 -- [ type [NAME] { "," type [NAME] } ]
 data AreListed : Tokens → List Named → Tokens → Type 0 where
   none : {left : Tokens} → AreListed left [] left
-  some : {from behind left : Tokens} {x : Named} {xs : List Named} → IsUnnamed from x behind → AreMoreUnnamed behind xs left → AreListed from (x ∷ xs) left
+  some : {from after left : Tokens} {x : Named} {xs : List Named} → IsUnnamed from x after → AreMoreUnnamed after xs left → AreListed from (x ∷ xs) left
 
 listed : {p q : Place} {from left : Tokens} {xs : List Named} → AreListed from xs ((sign signs.CloseParenthesis, q) ∷ left) → AreUnnamed ((sign signs.OpenParenthesis, p) ∷ from) xs left
 listed none = no_unnamed
@@ -62,14 +62,14 @@ begin_unnamed_parameters ts =
     (λ xs s. sign_then _ signs.CloseParenthesis _ s
     (λ q t. done _ xs t (λ free left before d. listed d))))
 
--- all of the tokens are a declaration, where none is left behind it
+-- all of the tokens are a declaration, where none is left after it
 abbrev Whole : ℕ → Tokens → Declaration → Tokens → Type 0
 Whole free from d left = left ≡ [] → Declares from d
 
 property_whole : {p : Place} {text : List ℕ} {from : Tokens} {t : Named} (left : Tokens) → IsResultType from (Some t) ((name text, p) ∷ left) → left ≡ [] → Declares from (AProperty (record { place = p; of = t; name = text }))
 property_whole {p} {text} {from} {t} left (typed d) e = property (subst (λ (l : Tokens). IsType from t ((name text, p) ∷ l)) e d)
 
--- what is behind the type and the name of a declaration
+-- what is after the type and the name of a declaration
 abbrev Follows : Option Named → Place → List ℕ → ℕ → Tokens → Declaration → Tokens → Type 0
 Follows r p text = Behind (name text, p) (Then (λ free. IsResultType) Whole r)
 
@@ -80,12 +80,12 @@ begin_property : (r : Option Named) (p : Place) (text : List ℕ) (ts : Tokens) 
 begin_property (Some t) p text ts = done (Follows (Some t) p text) (AProperty (record { place = p; of = t; name = text })) ts (λ free left before d e. property_whole left d e)
 begin_property None p text ts =
     stops_here (Follows None p text) ts
-    (fill_behind (Follows None p text) (sign signs.OpenParenthesis, nowhere) (fill_behind _ (sign signs.CloseParenthesis, nowhere)
+    (fill_after (Follows None p text) (sign signs.OpenParenthesis, nowhere) (fill_after _ (sign signs.CloseParenthesis, nowhere)
     (fill_here _ (ASignature (record { place = p; result = None; name = text; parameters = [] })) (λ free left. signature_whole None p text [] free ((sign signs.OpenParenthesis, nowhere) ∷ (sign signs.CloseParenthesis, nowhere) ∷ left) left no_unnamed))))
 
-begin_declaration_behind : (r : Option Named) (p : Place) (text : List ℕ) (ts : Tokens) → Law (declaration_behind r p text ts) ts (Follows r p text)
-unfolding declaration_behind
-begin_declaration_behind r p text ts =
+begin_declaration_after : (r : Option Named) (p : Place) (text : List ℕ) (ts : Tokens) → Law (declaration_after r p text ts) ts (Follows r p text)
+unfolding declaration_after
+begin_declaration_after r p text ts =
     either (next_is_sign signs.OpenParenthesis ts) _ _ ts _
     (then (λ free. AreUnnamed) (Follows r p text) (unnamed_parameters_at ts) _ ts (begin_unnamed_parameters ts)
     (λ xs s. done _ (ASignature (record { place = p; result = r; name = text; parameters = xs })) s (λ free left before d. signature_whole r p text xs free before left d)))
@@ -96,7 +96,7 @@ unfolding declaration_at
 begin_declaration ts =
     then (λ free. IsResultType) Whole (result_type_at ts) _ ts (begin_result_type ts)
     (λ r a. name_then _ _ a
-    (λ n b. begin_declaration_behind r n.1 n.0 b))
+    (λ n b. begin_declaration_after r n.1 n.0 b))
 
 begin_whole_declaration : (ts : Tokens) → Law (whole_declaration_at ts) ts Whole
 unfolding whole_declaration_at
@@ -107,7 +107,7 @@ begin_whole_declaration ts =
     (done _ d r (λ free left before w. w)))
 
 -- what stands before the place where reading stops begins a declaration
-pub begun_declaration : (all rest : Tokens) → whole_declaration_at all ≡ Err (Unexpected rest) → (front : Tokens) × (all ≡ front ++ rest) × ((tail : Tokens) × (declared : Declaration) × Declares (front ++ tail) declared)
+pub begun_declaration : (all rest : Tokens) → whole_declaration_at all ≡ Err (Unexpected rest) → (prefix : Tokens) × (all ≡ prefix ++ rest) × ((tail : Tokens) × (declared : Declaration) × Declares (prefix ++ tail) declared)
 begun_declaration all rest e =
     let s : Stopped all (Unexpected rest) Whole = stops_with (whole_declaration_at all) (Unexpected rest) all Whole e (begin_whole_declaration all).explained in
-    (s.front, s.all, (s.tail, s.tree, subst (λ (l : Tokens). Declares (s.front ++ l) s.tree) (append-nil s.tail) (s.is [] refl)))
+    (s.prefix, s.all, (s.tail, s.tree, subst (λ (l : Tokens). Declares (s.prefix ++ l) s.tree) (append-nil s.tail) (s.is [] refl)))

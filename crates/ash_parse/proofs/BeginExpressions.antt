@@ -14,15 +14,15 @@ use Rattle.ash_tree.specs.Operators.{primitive, unary_operator, binary_operator,
 use Rattle.ash_tree.specs.Types.{IsElement, handle_element}
 use Rattle.ash_tree.specs.Expressions.{IsInner, inner, AreExprs, no_exprs, some_exprs, AreMoreExprs, no_more_exprs, more_exprs, IsArgs, args, IsAssign, no_assign, assign, no_branch, branches, IsBinary, operand, joined, AreLinks, no_links, more_links, IsUnary, applied, postfix, AreSuffixes, no_suffixes, more_suffixes, IsSuffix, field, method, index, increment, decrement, IsPrimary, numeral, yes, no, null, this, named, call, brackets, convert, new_array, cast}
 use Rattle.ash_parse.specs.Signs.{is_sign, same_sign}
-use Rattle.ash_parse.specs.Reading.{Reading, Unexpected, TooDeep, ◌>>=◌, next_is_sign, expect_at}
+use Rattle.ash_parse.specs.Readers.{ParseResult, Unexpected, TooDeep, ◌>>=◌, next_is_sign, expect_at}
 use Rattle.ash_parse.specs.ExpressionReader.{Below, begins, limit_at, next_expr_with, more_exprs_with, exprs_with, arguments_with, bracketed_with, named_with, new_array_with, cast_with, primary_by, primary_with, is_suffix, member_with, index_with, suffix_with, suffixes_with, postfix_with, unary_by, unary_with, operator_at, is_link, link_from, link_by, links_by, chain_by, binary_with, branches_with, assign_by, assign_from, assign_with, below_at}
-use Rattle.ash_parse.specs.TypeReader.{is_array, element_at, target_at, behind_sign, behind_elem, behind_element}
+use Rattle.ash_parse.specs.TypeReader.{is_array, element_at, target_at, after_sign, after_elem, after_element}
 use Rattle.ash_parse.specs.StatementReader.{is_vars, is_name, next_is_name}
 use Rattle.ash_parse.proofs.Readings.{sign_is, expect_again}
 use Rattle.ash_parse.proofs.Rereading.{no_some, no_true}
 use Rattle.ash_parse.proofs.ExpressionSound.{IsPart, operator_found}
 use Rattle.ash_parse.proofs.BeginTypes.{begin_element}
-use Rattle.ash_parse.proofs.BeginLaws.{Law, Filled, FilledBy, Explained, Then, Behind, Grows, then, law_as, fill_as, done, fill_here, stopped_at, stops_here, too_deep_at, behind, fill_behind, either, explain_either, sign_then, name_then, put_law, all_of, nowhere, some_name}
+use Rattle.ash_parse.proofs.BeginLaws.{Law, Filled, FilledBy, Explained, Then, Behind, Grows, then, law_as, fill_as, done, fill_here, stopped_at, stops_here, too_deep_at, after, fill_after, either, explain_either, sign_then, name_then, put_law, all_of, nowhere, some_name}
 
 -- an operand is an `assign`
 up : (n : ℕ) {free depth : ℕ} {from left : Tokens} {e : Expr} → IsUnary free depth from e left → IsBinary free depth n from e left
@@ -37,7 +37,7 @@ inner_alone big u = inner (λ deep. absurd (omega arith)) (alone u)
 
 -- a name is a phrase
 pub fill_primary : (depth : ℕ) → Filled (λ free. IsPrimary free depth)
-fill_primary depth = fill_behind (λ free. IsPrimary free depth) (name some_name, nowhere) (fill_here (Behind (name some_name, nowhere) (λ free. IsPrimary free depth)) (Name nowhere some_name) (λ free left. named))
+fill_primary depth = fill_after (λ free. IsPrimary free depth) (name some_name, nowhere) (fill_here (Behind (name some_name, nowhere) (λ free. IsPrimary free depth)) (Name nowhere some_name) (λ free left. named))
 
 pub fill_unary : (depth : ℕ) → Filled (λ free. IsUnary free depth)
 fill_unary depth = fill_as (λ free. IsPrimary free depth) (λ free. IsUnary free depth) (λ free from x left d. postfix d no_suffixes) (fill_primary depth)
@@ -65,46 +65,46 @@ begins_by depth m p (Some k) u g h b = record {
   text = (sign signs.OpenParenthesis, nowhere) ∷ (name some_name, nowhere) ∷ (sign signs.CloseParenthesis, nowhere) ∷ [];
   tree = Convert p k (Name nowhere some_name);
   is = λ free left big. postfix (convert g (inner_alone (omega arith) (postfix named no_suffixes))) no_suffixes;
-  no_vars = λ behind. no_vars_prim m p nowhere k _ g;
+  no_vars = λ after. no_vars_prim m p nowhere k _ g;
 }
 begins_by depth m p None (Some o) g h b = record {
   text = (name some_name, nowhere) ∷ [];
   tree = Unary p o (Name nowhere some_name);
   is = λ free left big. applied h (λ deep. absurd (omega arith)) (postfix named no_suffixes);
-  no_vars = λ behind. no_vars_unary m p o _ g h;
+  no_vars = λ after. no_vars_unary m p o _ g h;
 }
 begins_by depth m p None None g h b = absurd (no_true b)
 
 begins_unary : (depth : ℕ) (m : Meaning) (p : Place) → begins m ≡ true → FilledBy (m, p) (λ free. IsUnary free depth)
-unfolding begins is_vars next_is_name is_name is_array behind_element behind_elem behind_sign next_is_sign is_sign same_sign primitive
+unfolding begins is_vars next_is_name is_name is_array after_element after_elem after_sign next_is_sign is_sign same_sign primitive
 begins_unary depth (name text) p b = record {
   text = (sign signs.OpenParenthesis, nowhere) ∷ (sign signs.CloseParenthesis, nowhere) ∷ [];
   tree = Call p text (exprs []);
   is = λ free left big. postfix (call (args no_exprs)) no_suffixes;
-  no_vars = λ behind. refl;
+  no_vars = λ after. refl;
 }
-begins_unary depth (number n) p b = record { text = []; tree = Number p n; is = λ free left big. postfix numeral no_suffixes; no_vars = λ behind. refl }
+begins_unary depth (number n) p b = record { text = []; tree = Number p n; is = λ free left big. postfix numeral no_suffixes; no_vars = λ after. refl }
 begins_unary depth (sign signs.OpenParenthesis) p b = record {
   text = (name some_name, nowhere) ∷ (sign signs.CloseParenthesis, nowhere) ∷ [];
   tree = Brackets p (Name nowhere some_name);
   is = λ free left big. postfix (brackets (inner_alone (omega arith) (postfix named no_suffixes))) no_suffixes;
-  no_vars = λ behind. refl;
+  no_vars = λ after. refl;
 }
-begins_unary depth (reserved words.True) p b = record { text = []; tree = Truth p true; is = λ free left big. postfix yes no_suffixes; no_vars = λ behind. refl }
-begins_unary depth (reserved words.False) p b = record { text = []; tree = Truth p false; is = λ free left big. postfix no no_suffixes; no_vars = λ behind. refl }
-begins_unary depth (reserved words.Null) p b = record { text = []; tree = Null p; is = λ free left big. postfix null no_suffixes; no_vars = λ behind. refl }
-begins_unary depth (reserved words.This) p b = record { text = []; tree = This p; is = λ free left big. postfix this no_suffixes; no_vars = λ behind. refl }
+begins_unary depth (reserved words.True) p b = record { text = []; tree = Truth p true; is = λ free left big. postfix yes no_suffixes; no_vars = λ after. refl }
+begins_unary depth (reserved words.False) p b = record { text = []; tree = Truth p false; is = λ free left big. postfix no no_suffixes; no_vars = λ after. refl }
+begins_unary depth (reserved words.Null) p b = record { text = []; tree = Null p; is = λ free left big. postfix null no_suffixes; no_vars = λ after. refl }
+begins_unary depth (reserved words.This) p b = record { text = []; tree = This p; is = λ free left big. postfix this no_suffixes; no_vars = λ after. refl }
 begins_unary depth (reserved words.Array) p b = record {
   text = (sign signs.Less, nowhere) ∷ (name some_name, nowhere) ∷ (sign signs.Handle, nowhere) ∷ (sign signs.Greater, nowhere) ∷ (sign signs.OpenParenthesis, nowhere) ∷ (sign signs.CloseParenthesis, nowhere) ∷ [];
   tree = NewArray p (HandleElement nowhere some_name) (exprs []);
   is = λ free left big. postfix (new_array handle_element (args no_exprs)) no_suffixes;
-  no_vars = λ behind. refl;
+  no_vars = λ after. refl;
 }
 begins_unary depth (reserved words.Cast) p b = record {
   text = (sign signs.Less, nowhere) ∷ (name some_name, nowhere) ∷ (sign signs.Greater, nowhere) ∷ (sign signs.OpenParenthesis, nowhere) ∷ (name some_name, nowhere) ∷ (sign signs.CloseParenthesis, nowhere) ∷ [];
   tree = Cast p (record { place = nowhere; name = some_name }) (Name nowhere some_name);
   is = λ free left big. postfix (cast (inner_alone (omega arith) (postfix named no_suffixes))) no_suffixes;
-  no_vars = λ behind. refl;
+  no_vars = λ after. refl;
 }
 begins_unary depth m p b = begins_by depth m p (primitive m) (unary_operator m) refl refl b
 
@@ -150,7 +150,7 @@ begin_target ts =
     (λ n s. sign_then _ signs.Greater _ s
     (λ z t. done _ (record { place = n.1; name = n.0 }) t (λ free left. target))))
 
-casted : {free depth : ℕ} {p : Place} {t : TypeName} {from behind left : Tokens} {e : Expr} → IsTarget from t behind → IsBracketed free depth behind e left → IsPrimary free depth ((reserved words.Cast, p) ∷ from) (Cast p t e) left
+casted : {free depth : ℕ} {p : Place} {t : TypeName} {from after left : Tokens} {e : Expr} → IsTarget from t after → IsBracketed free depth after e left → IsPrimary free depth ((reserved words.Cast, p) ∷ from) (Cast p t e) left
 casted target (bracketed i) = cast i
 
 module _ (depth : ℕ) (below : Below) (whole : (ts : Tokens) → Law (below true ts) ts (λ free. IsInner free depth)) (part : (ts : Tokens) → Law (below false ts) ts (λ free. IsPart free depth)) where
@@ -207,13 +207,13 @@ module _ (depth : ℕ) (below : Below) (whole : (ts : Tokens) → Law (below tru
 
   opened : (p : Place) (ts : Tokens) → (below true ts >>= λ e. expect_at signs.CloseParenthesis e.1 >>= λ z. Ok (e.0, z.1)) ≡ bracketed_with below ((sign signs.OpenParenthesis, p) ∷ ts)
   unfolding bracketed_with
-  opened p ts = ap (λ (o : Reading Place). ◌>>=◌ {B = Expr} o (λ o. below true o.1 >>= λ e. expect_at signs.CloseParenthesis e.1 >>= λ z. Ok (e.0, z.1))) (sym (expect_again signs.OpenParenthesis p ts))
+  opened p ts = ap (λ (o : ParseResult Place). ◌>>=◌ {B = Expr} o (λ o. below true o.1 >>= λ e. expect_at signs.CloseParenthesis e.1 >>= λ z. Ok (e.0, z.1))) (sym (expect_again signs.OpenParenthesis p ts))
 
   begin_brackets : (p : Place) (ts : Tokens) → Law (bracketed_with below ((sign signs.OpenParenthesis, p) ∷ ts) >>= λ e. Ok (Brackets p e.0, e.1)) ((sign signs.OpenParenthesis, p) ∷ ts) (λ free. IsPrimary free depth)
   unfolding Closed
   begin_brackets p ts =
-      subst (λ (o : Reading Expr). Law (o >>= λ e. Ok (Brackets p e.0, e.1)) ((sign signs.OpenParenthesis, p) ∷ ts) (λ free. IsPrimary free depth)) (opened p ts)
-      (behind _ (sign signs.OpenParenthesis, p) _ ts (then Closed _ (below true ts >>= λ e. expect_at signs.CloseParenthesis e.1 >>= λ z. Ok (e.0, z.1)) _ ts (closed ts)
+      subst (λ (o : ParseResult Expr). Law (o >>= λ e. Ok (Brackets p e.0, e.1)) ((sign signs.OpenParenthesis, p) ∷ ts) (λ free. IsPrimary free depth)) (opened p ts)
+      (after _ (sign signs.OpenParenthesis, p) _ ts (then Closed _ (below true ts >>= λ e. expect_at signs.CloseParenthesis e.1 >>= λ z. Ok (e.0, z.1)) _ ts (closed ts)
       (λ e r. done _ (Brackets p e) r (λ free left before d. brackets d.1))))
 
   begin_new_array : (p : Place) (ts : Tokens) → Law (new_array_with below p ts) ts (Behind (reserved words.Array, p) (λ free. IsPrimary free depth))
@@ -232,17 +232,17 @@ module _ (depth : ℕ) (below : Below) (whole : (ts : Tokens) → Law (below tru
 
   primary_by_begins : (k : Option Primitive) (m : Meaning) (p : Place) (ts : Tokens) → primitive m ≡ k → Law (primary_by below k m p ts) ((m, p) ∷ ts) (λ free. IsPrimary free depth)
   primary_by_begins (Some k) m p ts g =
-      behind _ (m, p) _ ts (then (λ free. IsBracketed free depth) _ (bracketed_with below ts) _ ts (begin_bracketed ts)
+      after _ (m, p) _ ts (then (λ free. IsBracketed free depth) _ (bracketed_with below ts) _ ts (begin_bracketed ts)
       (λ e r. done _ (Convert p k e) r (λ free left before d. converted g d)))
-  primary_by_begins None (name text) p ts g = behind _ (name text, p) _ ts (begin_named p text ts)
-  primary_by_begins None (number n) p ts g = behind _ (number n, p) _ ts (done _ (Number p n) ts (λ free left. numeral))
+  primary_by_begins None (name text) p ts g = after _ (name text, p) _ ts (begin_named p text ts)
+  primary_by_begins None (number n) p ts g = after _ (number n, p) _ ts (done _ (Number p n) ts (λ free left. numeral))
   primary_by_begins None (sign signs.OpenParenthesis) p ts g = begin_brackets p ts
-  primary_by_begins None (reserved words.True) p ts g = behind _ (reserved words.True, p) _ ts (done _ (Truth p true) ts (λ free left. yes))
-  primary_by_begins None (reserved words.False) p ts g = behind _ (reserved words.False, p) _ ts (done _ (Truth p false) ts (λ free left. no))
-  primary_by_begins None (reserved words.Null) p ts g = behind _ (reserved words.Null, p) _ ts (done _ (Null p) ts (λ free left. null))
-  primary_by_begins None (reserved words.This) p ts g = behind _ (reserved words.This, p) _ ts (done _ (This p) ts (λ free left. this))
-  primary_by_begins None (reserved words.Array) p ts g = behind _ (reserved words.Array, p) _ ts (begin_new_array p ts)
-  primary_by_begins None (reserved words.Cast) p ts g = behind _ (reserved words.Cast, p) _ ts (begin_cast p ts)
+  primary_by_begins None (reserved words.True) p ts g = after _ (reserved words.True, p) _ ts (done _ (Truth p true) ts (λ free left. yes))
+  primary_by_begins None (reserved words.False) p ts g = after _ (reserved words.False, p) _ ts (done _ (Truth p false) ts (λ free left. no))
+  primary_by_begins None (reserved words.Null) p ts g = after _ (reserved words.Null, p) _ ts (done _ (Null p) ts (λ free left. null))
+  primary_by_begins None (reserved words.This) p ts g = after _ (reserved words.This, p) _ ts (done _ (This p) ts (λ free left. this))
+  primary_by_begins None (reserved words.Array) p ts g = after _ (reserved words.Array, p) _ ts (begin_new_array p ts)
+  primary_by_begins None (reserved words.Cast) p ts g = after _ (reserved words.Cast, p) _ ts (begin_cast p ts)
   primary_by_begins None m p ts g = stops_here (λ free. IsPrimary free depth) ((m, p) ∷ ts) (fill_primary depth)
 
   begin_primary : (ts : Tokens) → Law (primary_with below ts) ts (λ free. IsPrimary free depth)
@@ -267,15 +267,15 @@ module _ (depth : ℕ) (below : Below) (whole : (ts : Tokens) → Law (below tru
       (λ q s. done _ (Index e) s (λ free left before d. index d)))
 
   fill_suffix : Filled (λ free. IsSuffix free depth)
-  fill_suffix = fill_behind _ (sign signs.Increment, nowhere) (fill_here _ Increment (λ free left. increment))
+  fill_suffix = fill_after _ (sign signs.Increment, nowhere) (fill_here _ Increment (λ free left. increment))
 
   begin_suffix : (ts : Tokens) → Law (suffix_with below ts) ts (λ free. IsSuffix free depth)
   unfolding suffix_with
   begin_suffix [] = stops_here (λ free. IsSuffix free depth) [] fill_suffix
-  begin_suffix ((sign signs.Dot, p) ∷ ts) = behind _ (sign signs.Dot, p) _ ts (begin_member p ts)
-  begin_suffix ((sign signs.OpenBracket, p) ∷ ts) = behind _ (sign signs.OpenBracket, p) _ ts (begin_index p ts)
-  begin_suffix ((sign signs.Increment, p) ∷ ts) = behind _ (sign signs.Increment, p) _ ts (done _ Increment ts (λ free left. increment))
-  begin_suffix ((sign signs.Decrement, p) ∷ ts) = behind _ (sign signs.Decrement, p) _ ts (done _ Decrement ts (λ free left. decrement))
+  begin_suffix ((sign signs.Dot, p) ∷ ts) = after _ (sign signs.Dot, p) _ ts (begin_member p ts)
+  begin_suffix ((sign signs.OpenBracket, p) ∷ ts) = after _ (sign signs.OpenBracket, p) _ ts (begin_index p ts)
+  begin_suffix ((sign signs.Increment, p) ∷ ts) = after _ (sign signs.Increment, p) _ ts (done _ Increment ts (λ free left. increment))
+  begin_suffix ((sign signs.Decrement, p) ∷ ts) = after _ (sign signs.Decrement, p) _ ts (done _ Decrement ts (λ free left. decrement))
   begin_suffix ((m, p) ∷ ts) = stops_here (λ free. IsSuffix free depth) ((m, p) ∷ ts) fill_suffix
 
   begin_suffixes : (ts : Tokens) → Law (suffixes_with below ts) ts (λ free. AreSuffixes free depth)
@@ -294,7 +294,7 @@ module _ (depth : ℕ) (below : Below) (whole : (ts : Tokens) → Law (below tru
   unary_by_begins : (o : Option UnaryOp) (m : Meaning) (p : Place) (ts : Tokens) → unary_operator m ≡ o → Law (unary_by below o m p ts) ((m, p) ∷ ts) (λ free. IsUnary free depth)
   unary_by_begins None m p ts g = begin_postfix ((m, p) ∷ ts)
   unary_by_begins (Some o) m p ts g =
-      behind _ (m, p) _ ts (then (λ free. IsPart free depth) _ (below false ts) _ ts (part ts)
+      after _ (m, p) _ ts (then (λ free. IsPart free depth) _ (below false ts) _ ts (part ts)
       (λ e r. done _ (Unary p o e) r (λ free left before d. applied g d.0 d.1)))
 
   pub begin_unary : (ts : Tokens) → Law (unary_with below ts) ts (λ free. IsUnary free depth)
@@ -302,21 +302,21 @@ module _ (depth : ℕ) (below : Below) (whole : (ts : Tokens) → Law (below tru
   begin_unary [] = stops_here (λ free. IsUnary free depth) [] (fill_unary depth)
   begin_unary ((m, p) ∷ ts) = unary_by_begins (unary_operator m) m p ts refl
 
-  begin_link : (n : ℕ) (read : Tokens → Reading Expr) → ((ts : Tokens) → Law (read ts) ts (λ free. IsBinary free depth n)) → (from : Tokens) (o : Option (BinaryOp × Tokens)) → operator_at n from ≡ o → is_some o ≡ true → Explained (link_from read o from) from (Grows (λ free. AreLinks free depth n))
+  begin_link : (n : ℕ) (read : Tokens → ParseResult Expr) → ((ts : Tokens) → Law (read ts) ts (λ free. IsBinary free depth n)) → (from : Tokens) (o : Option (BinaryOp × Tokens)) → operator_at n from ≡ o → is_some o ≡ true → Explained (link_from read o from) from (Grows (λ free. AreLinks free depth n))
   unfolding operator_at
   begin_link n read law from None g b = absurd (no_true b)
   begin_link n read law [] (Some o) g b = absurd (no_some o g)
   begin_link n read law ((m, p) ∷ ts) (Some o) g b =
       operator_found n (binary_operator m) ts o (λ q r. Explained (read r >>= λ e. Ok (record { operator = q; operand = e.0 }, e.1)) ((m, p) ∷ ts) (Grows (λ free. AreLinks free depth n))) g
-      (λ q s l. (behind (Grows (λ free. AreLinks free depth n)) (m, p) (read ts >>= λ e. Ok (record { operator = q; operand = e.0 }, e.1)) ts
+      (λ q s l. (after (Grows (λ free. AreLinks free depth n)) (m, p) (read ts >>= λ e. Ok (record { operator = q; operand = e.0 }, e.1)) ts
       (then (λ free. IsBinary free depth n) _ (read ts) _ ts (law ts)
       (λ e r. done _ (record { operator = q; operand = e }) r (λ free left before d xs end more. more_links s l d more)))).explained)
 
-  begin_links : (n : ℕ) (read : Tokens → Reading Expr) → ((ts : Tokens) → Law (read ts) ts (λ free. IsBinary free depth n)) → (ts : Tokens) → Law (links_by n read ts) ts (λ free. AreLinks free depth n)
+  begin_links : (n : ℕ) (read : Tokens → ParseResult Expr) → ((ts : Tokens) → Law (read ts) ts (λ free. IsBinary free depth n)) → (ts : Tokens) → Law (links_by n read ts) ts (λ free. AreLinks free depth n)
   unfolding links_by link_by is_link
   begin_links n read law ts = all_of (is_link n) (link_by n read) (λ free. AreLinks free depth n) (λ free left. no_links) (λ s b. begin_link n read law s (operator_at n s) refl b) (length ts) ts
 
-  begin_chain : (n : ℕ) (read : Tokens → Reading Expr) → ((ts : Tokens) → Law (read ts) ts (λ free. IsBinary free depth n)) → (ts : Tokens) → Law (chain_by n read ts) ts (λ free. IsBinary free depth (suc n))
+  begin_chain : (n : ℕ) (read : Tokens → ParseResult Expr) → ((ts : Tokens) → Law (read ts) ts (λ free. IsBinary free depth n)) → (ts : Tokens) → Law (chain_by n read ts) ts (λ free. IsBinary free depth (suc n))
   unfolding chain_by
   begin_chain n read law ts =
       then (λ free. IsBinary free depth n) _ (read ts) _ ts (law ts)
@@ -339,7 +339,7 @@ module _ (depth : ℕ) (below : Below) (whole : (ts : Tokens) → Law (below tru
   begin_assign_by : (o : Option AssignOp) (m : Meaning) (p : Place) (e : Expr) (ts : Tokens) → assign_operator m ≡ o → Law (assign_by below e o m p ts) ((m, p) ∷ ts) (Then (λ free. IsBinary free depth LEVELS) (λ free. IsAssign free depth) e)
   begin_assign_by None m p e ts g = done _ e ((m, p) ∷ ts) (λ free left before d. no_assign (no_branch d))
   begin_assign_by (Some o) m p e ts g =
-      behind _ (m, p) _ ts (then (λ free. IsInner free depth) _ (below true ts) _ ts (whole ts)
+      after _ (m, p) _ ts (then (λ free. IsInner free depth) _ (below true ts) _ ts (whole ts)
       (λ v r. done _ (Assign (place_of e) e o v) r (λ free left second i before d. assign d g i)))
 
   begin_assign_from : (e : Expr) (ts : Tokens) → Law (assign_from below e ts) ts (Then (λ free. IsBinary free depth LEVELS) (λ free. IsAssign free depth) e)
@@ -347,7 +347,7 @@ module _ (depth : ℕ) (below : Below) (whole : (ts : Tokens) → Law (below tru
   begin_assign_from e [] = done _ e [] (λ free left before d. no_assign (no_branch d))
   begin_assign_from e ((m, p) ∷ ts) = record {
     explained = explain_either (is_sign signs.Question m) (branches_with below e ts) (assign_by below e (assign_operator m) m p ts) ((m, p) ∷ ts) (Then (λ free. IsBinary free depth LEVELS) (λ free. IsAssign free depth) e)
-        (λ b. subst (λ w. Explained (branches_with below e ts) ((w, p) ∷ ts) (Then (λ free. IsBinary free depth LEVELS) (λ free. IsAssign free depth) e)) (sym (sign_is signs.Question m b)) (behind _ (sign signs.Question, p) _ ts (begin_branches p e ts)).explained)
+        (λ b. subst (λ w. Explained (branches_with below e ts) ((w, p) ∷ ts) (Then (λ free. IsBinary free depth LEVELS) (λ free. IsAssign free depth) e)) (sym (sign_is signs.Question m b)) (after _ (sign signs.Question, p) _ ts (begin_branches p e ts)).explained)
         (λ b. (begin_assign_by (assign_operator m) m p e ts refl).explained);
     filled = fill_here _ e (λ free left before d. no_assign (no_branch d));
   }

@@ -13,27 +13,27 @@ use Rattle.ash_tree.specs.Types.{IsType}
 use Rattle.ash_tree.specs.Statements.{IsVars, IsBlock}
 use Rattle.ash_tree.specs.Grammar.{IsResultType, void, typed, IsParameter, parameter, AreMoreParameters, no_more_parameters, more_parameters, AreParameters, no_parameters, parameters, IsFunction, function, IsMember, method, fields, constructor, AreMembers, no_members, more_members, IsClass, class, IsItem, a_class, a_function, globals, Derives, no_items, semicolon, item, AreMoreInterfaces, no_more_interfaces, more_interfaces, AreInterfaces, no_interfaces, interfaces, IsInterfaceMethod, interface_method, AreInterfaceMethods, no_interface_methods, more_interface_methods, IsInterface, interface, an_interface}
 use Rattle.ash_parse.specs.Signs.{is_sign}
-use Rattle.ash_parse.specs.Reading.{Halt, Unexpected, TooDeep, Reading, ◌>>=◌, next_is_sign}
+use Rattle.ash_parse.specs.Readers.{Halt, Unexpected, TooDeep, ParseResult, ◌>>=◌, next_is_sign}
 use Rattle.ash_parse.specs.ExpressionReader.{below_at}
 use Rattle.ash_parse.specs.StatementReader.{type_at, is_vars, goes_on, nested_at}
 use Rattle.ash_parse.specs.ItemReader.{is_void, is_class, is_interface, result_type_at, parameter_at, next_parameter_at, more_parameters_at, parameter_list_at, parameters_at, body_at, function_at, globals_at, is_function, is_constructor, constructor_at, member_at, members_at, next_interface_at, more_interfaces_at, listed_interfaces_at, interfaces_at, class_at, interface_method_at, interface_methods_at, interface_at, other_item_at, item_at, strip, entry_at, is_left, entries_at, module_at}
 use Rattle.ash_parse.proofs.Readings.{sign_is}
 use Rattle.ash_parse.proofs.ItemSound.{void_is, class_is, interface_is}
 use Rattle.ash_parse.proofs.StatementSound.{nested_sound}
-use Rattle.ash_parse.proofs.BeginLaws.{left_at, GoesOn, Stopped, Law, Filled, Explained, Then, Behind, Grows, Ending, then, law_as, done, fill_here, stops_here, behind, fill_behind, either, explain_either, sign_then, name_then, put_law, all_of, nowhere, some_name}
+use Rattle.ash_parse.proofs.BeginLaws.{left_at, GoesOn, Stopped, Law, Filled, Explained, Then, Behind, Grows, Ending, then, law_as, done, fill_here, stops_here, after, fill_after, either, explain_either, sign_then, name_then, put_law, all_of, nowhere, some_name}
 use Rattle.ash_parse.proofs.BeginExpressions.{begin_whole, begin_part}
 use Rattle.ash_parse.proofs.BeginTypes.{begin_type}
 use Rattle.ash_parse.proofs.BeginStatements.{begin_declared, begin_block, begin_nested}
 
 fill_result : Filled (λ free. IsResultType)
-fill_result = fill_behind _ (reserved words.Void, nowhere) (fill_here _ None (λ free left. void))
+fill_result = fill_after _ (reserved words.Void, nowhere) (fill_here _ None (λ free left. void))
 
 pub begin_result_type : (ts : Tokens) → Law (result_type_at ts) ts (λ free. IsResultType)
 unfolding result_type_at
 begin_result_type [] = stops_here (λ free. IsResultType) [] fill_result
 begin_result_type ((m, p) ∷ ts) = record {
   explained = explain_either (is_void m) (Ok (None, ts)) (type_at ((m, p) ∷ ts) >>= λ t. Ok (Some t.0, t.1)) ((m, p) ∷ ts) (λ free. IsResultType)
-      (λ b. subst (λ w. Explained (Ok (None, ts)) ((w, p) ∷ ts) (λ free. IsResultType)) (sym (void_is m b)) (behind (λ free. IsResultType) (reserved words.Void, p) (Ok (None, ts)) ts (done _ None ts (λ free left. void))).explained)
+      (λ b. subst (λ w. Explained (Ok (None, ts)) ((w, p) ∷ ts) (λ free. IsResultType)) (sym (void_is m b)) (after (λ free. IsResultType) (reserved words.Void, p) (Ok (None, ts)) ts (done _ None ts (λ free left. void))).explained)
       (λ b. (then (λ free. IsType) (λ free. IsResultType) (type_at ((m, p) ∷ ts)) (λ t. Ok (Some t.0, t.1)) ((m, p) ∷ ts) (begin_type ((m, p) ∷ ts)) (λ t r. done _ (Some t) r (λ free left before d. typed d))).explained);
   filled = fill_result;
 }
@@ -58,7 +58,7 @@ begin_more_parameters ts = all_of (next_is_sign signs.Comma) next_parameter_at (
 -- [ type NAME { "," type NAME } ]
 data AreListed : Tokens → List Parameter → Tokens → Type 0 where
   none : {left : Tokens} → AreListed left [] left
-  some : {from behind left : Tokens} {x : Parameter} {xs : List Parameter} → IsParameter from x behind → AreMoreParameters behind xs left → AreListed from (x ∷ xs) left
+  some : {from after left : Tokens} {x : Parameter} {xs : List Parameter} → IsParameter from x after → AreMoreParameters after xs left → AreListed from (x ∷ xs) left
 
 listed : {p q : Place} {from left : Tokens} {xs : List Parameter} → AreListed from xs ((sign signs.CloseParenthesis, q) ∷ left) → AreParameters ((sign signs.OpenParenthesis, p) ∷ from) xs left
 listed none = no_parameters
@@ -181,7 +181,7 @@ begin_interface p ts =
 -- a class without members
 fill_item : Filled IsItem
 fill_item =
-    fill_behind _ (reserved words.Class, nowhere) (fill_behind _ (name some_name, nowhere) (fill_behind _ (sign signs.OpenBrace, nowhere) (fill_behind _ (sign signs.CloseBrace, nowhere)
+    fill_after _ (reserved words.Class, nowhere) (fill_after _ (name some_name, nowhere) (fill_after _ (sign signs.OpenBrace, nowhere) (fill_after _ (sign signs.CloseBrace, nowhere)
     (fill_here _ (AClass (record { place = nowhere; name = some_name; interfaces = []; members = [] })) (λ free left. a_class (class no_interfaces no_members))))))
 
 begin_other_item : (ts : Tokens) → Law (other_item_at ts) ts IsItem
@@ -198,15 +198,15 @@ begin_item ((m, p) ∷ ts) =
     record {
       explained = explain_either (is_class m) (class_at ts >>= λ c. Ok (AClass c.0, c.1)) (cond (is_interface m) (interface_at ts >>= λ i. Ok (AnInterface i.0, i.1)) (other_item_at u)) u IsItem
           (λ b. subst (λ w. Explained (class_at ts >>= λ c. Ok (AClass c.0, c.1)) ((w, p) ∷ ts) IsItem) (sym (class_is m b))
-          (behind IsItem (reserved words.Class, p) (class_at ts >>= λ c. Ok (AClass c.0, c.1)) ts (then (Behind (reserved words.Class, p) IsClass) _ (class_at ts) _ ts (begin_class p ts) (λ c r. done _ (AClass c) r (λ free left before d. a_class d)))).explained)
+          (after IsItem (reserved words.Class, p) (class_at ts >>= λ c. Ok (AClass c.0, c.1)) ts (then (Behind (reserved words.Class, p) IsClass) _ (class_at ts) _ ts (begin_class p ts) (λ c r. done _ (AClass c) r (λ free left before d. a_class d)))).explained)
           (λ b. explain_either (is_interface m) (interface_at ts >>= λ i. Ok (AnInterface i.0, i.1)) (other_item_at u) u IsItem
           (λ c. subst (λ w. Explained (interface_at ts >>= λ i. Ok (AnInterface i.0, i.1)) ((w, p) ∷ ts) IsItem) (sym (interface_is m c))
-          (behind IsItem (reserved words.Interface, p) (interface_at ts >>= λ i. Ok (AnInterface i.0, i.1)) ts (then (Behind (reserved words.Interface, p) (λ free. IsInterface)) _ (interface_at ts) _ ts (begin_interface p ts) (λ i r. done _ (AnInterface i) r (λ free left before d. an_interface d)))).explained)
+          (after IsItem (reserved words.Interface, p) (interface_at ts >>= λ i. Ok (AnInterface i.0, i.1)) ts (then (Behind (reserved words.Interface, p) (λ free. IsInterface)) _ (interface_at ts) _ ts (begin_interface p ts) (λ i r. done _ (AnInterface i) r (λ free left before d. an_interface d)))).explained)
           (λ c. (begin_other_item u).explained));
       filled = fill_item;
     }
 
--- the ";" in front, which change nothing
+-- the ";" in prefix, which change nothing
 record Stripped (ts : Tokens) : Type 0 where
   semicolons : Tokens
   all : ts ≡ semicolons ++ strip ts
@@ -244,17 +244,17 @@ begin_entries : (ts : Tokens) → Law (entries_at ts) ts Leads
 unfolding entries_at
 begin_entries ts = all_of is_left entry_at Leads (λ free left d. d) (λ s b. (begin_entry s).explained) (length ts) ts
 
-pub stops_with : {A : Type 0} (o : Reading A) (h : Halt) (ts : Tokens) (P : ℕ → Tokens → A → Tokens → Type 0) → o ≡ Err h → Explained o ts P → Stopped ts h P
+pub stops_with : {A : Type 0} (o : ParseResult A) (h : Halt) (ts : Tokens) (P : ℕ → Tokens → A → Tokens → Type 0) → o ≡ Err h → Explained o ts P → Stopped ts h P
 stops_with o h ts P e x = subst (λ r. Explained r ts P) e x
 
 -- where reading stops, the tokens before begin a module, which goes on with the token that stands too deep, if one does
 pub record StopsModule (all : Tokens) (h : Halt) : Type 0 where
-  pub front : Tokens
-  pub is_all : all ≡ front ++ left_at h
+  pub prefix : Tokens
+  pub is_all : all ≡ prefix ++ left_at h
   pub tail : Tokens
   pub goes_on : GoesOn h tail
   pub items : List Item
-  pub derived : Derives (length tail) (front ++ tail) items
+  pub derived : Derives (length tail) (prefix ++ tail) items
 
 pub stops_module : (all : Tokens) (h : Halt) → module_at all ≡ Err h → StopsModule all h
 unfolding module_at
@@ -262,30 +262,30 @@ stops_module all h e =
     let s = stripped all in
     let r = stops_with (entries_at (strip all)) h (strip all) Leads e (begin_entries (strip all)).explained in
     let n : length r.tail + 0 ≡ length r.tail = omega arith in
-    let d : Derives (length r.tail + 0) (r.front ++ (r.tail ++ [])) r.tree = r.is [] no_items in
-    let k : Derives (length r.tail) (r.front ++ (r.tail ++ [])) r.tree = subst (λ free. Derives free (r.front ++ (r.tail ++ [])) r.tree) n d in
-    let w : Derives (length r.tail) (r.front ++ r.tail) r.tree = subst (λ (l : Tokens). Derives (length r.tail) (r.front ++ l) r.tree) (append-nil r.tail) k in
+    let d : Derives (length r.tail + 0) (r.prefix ++ (r.tail ++ [])) r.tree = r.is [] no_items in
+    let k : Derives (length r.tail) (r.prefix ++ (r.tail ++ [])) r.tree = subst (λ free. Derives free (r.prefix ++ (r.tail ++ [])) r.tree) n d in
+    let w : Derives (length r.tail) (r.prefix ++ r.tail) r.tree = subst (λ (l : Tokens). Derives (length r.tail) (r.prefix ++ l) r.tree) (append-nil r.tail) k in
     record {
-      front = s.semicolons ++ r.front;
-      is_all = s.all ∙ ap (λ (l : Tokens). s.semicolons ++ l) r.all ∙ sym (append_assoc s.semicolons r.front (left_at h));
+      prefix = s.semicolons ++ r.prefix;
+      is_all = s.all ∙ ap (λ (l : Tokens). s.semicolons ++ l) r.all ∙ sym (append_assoc s.semicolons r.prefix (left_at h));
       tail = r.tail;
       goes_on = r.goes_on;
       items = r.tree;
-      derived = subst (λ (l : Tokens). Derives (length r.tail) l r.tree) (sym (append_assoc s.semicolons r.front r.tail)) (s.is (length r.tail) (r.front ++ r.tail) r.tree w);
+      derived = subst (λ (l : Tokens). Derives (length r.tail) l r.tree) (sym (append_assoc s.semicolons r.prefix r.tail)) (s.is (length r.tail) (r.prefix ++ r.tail) r.tree w);
     }
 
 -- what stands before the place where reading stops begins a module within the depth
-pub begun : (ts rest : Tokens) → module_at ts ≡ Err (Unexpected rest) → (front : Tokens) × (ts ≡ front ++ rest) × ((tail : Tokens) × (items : List Item) × Derives (length tail) (front ++ tail) items)
-begun ts rest e = let s = stops_module ts (Unexpected rest) e in (s.front, s.is_all, (s.tail, s.items, s.derived))
+pub begun : (ts rest : Tokens) → module_at ts ≡ Err (Unexpected rest) → (prefix : Tokens) × (ts ≡ prefix ++ rest) × ((tail : Tokens) × (items : List Item) × Derives (length tail) (prefix ++ tail) items)
+begun ts rest e = let s = stops_module ts (Unexpected rest) e in (s.prefix, s.is_all, (s.tail, s.items, s.derived))
 
--- where a token stands too deep, a module goes on with it that has only this token and those behind too deep, and there it
+-- where a token stands too deep, a module goes on with it that has only this token and those after too deep, and there it
 -- begins no declaration of variables
-pub begun_deep : (ts rest : Tokens) (t : Meaning × Place) → module_at ts ≡ Err (TooDeep (t ∷ rest)) → (front : Tokens) × (tail : Tokens) × (items : List Item) × (ts ≡ front ++ t ∷ rest) × (is_vars (t ∷ tail) ≡ false) × Derives (suc (length tail)) (front ++ t ∷ tail) items
+pub begun_deep : (ts rest : Tokens) (t : Meaning × Place) → module_at ts ≡ Err (TooDeep (t ∷ rest)) → (prefix : Tokens) × (tail : Tokens) × (items : List Item) × (ts ≡ prefix ++ t ∷ rest) × (is_vars (t ∷ tail) ≡ false) × Derives (suc (length tail)) (prefix ++ t ∷ tail) items
 begun_deep ts rest t e =
     let s = stops_module ts (TooDeep (t ∷ rest)) e in
     let tail = s.goes_on.0 in
     let no_vars : is_vars ((t ∷ tail) ++ []) ≡ false = subst (λ (l : Tokens). is_vars (l ++ []) ≡ false) s.goes_on.1 (s.goes_on.2 []) in
-    (s.front, tail, s.items, s.is_all, subst (λ (l : Tokens). is_vars l ≡ false) (append-nil (t ∷ tail)) no_vars, subst (λ (l : Tokens). Derives (length l) (s.front ++ l) s.items) s.goes_on.1 s.derived)
+    (s.prefix, tail, s.items, s.is_all, subst (λ (l : Tokens). is_vars l ≡ false) (append-nil (t ∷ tail)) no_vars, subst (λ (l : Tokens). Derives (length l) (s.prefix ++ l) s.items) s.goes_on.1 s.derived)
 
 -- what stands too deep is a token
 pub some_token_deep : (ts : Tokens) → module_at ts ≡ Err (TooDeep []) → ⊥

@@ -1,4 +1,4 @@
--- What is read of tokens can be read in front of other tokens too; and where reading stops, what stands before the stop
+-- What is read of tokens can be read before other tokens too; and where reading stops, what stands before the stop
 -- begins a phrase. The laws say so of a reading that is made of others.
 use Rattle.std.proofs.Common.{◌≡◌, ℕ, zero, suc, ◌+◌, ◌≤◌, List, [], ◌∷◌, ◌++◌, length, Bool, true, false, cond, Ok, Err, refl, sym, ap, subst, ◌∙◌, append_assoc, length-append, arith}
 use Rattle.ash_lex.specs.Tokens.{Meaning, name, number, sign, reserved, unsupported}
@@ -6,7 +6,7 @@ use Rattle.ash_lex.specs.declared.signs.Sign.{Sign}
 use Rattle.ash_tree.specs.declared.tree.places.Place.{Place}
 use Rattle.ash_tree.specs.Tokens.{Tokens}
 use Rattle.ash_parse.specs.Signs.{is_sign}
-use Rattle.ash_parse.specs.Reading.{Halt, Unexpected, TooDeep, Reading, ◌>>=◌, put, repeat, expect_at, name_at}
+use Rattle.ash_parse.specs.Readers.{Halt, Unexpected, TooDeep, ParseResult, ◌>>=◌, put, repeat, expect_at, name_at}
 use Rattle.ash_parse.specs.StatementReader.{is_vars}
 use Rattle.ash_parse.proofs.Readings.{sign_is}
 
@@ -15,35 +15,35 @@ abbrev pub left_at : Halt → Tokens
 left_at (Unexpected rest) = rest
 left_at (TooDeep rest) = rest
 
--- what a phrase goes on with from the fault on: where a token stands too deep, with this token, and, whatever is behind, with
+-- what a phrase goes on with from the fault on: where a token stands too deep, with this token, and, whatever is after, with
 -- no declaration of variables
 abbrev pub GoesOn : Halt → Tokens → Type 0
 GoesOn (Unexpected rest) tail = Unit {0}
 GoesOn (TooDeep []) tail = ⊥
-GoesOn (TooDeep (t ∷ rest)) tail = (more : Tokens) × (tail ≡ t ∷ more) × ((behind : Tokens) → is_vars (tail ++ behind) ≡ false)
+GoesOn (TooDeep (t ∷ rest)) tail = (more : Tokens) × (tail ≡ t ∷ more) × ((after : Tokens) → is_vars (tail ++ after) ≡ false)
 
 pub goes_on_with : (h : Halt) (tail more : Tokens) → GoesOn h tail → GoesOn h (tail ++ more)
 goes_on_with (Unexpected rest) tail more g = tt
 goes_on_with (TooDeep []) tail more g = absurd g
-goes_on_with (TooDeep (t ∷ rest)) tail more g = (g.0 ++ more, ap (λ (ts : Tokens). ts ++ more) g.1, λ behind. subst (λ (ts : Tokens). is_vars ts ≡ false) (sym (append_assoc tail more behind)) (g.2 (more ++ behind)))
+goes_on_with (TooDeep (t ∷ rest)) tail more g = (g.0 ++ more, ap (λ (ts : Tokens). ts ++ more) g.1, λ after. subst (λ (ts : Tokens). is_vars ts ≡ false) (sym (append_assoc tail more after)) (g.2 (more ++ after)))
 
--- the tokens that were taken are the phrase whatever is left behind them, and whatever the depth isn't asked of
-pub record Taken {A : Type 0} (ts : Tokens) (x : A) (rest : Tokens) (P : ℕ → Tokens → A → Tokens → Type 0) : Type 0 where
+-- the tokens that were taken are the phrase whatever is left after them, and whatever the depth isn't asked of
+pub record TakenTokens {A : Type 0} (ts : Tokens) (x : A) (rest : Tokens) (P : ℕ → Tokens → A → Tokens → Type 0) : Type 0 where
   pub taken : Tokens
   pub all : ts ≡ taken ++ rest
   pub is : (free : ℕ) (left : Tokens) → P free (taken ++ left) x left
 
--- the tokens in front of the fault begin the phrase: with this tail they are one, where the depth isn't asked from the tail on
+-- the tokens before the fault begin the phrase: with this tail they are one, where the depth isn't asked from the tail on
 pub record Stopped {A : Type 0} (ts : Tokens) (h : Halt) (P : ℕ → Tokens → A → Tokens → Type 0) : Type 0 where
-  pub front : Tokens
-  pub all : ts ≡ front ++ left_at h
+  pub prefix : Tokens
+  pub all : ts ≡ prefix ++ left_at h
   pub tail : Tokens
   pub goes_on : GoesOn h tail
   pub tree : A
-  pub is : (left : Tokens) → P (length tail + length left) (front ++ (tail ++ left)) tree left
+  pub is : (left : Tokens) → P (length tail + length left) (prefix ++ (tail ++ left)) tree left
 
-abbrev pub Explained : {A : Type 0} → Reading A → Tokens → (ℕ → Tokens → A → Tokens → Type 0) → Type 0
-Explained (Ok y) ts P = Taken ts y.0 y.1 P
+abbrev pub Explained : {A : Type 0} → ParseResult A → Tokens → (ℕ → Tokens → A → Tokens → Type 0) → Type 0
+Explained (Ok y) ts P = TakenTokens ts y.0 y.1 P
 Explained (Err h) ts P = Stopped ts h P
 
 -- some tokens are the phrase, where the depth isn't asked of them
@@ -52,38 +52,38 @@ pub record Filled {A : Type 0} (P : ℕ → Tokens → A → Tokens → Type 0) 
   pub tree : A
   pub is : (free : ℕ) (left : Tokens) → length (text ++ left) ≤ free → P free (text ++ left) tree left
 
-pub record Law {A : Type 0} (o : Reading A) (ts : Tokens) (P : ℕ → Tokens → A → Tokens → Type 0) : Type 0 where
+pub record Law {A : Type 0} (o : ParseResult A) (ts : Tokens) (P : ℕ → Tokens → A → Tokens → Type 0) : Type 0 where
   pub explained : Explained o ts P
   pub filled : Filled P
 
--- what is behind a phrase P with the tree x is, with it, a phrase Q
+-- what is after a phrase P with the tree x is, with it, a phrase Q
 abbrev pub Then : {A B : Type 0} → (ℕ → Tokens → A → Tokens → Type 0) → (ℕ → Tokens → B → Tokens → Type 0) → A → ℕ → Tokens → B → Tokens → Type 0
 Then P Q x free from y left = (before : Tokens) → P free before x from → Q free before y left
 
--- the phrase P behind a token
+-- the phrase P after a token
 abbrev pub Behind : {A : Type 0} → Meaning × Place → (ℕ → Tokens → A → Tokens → Type 0) → ℕ → Tokens → A → Tokens → Type 0
 Behind t P free from x left = P free (t ∷ from) x left
 
 module _ {A B : Type 0} (P : ℕ → Tokens → A → Tokens → Type 0) (Q : ℕ → Tokens → B → Tokens → Type 0) where
-  both : (o : Reading B) (ts : Tokens) (x : A) (rest : Tokens) → Taken ts x rest P → Explained o rest (Then P Q x) → Explained o ts Q
+  both : (o : ParseResult B) (ts : Tokens) (x : A) (rest : Tokens) → TakenTokens ts x rest P → Explained o rest (Then P Q x) → Explained o ts Q
   both (Ok y) ts x rest t e = record {
     taken = t.taken ++ e.taken;
     all = t.all ∙ ap (λ (r : Tokens). t.taken ++ r) e.all ∙ sym (append_assoc t.taken e.taken y.1);
     is = λ free left. subst (λ (l : Tokens). Q free l y.0 left) (sym (append_assoc t.taken e.taken left)) (e.is free left (t.taken ++ (e.taken ++ left)) (t.is free (e.taken ++ left)));
   }
   both (Err h) ts x rest t e = record {
-    front = t.taken ++ e.front;
-    all = t.all ∙ ap (λ (r : Tokens). t.taken ++ r) e.all ∙ sym (append_assoc t.taken e.front (left_at h));
+    prefix = t.taken ++ e.prefix;
+    all = t.all ∙ ap (λ (r : Tokens). t.taken ++ r) e.all ∙ sym (append_assoc t.taken e.prefix (left_at h));
     tail = e.tail;
     goes_on = e.goes_on;
     tree = e.tree;
-    is = λ left. subst (λ (l : Tokens). Q (length e.tail + length left) l e.tree left) (sym (append_assoc t.taken e.front (e.tail ++ left))) (e.is left (t.taken ++ (e.front ++ (e.tail ++ left))) (t.is (length e.tail + length left) (e.front ++ (e.tail ++ left))));
+    is = λ left. subst (λ (l : Tokens). Q (length e.tail + length left) l e.tree left) (sym (append_assoc t.taken e.prefix (e.tail ++ left))) (e.is left (t.taken ++ (e.prefix ++ (e.tail ++ left))) (t.is (length e.tail + length left) (e.prefix ++ (e.tail ++ left))));
   }
 
-  -- where the first stops, any second stands behind it
+  -- where the first stops, any second stands after it
   first : (h : Halt) (ts : Tokens) → (s : Stopped ts h P) → Filled (Then P Q s.tree) → Stopped ts h Q
   first h ts s f = record {
-    front = s.front;
+    prefix = s.prefix;
     all = s.all;
     tail = s.tail ++ f.text;
     goes_on = goes_on_with h s.tail f.text s.goes_on;
@@ -91,12 +91,12 @@ module _ {A B : Type 0} (P : ℕ → Tokens → A → Tokens → Type 0) (Q : �
     is = λ left.
         let n : length (s.tail ++ f.text) + length left ≡ length s.tail + length (f.text ++ left) = omega (arith, length-append s.tail f.text, length-append f.text left) in
         let big : length (f.text ++ left) ≤ length s.tail + length (f.text ++ left) = omega arith in
-        subst (λ k. Q k (s.front ++ ((s.tail ++ f.text) ++ left)) f.tree left) (sym n)
-        (subst (λ (l : Tokens). Q (length s.tail + length (f.text ++ left)) (s.front ++ l) f.tree left) (sym (append_assoc s.tail f.text left))
-        (f.is (length s.tail + length (f.text ++ left)) left big (s.front ++ (s.tail ++ (f.text ++ left))) (s.is (f.text ++ left))));
+        subst (λ k. Q k (s.prefix ++ ((s.tail ++ f.text) ++ left)) f.tree left) (sym n)
+        (subst (λ (l : Tokens). Q (length s.tail + length (f.text ++ left)) (s.prefix ++ l) f.tree left) (sym (append_assoc s.tail f.text left))
+        (f.is (length s.tail + length (f.text ++ left)) left big (s.prefix ++ (s.tail ++ (f.text ++ left))) (s.is (f.text ++ left))));
   }
 
-  pub explain_then : (o : Reading A) (f : A × Tokens → Reading B) (ts : Tokens) → Explained o ts P → ((x : A) → Filled (Then P Q x)) → ((x : A) (rest : Tokens) → o ≡ Ok (x, rest) → Explained (f (x, rest)) rest (Then P Q x)) → Explained (o >>= f) ts Q
+  pub explain_then : (o : ParseResult A) (f : A × Tokens → ParseResult B) (ts : Tokens) → Explained o ts P → ((x : A) → Filled (Then P Q x)) → ((x : A) (rest : Tokens) → o ≡ Ok (x, rest) → Explained (f (x, rest)) rest (Then P Q x)) → Explained (o >>= f) ts Q
   explain_then (Ok y) f ts e fill go = both (f y) ts y.0 y.1 e (go y.0 y.1 refl)
   explain_then (Err h) f ts e fill go = first h ts e (fill e.tree)
 
@@ -111,23 +111,23 @@ module _ {A B : Type 0} (P : ℕ → Tokens → A → Tokens → Type 0) (Q : �
         subst (λ (l : Tokens). Q free l q.tree left) (sym same) (q.is free left (omega arith) (p.text ++ (q.text ++ left)) (p.is free (q.text ++ left) (omega arith)));
   }
 
-  -- a phrase, and what is read behind it
-  pub then : (o : Reading A) (f : A × Tokens → Reading B) (ts : Tokens) → Law o ts P → ((x : A) (rest : Tokens) → Law (f (x, rest)) rest (Then P Q x)) → Law (o >>= f) ts Q
+  -- a phrase, and what is read after it
+  pub then : (o : ParseResult A) (f : A × Tokens → ParseResult B) (ts : Tokens) → Law o ts P → ((x : A) (rest : Tokens) → Law (f (x, rest)) rest (Then P Q x)) → Law (o >>= f) ts Q
   then o f ts l go = record {
     explained = explain_then o f ts l.explained (λ x. (go x []).filled) (λ x rest e. (go x rest).explained);
     filled = fill_then l.filled (go l.filled.tree []).filled;
   }
 
 module _ {A : Type 0} (P Q : ℕ → Tokens → A → Tokens → Type 0) (to : (free : ℕ) (from : Tokens) (x : A) (left : Tokens) → P free from x left → Q free from x left) where
-  pub explain_as : (o : Reading A) (ts : Tokens) → Explained o ts P → Explained o ts Q
+  pub explain_as : (o : ParseResult A) (ts : Tokens) → Explained o ts P → Explained o ts Q
   explain_as (Ok y) ts e = record { taken = e.taken; all = e.all; is = λ free left. to free (e.taken ++ left) y.0 left (e.is free left) }
-  explain_as (Err h) ts e = record { front = e.front; all = e.all; tail = e.tail; goes_on = e.goes_on; tree = e.tree; is = λ left. to (length e.tail + length left) (e.front ++ (e.tail ++ left)) e.tree left (e.is left) }
+  explain_as (Err h) ts e = record { prefix = e.prefix; all = e.all; tail = e.tail; goes_on = e.goes_on; tree = e.tree; is = λ left. to (length e.tail + length left) (e.prefix ++ (e.tail ++ left)) e.tree left (e.is left) }
 
   pub fill_as : Filled P → Filled Q
   fill_as f = record { text = f.text; tree = f.tree; is = λ free left big. to free (f.text ++ left) f.tree left (f.is free left big) }
 
   -- each phrase P is a phrase Q
-  pub law_as : (o : Reading A) (ts : Tokens) → Law o ts P → Law o ts Q
+  pub law_as : (o : ParseResult A) (ts : Tokens) → Law o ts P → Law o ts Q
   law_as o ts l = record { explained = explain_as o ts l.explained; filled = fill_as l.filled }
 
 -- where nothing is taken
@@ -142,33 +142,33 @@ done Q x rest q = record { explained = done_at Q x rest q; filled = fill_here Q 
 
 -- a reading that stops at its first token
 pub stopped_at : {A : Type 0} (Q : ℕ → Tokens → A → Tokens → Type 0) (ts : Tokens) → Filled Q → Stopped ts (Unexpected ts) Q
-stopped_at Q ts f = record { front = []; all = refl; tail = f.text; goes_on = tt; tree = f.tree; is = λ left. let n : length (f.text ++ left) ≡ length f.text + length left = length-append f.text left in f.is (length f.text + length left) left (omega arith) }
+stopped_at Q ts f = record { prefix = []; all = refl; tail = f.text; goes_on = tt; tree = f.tree; is = λ left. let n : length (f.text ++ left) ≡ length f.text + length left = length-append f.text left in f.is (length f.text + length left) left (omega arith) }
 
 pub stops_here : {A : Type 0} (Q : ℕ → Tokens → A → Tokens → Type 0) (ts : Tokens) → Filled Q → Law (Err (Unexpected ts)) ts Q
 stops_here Q ts f = record { explained = stopped_at Q ts f; filled = f }
 
--- some tokens behind this one are, with it, the phrase, where the depth isn't asked of them, and no declaration of variables
+-- some tokens after this one are, with it, the phrase, where the depth isn't asked of them, and no declaration of variables
 pub record FilledBy {A : Type 0} (t : Meaning × Place) (P : ℕ → Tokens → A → Tokens → Type 0) : Type 0 where
   pub text : Tokens
   pub tree : A
   pub is : (free : ℕ) (left : Tokens) → length (t ∷ (text ++ left)) ≤ free → P free (t ∷ (text ++ left)) tree left
-  pub no_vars : (behind : Tokens) → is_vars (t ∷ (text ++ behind)) ≡ false
+  pub no_vars : (after : Tokens) → is_vars (t ∷ (text ++ after)) ≡ false
 
 -- a reading that stops at a token that stands too deep
 pub too_deep_at : {A : Type 0} (Q : ℕ → Tokens → A → Tokens → Type 0) (t : Meaning × Place) (ts : Tokens) → FilledBy t Q → Stopped (t ∷ ts) (TooDeep (t ∷ ts)) Q
-too_deep_at Q t ts f = record { front = []; all = refl; tail = t ∷ f.text; goes_on = (f.text, refl, f.no_vars); tree = f.tree; is = λ left. let n : length (f.text ++ left) ≡ length f.text + length left = length-append f.text left in f.is (length (t ∷ f.text) + length left) left (omega arith) }
+too_deep_at Q t ts f = record { prefix = []; all = refl; tail = t ∷ f.text; goes_on = (f.text, refl, f.no_vars); tree = f.tree; is = λ left. let n : length (f.text ++ left) ≡ length f.text + length left = length-append f.text left in f.is (length (t ∷ f.text) + length left) left (omega arith) }
 
--- one token, and what is read behind it
+-- one token, and what is read after it
 module _ {A : Type 0} (Q : ℕ → Tokens → A → Tokens → Type 0) (t : Meaning × Place) where
-  pub explain_behind : (o : Reading A) (ts : Tokens) → Explained o ts (Behind t Q) → Explained o (t ∷ ts) Q
-  explain_behind (Ok y) ts e = record { taken = t ∷ e.taken; all = ap (λ (r : Tokens). t ∷ r) e.all; is = e.is }
-  explain_behind (Err h) ts e = record { front = t ∷ e.front; all = ap (λ (r : Tokens). t ∷ r) e.all; tail = e.tail; goes_on = e.goes_on; tree = e.tree; is = e.is }
+  pub explain_after : (o : ParseResult A) (ts : Tokens) → Explained o ts (Behind t Q) → Explained o (t ∷ ts) Q
+  explain_after (Ok y) ts e = record { taken = t ∷ e.taken; all = ap (λ (r : Tokens). t ∷ r) e.all; is = e.is }
+  explain_after (Err h) ts e = record { prefix = t ∷ e.prefix; all = ap (λ (r : Tokens). t ∷ r) e.all; tail = e.tail; goes_on = e.goes_on; tree = e.tree; is = e.is }
 
-  pub fill_behind : Filled (Behind t Q) → Filled Q
-  fill_behind f = record { text = t ∷ f.text; tree = f.tree; is = λ free left big. f.is free left (omega arith) }
+  pub fill_after : Filled (Behind t Q) → Filled Q
+  fill_after f = record { text = t ∷ f.text; tree = f.tree; is = λ free left big. f.is free left (omega arith) }
 
-  pub behind : (o : Reading A) (ts : Tokens) → Law o ts (Behind t Q) → Law o (t ∷ ts) Q
-  behind o ts l = record { explained = explain_behind o ts l.explained; filled = fill_behind l.filled }
+  pub after : (o : ParseResult A) (ts : Tokens) → Law o ts (Behind t Q) → Law o (t ∷ ts) Q
+  after o ts l = record { explained = explain_after o ts l.explained; filled = fill_after l.filled }
 
 -- where a made-up token stands
 abbrev pub nowhere : Place
@@ -178,71 +178,71 @@ nowhere = record { at = 0; line = 1 }
 abbrev pub some_name : List ℕ
 some_name = 120 ∷ []
 
-pub either : {A : Type 0} (b : Bool) (x y : Reading A) (ts : Tokens) (Q : ℕ → Tokens → A → Tokens → Type 0) → Law x ts Q → Law y ts Q → Law (cond b x y) ts Q
+pub either : {A : Type 0} (b : Bool) (x y : ParseResult A) (ts : Tokens) (Q : ℕ → Tokens → A → Tokens → Type 0) → Law x ts Q → Law y ts Q → Law (cond b x y) ts Q
 either true x y ts Q l r = l
 either false x y ts Q l r = r
 
 -- by a test
-pub explain_either : {A : Type 0} (b : Bool) (x y : Reading A) (ts : Tokens) (Q : ℕ → Tokens → A → Tokens → Type 0) → (b ≡ true → Explained x ts Q) → (b ≡ false → Explained y ts Q) → Explained (cond b x y) ts Q
+pub explain_either : {A : Type 0} (b : Bool) (x y : ParseResult A) (ts : Tokens) (Q : ℕ → Tokens → A → Tokens → Type 0) → (b ≡ true → Explained x ts Q) → (b ≡ false → Explained y ts Q) → Explained (cond b x y) ts Q
 explain_either true x y ts Q l r = l refl
 explain_either false x y ts Q l r = r refl
 
--- this sign, and what is read behind it
-explain_sign : {A : Type 0} (Q : ℕ → Tokens → A → Tokens → Type 0) (s : Sign) (f : Place × Tokens → Reading A) (ts : Tokens) → Filled Q → ((p : Place) (rest : Tokens) → Explained (f (p, rest)) rest (Behind (sign s, p) Q)) → Explained (expect_at s ts >>= f) ts Q
+-- this sign, and what is read after it
+explain_sign : {A : Type 0} (Q : ℕ → Tokens → A → Tokens → Type 0) (s : Sign) (f : Place × Tokens → ParseResult A) (ts : Tokens) → Filled Q → ((p : Place) (rest : Tokens) → Explained (f (p, rest)) rest (Behind (sign s, p) Q)) → Explained (expect_at s ts >>= f) ts Q
 unfolding expect_at
 explain_sign Q s f [] fill go = stopped_at Q [] fill
 explain_sign {A} Q s f ((m, p) ∷ ts) fill go =
     let M : Bool → Type 0 = λ b. is_sign s m ≡ b → Explained (◌>>=◌ {A = Place} {B = A} (cond b (Ok (p, ts)) (Err (Unexpected ((m, p) ∷ ts)))) f) ((m, p) ∷ ts) Q in
-    (elim (is_sign s m) as M [ true ↦ λ e. subst (λ w. Explained (f (p, ts)) ((w, p) ∷ ts) Q) (sym (sign_is s m e)) (explain_behind Q (sign s, p) (f (p, ts)) ts (go p ts)) | false ↦ λ e. stopped_at Q ((m, p) ∷ ts) fill ]) refl
+    (elim (is_sign s m) as M [ true ↦ λ e. subst (λ w. Explained (f (p, ts)) ((w, p) ∷ ts) Q) (sym (sign_is s m e)) (explain_after Q (sign s, p) (f (p, ts)) ts (go p ts)) | false ↦ λ e. stopped_at Q ((m, p) ∷ ts) fill ]) refl
 
-pub sign_then : {A : Type 0} (Q : ℕ → Tokens → A → Tokens → Type 0) (s : Sign) (f : Place × Tokens → Reading A) (ts : Tokens) → ((p : Place) (rest : Tokens) → Law (f (p, rest)) rest (Behind (sign s, p) Q)) → Law (expect_at s ts >>= f) ts Q
+pub sign_then : {A : Type 0} (Q : ℕ → Tokens → A → Tokens → Type 0) (s : Sign) (f : Place × Tokens → ParseResult A) (ts : Tokens) → ((p : Place) (rest : Tokens) → Law (f (p, rest)) rest (Behind (sign s, p) Q)) → Law (expect_at s ts >>= f) ts Q
 sign_then Q s f ts go =
-    let fill : Filled Q = fill_behind Q (sign s, nowhere) (go nowhere []).filled in
+    let fill : Filled Q = fill_after Q (sign s, nowhere) (go nowhere []).filled in
     record { explained = explain_sign Q s f ts fill (λ p rest. (go p rest).explained); filled = fill }
 
--- a name, and what is read behind it
-explain_name : {A : Type 0} (Q : ℕ → Tokens → A → Tokens → Type 0) (f : (List ℕ × Place) × Tokens → Reading A) (ts : Tokens) → Filled Q → ((n : List ℕ × Place) (rest : Tokens) → Explained (f (n, rest)) rest (Behind (name n.0, n.1) Q)) → Explained (name_at ts >>= f) ts Q
+-- a name, and what is read after it
+explain_name : {A : Type 0} (Q : ℕ → Tokens → A → Tokens → Type 0) (f : (List ℕ × Place) × Tokens → ParseResult A) (ts : Tokens) → Filled Q → ((n : List ℕ × Place) (rest : Tokens) → Explained (f (n, rest)) rest (Behind (name n.0, n.1) Q)) → Explained (name_at ts >>= f) ts Q
 unfolding name_at
 explain_name Q f [] fill go = stopped_at Q [] fill
-explain_name Q f ((name t, p) ∷ ts) fill go = explain_behind Q (name t, p) (f ((t, p), ts)) ts (go (t, p) ts)
+explain_name Q f ((name t, p) ∷ ts) fill go = explain_after Q (name t, p) (f ((t, p), ts)) ts (go (t, p) ts)
 explain_name Q f ((number n, p) ∷ ts) fill go = stopped_at Q ((number n, p) ∷ ts) fill
 explain_name Q f ((sign n, p) ∷ ts) fill go = stopped_at Q ((sign n, p) ∷ ts) fill
 explain_name Q f ((reserved n, p) ∷ ts) fill go = stopped_at Q ((reserved n, p) ∷ ts) fill
 explain_name Q f ((unsupported n, p) ∷ ts) fill go = stopped_at Q ((unsupported n, p) ∷ ts) fill
 
-pub name_then : {A : Type 0} (Q : ℕ → Tokens → A → Tokens → Type 0) (f : (List ℕ × Place) × Tokens → Reading A) (ts : Tokens) → ((n : List ℕ × Place) (rest : Tokens) → Law (f (n, rest)) rest (Behind (name n.0, n.1) Q)) → Law (name_at ts >>= f) ts Q
+pub name_then : {A : Type 0} (Q : ℕ → Tokens → A → Tokens → Type 0) (f : (List ℕ × Place) × Tokens → ParseResult A) (ts : Tokens) → ((n : List ℕ × Place) (rest : Tokens) → Law (f (n, rest)) rest (Behind (name n.0, n.1) Q)) → Law (name_at ts >>= f) ts Q
 name_then Q f ts go =
-    let fill : Filled Q = fill_behind Q (name some_name, nowhere) (go (some_name, nowhere) []).filled in
+    let fill : Filled Q = fill_after Q (name some_name, nowhere) (go (some_name, nowhere) []).filled in
     record { explained = explain_name Q f ts fill (λ p rest. (go p rest).explained); filled = fill }
 
--- a phrase, with the sign behind it
+-- a phrase, with the sign after it
 abbrev pub Ending : {A : Type 0} → Sign → (ℕ → Tokens → A → Tokens → Type 0) → ℕ → Tokens → A → Tokens → Type 0
 Ending s P free from x left = (p : Place) × P free from x ((sign s, p) ∷ left)
 
-pub ending : {A : Type 0} (P : ℕ → Tokens → A → Tokens → Type 0) (s : Sign) (o : Reading A) (ts : Tokens) → Law o ts P → Law (o >>= λ x. expect_at s x.1 >>= λ z. Ok (x.0, z.1)) ts (Ending s P)
+pub ending : {A : Type 0} (P : ℕ → Tokens → A → Tokens → Type 0) (s : Sign) (o : ParseResult A) (ts : Tokens) → Law o ts P → Law (o >>= λ x. expect_at s x.1 >>= λ z. Ok (x.0, z.1)) ts (Ending s P)
 ending P s o ts law =
     then P _ o _ ts law
     (λ x r. sign_then _ s _ r
     (λ q t. done _ x t (λ free left before d. (q, d))))
 
--- one more in front of what is read
+-- one more before what is read
 module _ {A : Type 0} (P Q : ℕ → Tokens → List A → Tokens → Type 0) (x : A) (to : (free : ℕ) (from : Tokens) (xs : List A) (left : Tokens) → P free from xs left → Q free from (x ∷ xs) left) where
-  pub explain_put : (o : Reading (List A)) (ts : Tokens) → Explained o ts P → Explained (put x o) ts Q
+  pub explain_put : (o : ParseResult (List A)) (ts : Tokens) → Explained o ts P → Explained (put x o) ts Q
   explain_put (Ok y) ts e = record { taken = e.taken; all = e.all; is = λ free left. to free (e.taken ++ left) y.0 left (e.is free left) }
-  explain_put (Err h) ts e = record { front = e.front; all = e.all; tail = e.tail; goes_on = e.goes_on; tree = x ∷ e.tree; is = λ left. to (length e.tail + length left) (e.front ++ (e.tail ++ left)) e.tree left (e.is left) }
+  explain_put (Err h) ts e = record { prefix = e.prefix; all = e.all; tail = e.tail; goes_on = e.goes_on; tree = x ∷ e.tree; is = λ left. to (length e.tail + length left) (e.prefix ++ (e.tail ++ left)) e.tree left (e.is left) }
 
   pub fill_put : Filled P → Filled Q
   fill_put f = record { text = f.text; tree = x ∷ f.tree; is = λ free left big. to free (f.text ++ left) f.tree left (f.is free left big) }
 
-  pub put_law : (o : Reading (List A)) (ts : Tokens) → Law o ts P → Law (put x o) ts Q
+  pub put_law : (o : ParseResult (List A)) (ts : Tokens) → Law o ts P → Law (put x o) ts Q
   put_law o ts l = record { explained = explain_put o ts l.explained; filled = fill_put l.filled }
 
--- one more in front of a list
+-- one more before a list
 abbrev pub Grows : {A : Type 0} → (ℕ → Tokens → List A → Tokens → Type 0) → ℕ → Tokens → A → Tokens → Type 0
-Grows {A} Q free from x behind = (xs : List A) (left : Tokens) → Q free behind xs left → Q free from (x ∷ xs) left
+Grows {A} Q free from x after = (xs : List A) (left : Tokens) → Q free after xs left → Q free from (x ∷ xs) left
 
 -- again and again
-module _ {A : Type 0} (more : Tokens → Bool) (read : Tokens → Reading A) (Q : ℕ → Tokens → List A → Tokens → Type 0) (nil : (free : ℕ) (left : Tokens) → Q free left [] left) (one : (s : Tokens) → more s ≡ true → Explained (read s) s (Grows Q)) where
+module _ {A : Type 0} (more : Tokens → Bool) (read : Tokens → ParseResult A) (Q : ℕ → Tokens → List A → Tokens → Type 0) (nil : (free : ℕ) (left : Tokens) → Q free left [] left) (one : (s : Tokens) → more s ≡ true → Explained (read s) s (Grows Q)) where
   pub again : (n : ℕ) (s : Tokens) → Explained (repeat more read n s) s Q
   unfolding repeat
   again zero s = done_at Q [] s nil

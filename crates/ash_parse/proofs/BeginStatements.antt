@@ -14,7 +14,7 @@ use Rattle.ash_tree.specs.Types.{IsType}
 use Rattle.ash_tree.specs.Statements.{IsDecl, bare, valued, made, AreMoreDecls, no_more_decls, more_decls, IsVars, vars, IsFirst, no_first, first_vars, first_expr, IsTest, no_test, test, IsResult, no_result, value, IsLabel, case, case_minus, default, is_open, IsNested, nested, AreLocals, no_locals, local_vars, local_stmt, IsBlock, block, IsStmt, inner_block, empty, evaluate, if_only, if_else, while, do_while, for, switch, break, continue, return, AreCases, no_cases, more_cases, AreStmts, no_stmts, more_stmts}
 use Rattle.ash_parse.specs.declared.statements.Leading.{Leading}
 use Rattle.ash_parse.specs.declared.statements.Leading.TheVariants as leads
-use Rattle.ash_parse.specs.Reading.{Reading, Unexpected, TooDeep, ◌>>=◌, next_is_sign, expect_at}
+use Rattle.ash_parse.specs.Readers.{ParseResult, Unexpected, TooDeep, ◌>>=◌, next_is_sign, expect_at}
 use Rattle.ash_parse.specs.ExpressionReader.{Below, begins, arguments_with, bracketed_with, exprs_with, assign_with, below_at}
 use Rattle.ash_parse.specs.TypeReader.{is_array}
 use Rattle.ash_parse.specs.StatementReader.{Nested, is_name, type_at, is_vars, initializer_with, decl_with, next_decl_with, more_decls_with, decls_with, vars_with, declared_with, first_with, test_with, result_with, leading, begins_by, begins_stmt, stmt_limit_at, goes_on, case_goes_on, evaluate_with, is_else, else_with, if_with, while_with, is_while, while_at, do_with, for_with, number_at, case_value_at, label_by, label_at, stmts_with, case_with, cases_with, switch_with, local_with, locals_with, block_with, stmt_by, stmt_with, nested_at}
@@ -22,43 +22,43 @@ use Rattle.ash_parse.proofs.Readings.{expect_again}
 use Rattle.ash_parse.proofs.Rereading.{no_true}
 use Rattle.ash_parse.proofs.ExpressionSound.{IsPart}
 use Rattle.ash_parse.proofs.StatementSound.{Closes, Leads, leads_to, while_leads, else_leads, nested_sound}
-use Rattle.ash_parse.proofs.BeginLaws.{Law, Filled, FilledBy, Explained, Then, Behind, Grows, Ending, then, explain_then, fill_then, law_as, done, done_at, fill_here, stopped_at, stops_here, too_deep_at, behind, fill_behind, explain_behind, either, explain_either, sign_then, name_then, ending, put_law, all_of, nowhere, some_name}
+use Rattle.ash_parse.proofs.BeginLaws.{Law, Filled, FilledBy, Explained, Then, Behind, Grows, Ending, then, explain_then, fill_then, law_as, done, done_at, fill_here, stopped_at, stops_here, too_deep_at, after, fill_after, explain_after, either, explain_either, sign_then, name_then, ending, put_law, all_of, nowhere, some_name}
 use Rattle.ash_parse.proofs.BeginTypes.{begin_type}
 use Rattle.ash_parse.proofs.BeginExpressions.{IsBracketed, bracketed, inner_alone, begins_assign, begin_exprs, begin_args, begin_bracketed, begin_assign, begin_whole, begin_part}
 
 -- decl { "," decl }
 data AreDecls : ℕ → ℕ → Tokens → List Decl → Tokens → Type 0 where
-  decls : {free depth : ℕ} {from behind left : Tokens} {d : Decl} {ds : List Decl} → IsDecl free depth from d behind → AreMoreDecls free depth behind ds left → AreDecls free depth from (d ∷ ds) left
+  decls : {free depth : ℕ} {from after left : Tokens} {d : Decl} {ds : List Decl} → IsDecl free depth from d after → AreMoreDecls free depth after ds left → AreDecls free depth from (d ∷ ds) left
 
 vars_by : {free depth : ℕ} {from first left : Tokens} {t : Named} {ds : List Decl} → IsType from t first → AreDecls free depth first ds left → IsVars free depth from (record { of = t; decls = ds }) left
 vars_by t (decls d more) = vars t d more
 
--- the word `while`, and what is read behind it
-explain_while : {A : Type 0} (Q : ℕ → Tokens → A → Tokens → Type 0) (f : Place × Tokens → Reading A) (ts : Tokens) → Filled Q → ((p : Place) (rest : Tokens) → Explained (f (p, rest)) rest (Behind (reserved words.While, p) Q)) → Explained (while_at ts >>= f) ts Q
+-- the word `while`, and what is read after it
+explain_while : {A : Type 0} (Q : ℕ → Tokens → A → Tokens → Type 0) (f : Place × Tokens → ParseResult A) (ts : Tokens) → Filled Q → ((p : Place) (rest : Tokens) → Explained (f (p, rest)) rest (Behind (reserved words.While, p) Q)) → Explained (while_at ts >>= f) ts Q
 unfolding while_at
 explain_while Q f [] fill go = stopped_at Q [] fill
 explain_while {A} Q f ((m, p) ∷ ts) fill go =
     let M : Bool → Type 0 = λ b. is_while (leading m) ≡ b → Explained (◌>>=◌ {A = Place} {B = A} (cond b (Ok (p, ts)) (Err (Unexpected ((m, p) ∷ ts)))) f) ((m, p) ∷ ts) Q in
-    (elim (is_while (leading m)) as M [ true ↦ λ e. subst (λ w. Explained (f (p, ts)) ((w, p) ∷ ts) Q) (sym (while_leads (leading m) m (leads_to m) e)) (explain_behind Q (reserved words.While, p) (f (p, ts)) ts (go p ts)) | false ↦ λ e. stopped_at Q ((m, p) ∷ ts) fill ]) refl
+    (elim (is_while (leading m)) as M [ true ↦ λ e. subst (λ w. Explained (f (p, ts)) ((w, p) ∷ ts) Q) (sym (while_leads (leading m) m (leads_to m) e)) (explain_after Q (reserved words.While, p) (f (p, ts)) ts (go p ts)) | false ↦ λ e. stopped_at Q ((m, p) ∷ ts) fill ]) refl
 
-while_then : {A : Type 0} (Q : ℕ → Tokens → A → Tokens → Type 0) (f : Place × Tokens → Reading A) (ts : Tokens) → ((p : Place) (rest : Tokens) → Law (f (p, rest)) rest (Behind (reserved words.While, p) Q)) → Law (while_at ts >>= f) ts Q
+while_then : {A : Type 0} (Q : ℕ → Tokens → A → Tokens → Type 0) (f : Place × Tokens → ParseResult A) (ts : Tokens) → ((p : Place) (rest : Tokens) → Law (f (p, rest)) rest (Behind (reserved words.While, p) Q)) → Law (while_at ts >>= f) ts Q
 while_then Q f ts go =
-    let fill : Filled Q = fill_behind Q (reserved words.While, nowhere) (go nowhere []).filled in
+    let fill : Filled Q = fill_after Q (reserved words.While, nowhere) (go nowhere []).filled in
     record { explained = explain_while Q f ts fill (λ p rest. (go p rest).explained); filled = fill }
 
--- a number, and what is read behind it
-explain_number : {A : Type 0} (Q : ℕ → Tokens → A → Tokens → Type 0) (f : (ℕ × Place) × Tokens → Reading A) (ts : Tokens) → Filled Q → ((n : ℕ × Place) (rest : Tokens) → Explained (f (n, rest)) rest (Behind (number n.0, n.1) Q)) → Explained (number_at ts >>= f) ts Q
+-- a number, and what is read after it
+explain_number : {A : Type 0} (Q : ℕ → Tokens → A → Tokens → Type 0) (f : (ℕ × Place) × Tokens → ParseResult A) (ts : Tokens) → Filled Q → ((n : ℕ × Place) (rest : Tokens) → Explained (f (n, rest)) rest (Behind (number n.0, n.1) Q)) → Explained (number_at ts >>= f) ts Q
 unfolding number_at
 explain_number Q f [] fill go = stopped_at Q [] fill
-explain_number Q f ((number n, p) ∷ ts) fill go = explain_behind Q (number n, p) (f ((n, p), ts)) ts (go (n, p) ts)
+explain_number Q f ((number n, p) ∷ ts) fill go = explain_after Q (number n, p) (f ((n, p), ts)) ts (go (n, p) ts)
 explain_number Q f ((name n, p) ∷ ts) fill go = stopped_at Q ((name n, p) ∷ ts) fill
 explain_number Q f ((sign n, p) ∷ ts) fill go = stopped_at Q ((sign n, p) ∷ ts) fill
 explain_number Q f ((reserved n, p) ∷ ts) fill go = stopped_at Q ((reserved n, p) ∷ ts) fill
 explain_number Q f ((unsupported n, p) ∷ ts) fill go = stopped_at Q ((unsupported n, p) ∷ ts) fill
 
-number_then : {A : Type 0} (Q : ℕ → Tokens → A → Tokens → Type 0) (f : (ℕ × Place) × Tokens → Reading A) (ts : Tokens) → ((n : ℕ × Place) (rest : Tokens) → Law (f (n, rest)) rest (Behind (number n.0, n.1) Q)) → Law (number_at ts >>= f) ts Q
+number_then : {A : Type 0} (Q : ℕ → Tokens → A → Tokens → Type 0) (f : (ℕ × Place) × Tokens → ParseResult A) (ts : Tokens) → ((n : ℕ × Place) (rest : Tokens) → Law (f (n, rest)) rest (Behind (number n.0, n.1) Q)) → Law (number_at ts >>= f) ts Q
 number_then Q f ts go =
-    let fill : Filled Q = fill_behind Q (number 0, nowhere) (go (0, nowhere) []).filled in
+    let fill : Filled Q = fill_after Q (number 0, nowhere) (go (0, nowhere) []).filled in
     record { explained = explain_number Q f ts fill (λ p rest. (go p rest).explained); filled = fill }
 
 -- a label with its place
@@ -73,13 +73,13 @@ begin_case_value p ts =
     (number_then _ _ ts (λ n s. sign_then _ signs.Colon _ s (λ c t. done _ (labels.Case n.0, n.1) t (λ free left. case))))
 
 fill_label : Filled Labels
-fill_label = fill_behind _ (reserved words.Default, nowhere) (fill_behind _ (sign signs.Colon, nowhere) (fill_here _ (labels.Default, nowhere) (λ free left. default)))
+fill_label = fill_after _ (reserved words.Default, nowhere) (fill_after _ (sign signs.Colon, nowhere) (fill_here _ (labels.Default, nowhere) (λ free left. default)))
 
 begin_label_by : (k : Leading) (m : Meaning) (p : Place) (ts : Tokens) → Leads k m → Law (label_by k m p ts) ((m, p) ∷ ts) Labels
-begin_label_by leads.Case m p ts d = subst (λ w. Law (case_value_at ts) ((w, p) ∷ ts) Labels) (sym d) (behind _ (reserved words.Case, p) _ ts (begin_case_value p ts))
+begin_label_by leads.Case m p ts d = subst (λ w. Law (case_value_at ts) ((w, p) ∷ ts) Labels) (sym d) (after _ (reserved words.Case, p) _ ts (begin_case_value p ts))
 begin_label_by leads.Default m p ts d =
     subst (λ w. Law (expect_at signs.Colon ts >>= λ c. Ok ((labels.Default, p), c.1)) ((w, p) ∷ ts) Labels) (sym d)
-    (behind _ (reserved words.Default, p) _ ts (sign_then _ signs.Colon _ ts (λ c r. done _ (labels.Default, p) r (λ free left. default))))
+    (after _ (reserved words.Default, p) _ ts (sign_then _ signs.Colon _ ts (λ c r. done _ (labels.Default, p) r (λ free left. default))))
 begin_label_by _ m p ts d = stops_here Labels ((m, p) ∷ ts) fill_label
 
 begin_label : (ts : Tokens) → Law (label_at ts) ts Labels
@@ -88,7 +88,7 @@ begin_label [] = stops_here Labels [] fill_label
 begin_label ((m, p) ∷ ts) = begin_label_by (leading m) m p ts (leads_to m)
 
 module _ (depth : ℕ) (below : Below) (whole : (ts : Tokens) → Law (below true ts) ts (λ free. IsInner free depth)) (part : (ts : Tokens) → Law (below false ts) ts (λ free. IsPart free depth)) where
-  -- a decl behind its name
+  -- a decl after its name
   Rest : Place → List ℕ → ℕ → Tokens → Initializer → Tokens → Type 0
   Rest p t free from i left = IsDecl free depth ((name t, p) ∷ from) (record { place = p; name = t; initializer = i }) left
 
@@ -176,23 +176,23 @@ module _ (depth : ℕ) (below : Below) (whole : (ts : Tokens) → Law (below tru
       (λ p s. done _ (Evaluate (place_of e) e) s (λ free left before d. evaluate d)))
 
 -- each of these statements, whose brackets were read with their expression
-if_by : {free depth : ℕ} {p : Place} {from behind left : Tokens} {c : Expr} {s : Stmt} → IsBracketed free depth from c behind → IsNested free depth behind s left → IsStmt free depth ((reserved words.If, p) ∷ from) (If p c s) left
+if_by : {free depth : ℕ} {p : Place} {from after left : Tokens} {c : Expr} {s : Stmt} → IsBracketed free depth from c after → IsNested free depth after s left → IsStmt free depth ((reserved words.If, p) ∷ from) (If p c s) left
 if_by (bracketed i) n = if_only i n
 
-if_else_by : {free depth : ℕ} {p o : Place} {from behind other left : Tokens} {c : Expr} {s t : Stmt} → IsBracketed free depth from c behind → IsNested free depth behind s ((reserved words.Else, o) ∷ other) → is_open s ≡ false → IsNested free depth other t left → IsStmt free depth ((reserved words.If, p) ∷ from) (IfElse p c s t) left
+if_else_by : {free depth : ℕ} {p o : Place} {from after other left : Tokens} {c : Expr} {s t : Stmt} → IsBracketed free depth from c after → IsNested free depth after s ((reserved words.Else, o) ∷ other) → is_open s ≡ false → IsNested free depth other t left → IsStmt free depth ((reserved words.If, p) ∷ from) (IfElse p c s t) left
 if_else_by (bracketed i) n closes m = if_else i n closes m
 
-while_by : {free depth : ℕ} {p : Place} {from behind left : Tokens} {c : Expr} {s : Stmt} → IsBracketed free depth from c behind → IsNested free depth behind s left → IsStmt free depth ((reserved words.While, p) ∷ from) (While p c s) left
+while_by : {free depth : ℕ} {p : Place} {from after left : Tokens} {c : Expr} {s : Stmt} → IsBracketed free depth from c after → IsNested free depth after s left → IsStmt free depth ((reserved words.While, p) ∷ from) (While p c s) left
 while_by (bracketed i) n = while i n
 
-do_by : {free depth : ℕ} {p w o : Place} {from behind left : Tokens} {c : Expr} {s : Stmt} → IsBracketed free depth behind c ((sign signs.Semicolon, o) ∷ left) → IsNested free depth from s ((reserved words.While, w) ∷ behind) → IsStmt free depth ((reserved words.Do, p) ∷ from) (DoWhile p s c) left
+do_by : {free depth : ℕ} {p w o : Place} {from after left : Tokens} {c : Expr} {s : Stmt} → IsBracketed free depth after c ((sign signs.Semicolon, o) ∷ left) → IsNested free depth from s ((reserved words.While, w) ∷ after) → IsStmt free depth ((reserved words.Do, p) ∷ from) (DoWhile p s c) left
 do_by (bracketed i) n = do_while n i
 
-switch_by : {free depth : ℕ} {p o z : Place} {from behind left : Tokens} {e : Expr} {cs : List Case} → IsBracketed free depth from e ((sign signs.OpenBrace, o) ∷ behind) → AreCases free depth behind cs ((sign signs.CloseBrace, z) ∷ left) → IsStmt free depth ((reserved words.Switch, p) ∷ from) (Switch p e (cases cs)) left
+switch_by : {free depth : ℕ} {p o z : Place} {from after left : Tokens} {e : Expr} {cs : List Case} → IsBracketed free depth from e ((sign signs.OpenBrace, o) ∷ after) → AreCases free depth after cs ((sign signs.CloseBrace, z) ∷ left) → IsStmt free depth ((reserved words.Switch, p) ∷ from) (Switch p e (cases cs)) left
 switch_by (bracketed i) cs = switch i cs
 
 fill_stmt : (depth : ℕ) → Filled (λ free. IsStmt free depth)
-fill_stmt depth = fill_behind _ (sign signs.Semicolon, nowhere) (fill_here _ (Empty nowhere) (λ free left. empty))
+fill_stmt depth = fill_after _ (sign signs.Semicolon, nowhere) (fill_here _ (Empty nowhere) (λ free left. empty))
 
 module _ (depth : ℕ) (below : Below) (deeper : Nested) (whole : (ts : Tokens) → Law (below true ts) ts (λ free. IsInner free depth)) (part : (ts : Tokens) → Law (below false ts) ts (λ free. IsPart free depth)) (one : (ts : Tokens) → Law (deeper ts) ts (λ free. IsNested free depth)) (closes : (ts : Tokens) (x : Stmt) (rest : Tokens) → deeper ts ≡ Ok (x, rest) → Closes x rest) where
   begin_local : (ts : Tokens) → Law (local_with below deeper ts) ts (Grows (λ free. AreLocals free depth))
@@ -207,7 +207,7 @@ module _ (depth : ℕ) (below : Below) (deeper : Nested) (whole : (ts : Tokens) 
   unfolding locals_with
   begin_locals ts = all_of goes_on (local_with below deeper) (λ free. AreLocals free depth) (λ free left. no_locals) (λ s b. (begin_local s).explained) (length ts) ts
 
-  -- a block behind its "{"
+  -- a block after its "{"
   begin_inside : (ts : Tokens) → Law (locals_with below deeper ts >>= λ ss. expect_at signs.CloseBrace ss.1 >>= λ z. Ok (ss.0, z.1)) ts (Ending signs.CloseBrace (λ free. AreLocals free depth))
   begin_inside ts = ending (λ free. AreLocals free depth) signs.CloseBrace (locals_with below deeper ts) ts (begin_locals ts)
 
@@ -219,12 +219,12 @@ module _ (depth : ℕ) (below : Below) (deeper : Nested) (whole : (ts : Tokens) 
 
   opened : (p : Place) (ts : Tokens) → (locals_with below deeper ts >>= λ ss. expect_at signs.CloseBrace ss.1 >>= λ z. Ok (ss.0, z.1)) ≡ block_with below deeper ((sign signs.OpenBrace, p) ∷ ts)
   unfolding block_with
-  opened p ts = ap (λ (o : Reading Place). ◌>>=◌ {B = List Stmt} o (λ o. locals_with below deeper o.1 >>= λ ss. expect_at signs.CloseBrace ss.1 >>= λ z. Ok (ss.0, z.1))) (sym (expect_again signs.OpenBrace p ts))
+  opened p ts = ap (λ (o : ParseResult Place). ◌>>=◌ {B = List Stmt} o (λ o. locals_with below deeper o.1 >>= λ ss. expect_at signs.CloseBrace ss.1 >>= λ z. Ok (ss.0, z.1))) (sym (expect_again signs.OpenBrace p ts))
 
   begin_block_stmt : (p : Place) (ts : Tokens) → Law (block_with below deeper ((sign signs.OpenBrace, p) ∷ ts) >>= λ b. Ok (Block p (stmts b.0), b.1)) ((sign signs.OpenBrace, p) ∷ ts) (λ free. IsStmt free depth)
   begin_block_stmt p ts =
-      subst (λ (o : Reading (List Stmt)). Law (o >>= λ b. Ok (Block p (stmts b.0), b.1)) ((sign signs.OpenBrace, p) ∷ ts) (λ free. IsStmt free depth)) (opened p ts)
-      (behind _ (sign signs.OpenBrace, p) _ ts (then (Ending signs.CloseBrace (λ free. AreLocals free depth)) _ (locals_with below deeper ts >>= λ ss. expect_at signs.CloseBrace ss.1 >>= λ z. Ok (ss.0, z.1)) _ ts (begin_inside ts)
+      subst (λ (o : ParseResult (List Stmt)). Law (o >>= λ b. Ok (Block p (stmts b.0), b.1)) ((sign signs.OpenBrace, p) ∷ ts) (λ free. IsStmt free depth)) (opened p ts)
+      (after _ (sign signs.OpenBrace, p) _ ts (then (Ending signs.CloseBrace (λ free. AreLocals free depth)) _ (locals_with below deeper ts >>= λ ss. expect_at signs.CloseBrace ss.1 >>= λ z. Ok (ss.0, z.1)) _ ts (begin_inside ts)
       (λ ss r. done _ (Block p (stmts ss)) r (λ free left before d. inner_block (block d.1)))))
 
   begin_stmts : (ts : Tokens) → Law (stmts_with deeper ts) ts (λ free. AreStmts free depth)
@@ -244,7 +244,7 @@ module _ (depth : ℕ) (below : Below) (deeper : Nested) (whole : (ts : Tokens) 
   unfolding cases_with
   begin_cases ts = all_of goes_on (case_with deeper) (λ free. AreCases free depth) (λ free left. no_cases) (λ s b. (begin_case s).explained) (length ts) ts
 
-  -- what is behind the condition of an `if`
+  -- what is after the condition of an `if`
   Branch : Place → Expr → ℕ → Tokens → Stmt → Tokens → Type 0
   Branch p c free from y left = (before : Tokens) → IsBracketed free depth before c from → IsStmt free depth ((reserved words.If, p) ∷ before) y left
 
@@ -254,7 +254,7 @@ module _ (depth : ℕ) (below : Below) (deeper : Nested) (whole : (ts : Tokens) 
   begin_else p c s ((m, o) ∷ ts) h =
       explain_either (is_else (leading m)) (deeper ts >>= λ t. Ok (IfElse p c s t.0, t.1)) (Ok (If p c s, (m, o) ∷ ts)) ((m, o) ∷ ts) (Then (λ free. IsNested free depth) (Branch p c) s)
       (λ e. subst (λ w. Explained (deeper ts >>= λ t. Ok (IfElse p c s t.0, t.1)) ((w, o) ∷ ts) (Then (λ free. IsNested free depth) (Branch p c) s)) (sym (else_leads (leading m) m (leads_to m) e))
-      (behind (Then (λ free. IsNested free depth) (Branch p c) s) (reserved words.Else, o) (deeper ts >>= λ t. Ok (IfElse p c s t.0, t.1)) ts (then (λ free. IsNested free depth) _ (deeper ts) _ ts (one ts)
+      (after (Then (λ free. IsNested free depth) (Branch p c) s) (reserved words.Else, o) (deeper ts >>= λ t. Ok (IfElse p c s t.0, t.1)) ts (then (λ free. IsNested free depth) _ (deeper ts) _ ts (one ts)
       (λ t r. done _ (IfElse p c s t) r (λ free left third n middle k before b. if_else_by b k (h e) n)))).explained)
       (λ e. done_at _ (If p c s) ((m, o) ∷ ts) (λ free left middle n before b. if_by b n))
 
@@ -312,21 +312,21 @@ module _ (depth : ℕ) (below : Below) (deeper : Nested) (whole : (ts : Tokens) 
   begin_stmt_by : (k : Leading) (m : Meaning) (p : Place) (ts : Tokens) → Leads k m → Led k m p ts
   unfolding Led
   begin_stmt_by leads.Block m p ts d = subst (λ w. Law (block_with below deeper ((w, p) ∷ ts) >>= λ b. Ok (Block p (stmts b.0), b.1)) ((w, p) ∷ ts) (λ free. IsStmt free depth)) (sym d) (begin_block_stmt p ts)
-  begin_stmt_by leads.Empty m p ts d = subst (λ w. Law (Ok (Empty p, ts)) ((w, p) ∷ ts) (λ free. IsStmt free depth)) (sym d) (behind _ (sign signs.Semicolon, p) _ ts (done _ (Empty p) ts (λ free left. empty)))
-  begin_stmt_by leads.If m p ts d = subst (λ w. Law (if_with below deeper p ts) ((w, p) ∷ ts) (λ free. IsStmt free depth)) (sym d) (behind _ (reserved words.If, p) _ ts (begin_if p ts))
-  begin_stmt_by leads.While m p ts d = subst (λ w. Law (while_with below deeper p ts) ((w, p) ∷ ts) (λ free. IsStmt free depth)) (sym d) (behind _ (reserved words.While, p) _ ts (begin_while p ts))
-  begin_stmt_by leads.Do m p ts d = subst (λ w. Law (do_with below deeper p ts) ((w, p) ∷ ts) (λ free. IsStmt free depth)) (sym d) (behind _ (reserved words.Do, p) _ ts (begin_do p ts))
-  begin_stmt_by leads.For m p ts d = subst (λ w. Law (for_with below deeper p ts) ((w, p) ∷ ts) (λ free. IsStmt free depth)) (sym d) (behind _ (reserved words.For, p) _ ts (begin_for p ts))
-  begin_stmt_by leads.Switch m p ts d = subst (λ w. Law (switch_with below deeper p ts) ((w, p) ∷ ts) (λ free. IsStmt free depth)) (sym d) (behind _ (reserved words.Switch, p) _ ts (begin_switch p ts))
+  begin_stmt_by leads.Empty m p ts d = subst (λ w. Law (Ok (Empty p, ts)) ((w, p) ∷ ts) (λ free. IsStmt free depth)) (sym d) (after _ (sign signs.Semicolon, p) _ ts (done _ (Empty p) ts (λ free left. empty)))
+  begin_stmt_by leads.If m p ts d = subst (λ w. Law (if_with below deeper p ts) ((w, p) ∷ ts) (λ free. IsStmt free depth)) (sym d) (after _ (reserved words.If, p) _ ts (begin_if p ts))
+  begin_stmt_by leads.While m p ts d = subst (λ w. Law (while_with below deeper p ts) ((w, p) ∷ ts) (λ free. IsStmt free depth)) (sym d) (after _ (reserved words.While, p) _ ts (begin_while p ts))
+  begin_stmt_by leads.Do m p ts d = subst (λ w. Law (do_with below deeper p ts) ((w, p) ∷ ts) (λ free. IsStmt free depth)) (sym d) (after _ (reserved words.Do, p) _ ts (begin_do p ts))
+  begin_stmt_by leads.For m p ts d = subst (λ w. Law (for_with below deeper p ts) ((w, p) ∷ ts) (λ free. IsStmt free depth)) (sym d) (after _ (reserved words.For, p) _ ts (begin_for p ts))
+  begin_stmt_by leads.Switch m p ts d = subst (λ w. Law (switch_with below deeper p ts) ((w, p) ∷ ts) (λ free. IsStmt free depth)) (sym d) (after _ (reserved words.Switch, p) _ ts (begin_switch p ts))
   begin_stmt_by leads.Break m p ts d =
       subst (λ w. Law (expect_at signs.Semicolon ts >>= λ s. Ok (Break p, s.1)) ((w, p) ∷ ts) (λ free. IsStmt free depth)) (sym d)
-      (behind _ (reserved words.Break, p) _ ts (sign_then _ signs.Semicolon _ ts (λ q r. done _ (Break p) r (λ free left. break))))
+      (after _ (reserved words.Break, p) _ ts (sign_then _ signs.Semicolon _ ts (λ q r. done _ (Break p) r (λ free left. break))))
   begin_stmt_by leads.Continue m p ts d =
       subst (λ w. Law (expect_at signs.Semicolon ts >>= λ s. Ok (Continue p, s.1)) ((w, p) ∷ ts) (λ free. IsStmt free depth)) (sym d)
-      (behind _ (reserved words.Continue, p) _ ts (sign_then _ signs.Semicolon _ ts (λ q r. done _ (Continue p) r (λ free left. continue))))
+      (after _ (reserved words.Continue, p) _ ts (sign_then _ signs.Semicolon _ ts (λ q r. done _ (Continue p) r (λ free left. continue))))
   begin_stmt_by leads.Return m p ts d =
       subst (λ w. Law (result_with below ts >>= λ e. Ok (Return p e.0, e.1)) ((w, p) ∷ ts) (λ free. IsStmt free depth)) (sym d)
-      (behind _ (reserved words.Return, p) _ ts (then (λ free. IsResult free depth) _ (result_with below ts) _ ts (begin_result depth below whole part ts)
+      (after _ (reserved words.Return, p) _ ts (then (λ free. IsResult free depth) _ (result_with below ts) _ ts (begin_result depth below whole part ts)
       (λ e r. done _ (Return p e) r (λ free left before x. return x))))
   begin_stmt_by leads.Other m p ts d = begin_evaluate depth below whole part ((m, p) ∷ ts)
   begin_stmt_by _ m p ts d = stops_here (λ free. IsStmt free depth) ((m, p) ∷ ts) (fill_stmt depth)
@@ -355,31 +355,31 @@ Begun depth p m = FilledBy (m, p) (λ free. IsStmt free depth)
 
 leads_stmt : (depth : ℕ) (k : Leading) (m : Meaning) (p : Place) → Leads k m → begins_by k (begins m) ≡ true → Begun depth p m
 unfolding Begun is_vars is_name is_array primitive
-leads_stmt depth leads.Block m p d b = subst (Begun depth p) (sym d) (record { text = (sign signs.CloseBrace, nowhere) ∷ []; tree = Block p (stmts []); is = λ free left big. inner_block (block no_locals); no_vars = λ behind. refl })
-leads_stmt depth leads.Empty m p d b = subst (Begun depth p) (sym d) (record { text = []; tree = Empty p; is = λ free left big. empty; no_vars = λ behind. refl })
-leads_stmt depth leads.If m p d b = subst (Begun depth p) (sym d) (record { text = name_text semicolon_text; tree = If p (Name nowhere some_name) (Empty nowhere); is = λ free left big. if_only (name_inside _ (omega arith)) (empty_nested left (omega arith)); no_vars = λ behind. refl })
-leads_stmt depth leads.While m p d b = subst (Begun depth p) (sym d) (record { text = name_text semicolon_text; tree = While p (Name nowhere some_name) (Empty nowhere); is = λ free left big. while (name_inside _ (omega arith)) (empty_nested left (omega arith)); no_vars = λ behind. refl })
+leads_stmt depth leads.Block m p d b = subst (Begun depth p) (sym d) (record { text = (sign signs.CloseBrace, nowhere) ∷ []; tree = Block p (stmts []); is = λ free left big. inner_block (block no_locals); no_vars = λ after. refl })
+leads_stmt depth leads.Empty m p d b = subst (Begun depth p) (sym d) (record { text = []; tree = Empty p; is = λ free left big. empty; no_vars = λ after. refl })
+leads_stmt depth leads.If m p d b = subst (Begun depth p) (sym d) (record { text = name_text semicolon_text; tree = If p (Name nowhere some_name) (Empty nowhere); is = λ free left big. if_only (name_inside _ (omega arith)) (empty_nested left (omega arith)); no_vars = λ after. refl })
+leads_stmt depth leads.While m p d b = subst (Begun depth p) (sym d) (record { text = name_text semicolon_text; tree = While p (Name nowhere some_name) (Empty nowhere); is = λ free left big. while (name_inside _ (omega arith)) (empty_nested left (omega arith)); no_vars = λ after. refl })
 leads_stmt depth leads.Do m p d b = subst (Begun depth p) (sym d) (record {
   text = (sign signs.Semicolon, nowhere) ∷ (reserved words.While, nowhere) ∷ name_text semicolon_text;
   tree = DoWhile p (Empty nowhere) (Name nowhere some_name);
   is = λ free left big. do_while (empty_nested _ (omega arith)) (name_inside _ (omega arith));
-  no_vars = λ behind. refl;
+  no_vars = λ after. refl;
 })
 leads_stmt depth leads.For m p d b = subst (Begun depth p) (sym d) (record {
   text = (sign signs.OpenParenthesis, nowhere) ∷ (sign signs.Semicolon, nowhere) ∷ (sign signs.Semicolon, nowhere) ∷ (sign signs.CloseParenthesis, nowhere) ∷ semicolon_text;
   tree = For p (Empty nowhere) None [] (Empty nowhere);
   is = λ free left big. for no_first no_test no_exprs (empty_nested left (omega arith));
-  no_vars = λ behind. refl;
+  no_vars = λ after. refl;
 })
 leads_stmt depth leads.Switch m p d b = subst (Begun depth p) (sym d) (record {
   text = name_text ((sign signs.OpenBrace, nowhere) ∷ (sign signs.CloseBrace, nowhere) ∷ []);
   tree = Switch p (Name nowhere some_name) (cases []);
   is = λ free left big. switch (name_inside _ (omega arith)) no_cases;
-  no_vars = λ behind. refl;
+  no_vars = λ after. refl;
 })
-leads_stmt depth leads.Break m p d b = subst (Begun depth p) (sym d) (record { text = semicolon_text; tree = Break p; is = λ free left big. break; no_vars = λ behind. refl })
-leads_stmt depth leads.Continue m p d b = subst (Begun depth p) (sym d) (record { text = semicolon_text; tree = Continue p; is = λ free left big. continue; no_vars = λ behind. refl })
-leads_stmt depth leads.Return m p d b = subst (Begun depth p) (sym d) (record { text = semicolon_text; tree = Return p None; is = λ free left big. return no_result; no_vars = λ behind. refl })
+leads_stmt depth leads.Break m p d b = subst (Begun depth p) (sym d) (record { text = semicolon_text; tree = Break p; is = λ free left big. break; no_vars = λ after. refl })
+leads_stmt depth leads.Continue m p d b = subst (Begun depth p) (sym d) (record { text = semicolon_text; tree = Continue p; is = λ free left big. continue; no_vars = λ after. refl })
+leads_stmt depth leads.Return m p d b = subst (Begun depth p) (sym d) (record { text = semicolon_text; tree = Return p None; is = λ free left big. return no_result; no_vars = λ after. refl })
 leads_stmt depth leads.Other m p d b =
     let f = begins_assign depth m p b in
     record {
@@ -389,7 +389,7 @@ leads_stmt depth leads.Other m p d b =
           let same : (f.text ++ semicolon_text) ++ left ≡ f.text ++ ((sign signs.Semicolon, nowhere) ∷ left) = append_assoc f.text semicolon_text left in
           let k : length ((f.text ++ semicolon_text) ++ left) ≡ length (f.text ++ ((sign signs.Semicolon, nowhere) ∷ left)) = ap (λ (l : Tokens). length l) same in
           subst (λ (l : Tokens). IsStmt free depth ((m, p) ∷ l) (Evaluate (place_of f.tree) f.tree) left) (sym same) (evaluate (f.is free ((sign signs.Semicolon, nowhere) ∷ left) (omega arith)));
-      no_vars = λ behind. subst (λ (l : Tokens). is_vars ((m, p) ∷ l) ≡ false) (sym (append_assoc f.text semicolon_text behind)) (f.no_vars ((sign signs.Semicolon, nowhere) ∷ behind));
+      no_vars = λ after. subst (λ (l : Tokens). is_vars ((m, p) ∷ l) ≡ false) (sym (append_assoc f.text semicolon_text after)) (f.no_vars ((sign signs.Semicolon, nowhere) ∷ after));
     }
 leads_stmt depth leads.Else m p d b = absurd (no_true b)
 leads_stmt depth leads.End m p d b = absurd (no_true b)

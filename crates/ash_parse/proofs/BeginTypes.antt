@@ -9,13 +9,13 @@ use Rattle.ash_tree.specs.Tree.{Element, PrimElement, HandleElement, Named, Prim
 use Rattle.ash_tree.specs.Tokens.{Tokens}
 use Rattle.ash_tree.specs.Operators.{primitive}
 use Rattle.ash_tree.specs.Types.{IsElement, prim_element, handle_element, IsType, prim, object, handle, array, array_handle}
-use Rattle.ash_parse.specs.Reading.{◌>>=◌, next_is_sign, expect_at}
+use Rattle.ash_parse.specs.Readers.{◌>>=◌, next_is_sign, expect_at}
 use Rattle.ash_parse.specs.TypeReader.{elem_by, elem_at, element_at}
 use Rattle.ash_parse.specs.StatementReader.{handle_by, type_by, type_at}
-use Rattle.ash_parse.proofs.BeginLaws.{Law, Filled, Behind, then, done, fill_here, stops_here, behind, fill_behind, either, sign_then, nowhere, some_name}
+use Rattle.ash_parse.proofs.BeginLaws.{Law, Filled, Behind, then, done, fill_here, stops_here, after, fill_after, either, sign_then, nowhere, some_name}
 
 fill_type : Filled (λ free. IsType)
-fill_type = fill_behind _ (name some_name, nowhere) (fill_here _ (Object nowhere some_name) (λ free left. object))
+fill_type = fill_after _ (name some_name, nowhere) (fill_here _ (Object nowhere some_name) (λ free left. object))
 
 -- the "@" of an elem
 abbrev HandlePart : Place → Place → List ℕ → ℕ → Tokens → Element → Tokens → Type 0
@@ -28,7 +28,7 @@ handle_part o p text z left before e d =
 
 fill_elem : (o : Place) → Filled (Behind (sign signs.Less, o) (λ free. IsElement))
 fill_elem o =
-    fill_behind _ (name some_name, nowhere) (fill_behind _ (sign signs.Handle, nowhere) (fill_behind _ (sign signs.Greater, nowhere)
+    fill_after _ (name some_name, nowhere) (fill_after _ (sign signs.Handle, nowhere) (fill_after _ (sign signs.Greater, nowhere)
     (fill_here _ (HandleElement nowhere some_name) (λ free left. handle_element))))
 
 begin_handle_elem : (o p : Place) (text : List ℕ) (ts : Tokens) → Law ((expect_at signs.Handle ts >>= λ h. Ok (HandleElement p text, h.1)) >>= λ e. expect_at signs.Greater e.1 >>= λ z. Ok (e.0, z.1)) ts (Behind (name text, p) (Behind (sign signs.Less, o) (λ free. IsElement)))
@@ -38,11 +38,11 @@ begin_handle_elem o p text ts =
     (λ e r. sign_then _ signs.Greater _ r
     (λ z s. done _ e s (λ free left before d. handle_part o p text z left before e d)))
 
--- an elem and the ">", behind the "<"
+-- an elem and the ">", after the "<"
 begin_elem_by : (o : Place) (k : Option Primitive) (m : Meaning) (p : Place) (ts : Tokens) → primitive m ≡ k → Law (elem_by k m p ts >>= λ e. expect_at signs.Greater e.1 >>= λ z. Ok (e.0, z.1)) ((m, p) ∷ ts) (Behind (sign signs.Less, o) (λ free. IsElement))
 begin_elem_by o (Some k) m p ts g =
-    behind _ (m, p) _ ts (sign_then _ signs.Greater _ ts (λ z r. done _ (PrimElement p k) r (λ free left. prim_element g)))
-begin_elem_by o None (name text) p ts g = behind _ (name text, p) _ ts (begin_handle_elem o p text ts)
+    after _ (m, p) _ ts (sign_then _ signs.Greater _ ts (λ z r. done _ (PrimElement p k) r (λ free left. prim_element g)))
+begin_elem_by o None (name text) p ts g = after _ (name text, p) _ ts (begin_handle_elem o p text ts)
 begin_elem_by o None m p ts g = stops_here _ ((m, p) ∷ ts) (fill_elem o)
 
 begin_elem : (o : Place) (ts : Tokens) → Law (elem_at ts >>= λ e. expect_at signs.Greater e.1 >>= λ z. Ok (e.0, z.1)) ts (Behind (sign signs.Less, o) (λ free. IsElement))
@@ -54,7 +54,7 @@ pub begin_element : (ts : Tokens) → Law (element_at ts) ts (λ free. IsElement
 unfolding element_at
 begin_element ts = sign_then _ signs.Less _ ts (λ o r. begin_elem o r)
 
--- ["@"] behind a type
+-- ["@"] after a type
 begin_handle_by : (Q : ℕ → Tokens → Named → Tokens → Type 0) (plain handled : Named) (ts : Tokens) → ((free : ℕ) (left : Tokens) → Q free left plain left) → ((q : Place) (free : ℕ) (left : Tokens) → Q free ((sign signs.Handle, q) ∷ left) handled left) → Law (handle_by plain handled ts) ts Q
 begin_handle_by Q plain handled ts off on =
     either (next_is_sign signs.Handle ts) _ _ ts _
@@ -62,10 +62,10 @@ begin_handle_by Q plain handled ts off on =
     (done _ plain ts off)
 
 begin_type_by : (k : Option Primitive) (m : Meaning) (p : Place) (ts : Tokens) → primitive m ≡ k → Law (type_by k m p ts) ((m, p) ∷ ts) (λ free. IsType)
-begin_type_by (Some k) m p ts g = behind _ (m, p) _ ts (done _ (Prim p k) ts (λ free left. prim g))
-begin_type_by None (name t) p ts g = behind _ (name t, p) _ ts (begin_handle_by _ (Object p t) (Handle p t) ts (λ free left. object) (λ q free left. handle))
+begin_type_by (Some k) m p ts g = after _ (m, p) _ ts (done _ (Prim p k) ts (λ free left. prim g))
+begin_type_by None (name t) p ts g = after _ (name t, p) _ ts (begin_handle_by _ (Object p t) (Handle p t) ts (λ free left. object) (λ q free left. handle))
 begin_type_by None (reserved words.Array) p ts g =
-    behind _ (reserved words.Array, p) _ ts (then (λ free. IsElement) _ (element_at ts) _ ts (begin_element ts)
+    after _ (reserved words.Array, p) _ ts (then (λ free. IsElement) _ (element_at ts) _ ts (begin_element ts)
     (λ e r. begin_handle_by _ (Array p e) (ArrayHandle p e) r (λ free left before d. array d) (λ q free left before d. array_handle d)))
 begin_type_by None m p ts g = stops_here (λ free. IsType) ((m, p) ∷ ts) fill_type
 

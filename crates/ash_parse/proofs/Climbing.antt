@@ -5,9 +5,9 @@ use Rattle.ash_tree.specs.declared.tree.operators.BinaryOp.{BinaryOp}
 use Rattle.ash_tree.specs.Tree.{Expr, Operation, chained}
 use Rattle.ash_tree.specs.Tokens.{Tokens}
 use Rattle.ash_tree.specs.Operators.{binary_operator, level}
-use Rattle.ash_parse.specs.declared.stop.Stop.{Stop}
-use Rattle.ash_parse.specs.declared.stop.Stop.TheVariants as stops
-use Rattle.ash_parse.specs.Reading.{Reading, ◌>>=◌, Fails}
+use Rattle.ash_parse.specs.declared.error.ParseError.{ParseError}
+use Rattle.ash_parse.specs.declared.error.ParseError.TheVariants as stops
+use Rattle.ash_parse.specs.Readers.{ParseResult, ◌>>=◌, Fails}
 use Rattle.ash_parse.specs.ExpressionReader.{Below, operator_by, operator_at, is_link, level_by, next_level, link_by, links_by, chain_by, binary_with, unary_with, below_at}
 use Rattle.ash_parse.proofs.Loop.{loop_done}
 use Rattle.ash_parse.proofs.ExpressionLoops.{no_link_left, link_shrinks}
@@ -36,26 +36,26 @@ Skips from to ts = (n : ℕ) → from ≤ n → n < to → is_link n ts ≡ fals
 skips : (from to : ℕ) (ts : Tokens) → ((n : ℕ) → from ≤ n → n < to → (next_level ts ≡ suc n) → ⊥) → Skips from to ts
 skips from to ts h n l u = link_level n ts ∙ grind (arith, nat_tests, h n l u)
 
-fails_bind : {A B : Type 0} (e : Stop) (read : Reading A) (f : A × Tokens → Reading B) → Fails e read → Fails e (read >>= f)
+fails_bind : {A B : Type 0} (e : ParseError) (read : ParseResult A) (f : A × Tokens → ParseResult B) → Fails e read → Fails e (read >>= f)
 fails_bind stops.NoMemory read f h = tt
 fails_bind (stops.Unexpected rest) read f h = rw h refl
 fails_bind (stops.TooDeep rest) read f h = rw h refl
 
-bind_ok : {A : Type 0} (read : Reading A) → (read >>= λ x. Ok x) ≡ read
+bind_ok : {A : Type 0} (read : ParseResult A) → (read >>= λ x. Ok x) ≡ read
 bind_ok (Ok x) = refl
 bind_ok (Err e) = refl
 
--- what was read, with the operators of a level behind it
-abbrev pub step : Below → ℕ → Expr × Tokens → Reading Expr
+-- what was read, with the operators of a level after it
+abbrev pub step : Below → ℕ → Expr × Tokens → ParseResult Expr
 step below n x = links_by n (binary_with below n) x.1 >>= λ more. Ok (chained x.0 more.0, more.1)
 
--- what was read, with the operators of so many levels behind it, from one on
-unfoldable pub rises : Below → ℕ → ℕ → Expr × Tokens → Reading Expr
+-- what was read, with the operators of so many levels after it, from one on
+unfoldable pub rises : Below → ℕ → ℕ → Expr × Tokens → ParseResult Expr
 rises below zero from x = Ok x
 rises below (suc count) from x = step below from x >>= rises below count (suc from)
 
 module _ (below : Below) where
-  rise_first : (n from : ℕ) (o : Reading Expr) → ((x : Expr × Tokens) → rises below (suc n) from x ≡ (rises below n from x >>= step below (from + n))) → (o >>= rises below (suc n) from) ≡ ((o >>= rises below n from) >>= step below (from + n))
+  rise_first : (n from : ℕ) (o : ParseResult Expr) → ((x : Expr × Tokens) → rises below (suc n) from x ≡ (rises below n from x >>= step below (from + n))) → (o >>= rises below (suc n) from) ≡ ((o >>= rises below n from) >>= step below (from + n))
   rise_first n from (Ok x) h = h x
   rise_first n from (Err e) h = refl
 
@@ -72,12 +72,12 @@ module _ (below : Below) where
   all_rise (suc n) ts =
       let e : 0 + n ≡ n = omega arith in
       let last : (unary_with below ts >>= rises below (suc n) 0) ≡ ((unary_with below ts >>= rises below n 0) >>= step below n) = rw e at (rise_first n 0 (unary_with below ts) (rise_last n 0)) in
-      ap (λ (o : Reading Expr). o >>= step below n) (all_rise n ts) ∙ sym last
+      ap (λ (o : ParseResult Expr). o >>= step below n) (all_rise n ts) ∙ sym last
 
   pub climb_begins : (n : ℕ) (ts : Tokens) (x : Expr × Tokens) → unary_with below ts ≡ Ok x → rises below (n - 0) 0 x ≡ binary_with below n ts
   climb_begins n ts x h = let e : n - 0 ≡ n = omega arith in rw e (sym (all_rise n ts ∙ ap (λ o. o >>= rises below n 0) h))
 
-  pub operand_fails : (e : Stop) (n : ℕ) (ts : Tokens) → Fails e (unary_with below ts) → Fails e (binary_with below n ts)
+  pub operand_fails : (e : ParseError) (n : ℕ) (ts : Tokens) → Fails e (unary_with below ts) → Fails e (binary_with below n ts)
   operand_fails e n ts h = rw (all_rise n ts) (fails_bind e (unary_with below ts) (rises below n 0) h)
 
 module _ (room : ℕ) (h : room ≤ 64) where
@@ -95,14 +95,14 @@ module _ (room : ℕ) (h : room ≤ 64) where
       rw one (skip k m count (suc from) to x (omega arith) (omega arith) (λ n l u. s n (omega arith) u))
 
   -- where no operator of the levels that are left stands next, all is read
-  pub climb_ends : (level from next : ℕ) (x : Expr × Tokens) (total : Reading Expr) → next ≡ next_level x.1 → (from < next → next ≤ level → ⊥) → rises (below_at room) (level - from) from x ≡ total → total ≡ Ok x
+  pub climb_ends : (level from next : ℕ) (x : Expr × Tokens) (total : ParseResult Expr) → next ≡ next_level x.1 → (from < next → next ≤ level → ⊥) → rises (below_at room) (level - from) from x ≡ total → total ≡ Ok x
   unfolding rises
   climb_ends level from next x total is over so_far =
       let unread : (n : ℕ) → from ≤ n → n < from + (level - from) → (next_level x.1 ≡ suc n) → ⊥ = λ n l u e. over (omega arith) (omega arith) in
       sym so_far ∙ skip (level - from) (level - from) 0 from (from + (level - from)) x (omega arith) refl (skips from (from + (level - from)) x.1 unread)
 
   -- up to the level of the operator that stands next
-  climb_to : (level from next : ℕ) (x : Expr × Tokens) (total : Reading Expr) → next ≡ next_level x.1 → from < next → next ≤ level → rises (below_at room) (level - from) from x ≡ total → (step (below_at room) (next - 1) x >>= rises (below_at room) (level - next) next) ≡ total
+  climb_to : (level from next : ℕ) (x : Expr × Tokens) (total : ParseResult Expr) → next ≡ next_level x.1 → from < next → next ≤ level → rises (below_at room) (level - from) from x ≡ total → (step (below_at room) (next - 1) x >>= rises (below_at room) (level - next) next) ≡ total
   unfolding rises
   climb_to level from next x total is l u so_far =
       let one : suc (next - 1) ≡ next = omega arith in
@@ -110,9 +110,9 @@ module _ (room : ℕ) (h : room ≤ 64) where
       skip (next - 1 - from) (level - from) (suc (level - next)) from (next - 1) x (omega arith) (omega arith) (skips from (next - 1) x.1 (λ n a b e. omega arith)) in
       rw one at (sym same ∙ so_far)
 
-  pub climbs : (level from next : ℕ) (e : Expr) (ts behind : Tokens) (more : List Operation) (total : Reading Expr) → next ≡ next_level ts → from < next → next ≤ level → links_by (next - 1) (binary_with (below_at room) (next - 1)) ts ≡ Ok (more, behind) → rises (below_at room) (level - from) from (e, ts) ≡ total → rises (below_at room) (level - next) next (chained e more, behind) ≡ total
-  climbs level from next e ts behind more total is l u read so_far = rw read at (climb_to level from next (e, ts) total is l u so_far)
+  pub climbs : (level from next : ℕ) (e : Expr) (ts after : Tokens) (more : List Operation) (total : ParseResult Expr) → next ≡ next_level ts → from < next → next ≤ level → links_by (next - 1) (binary_with (below_at room) (next - 1)) ts ≡ Ok (more, after) → rises (below_at room) (level - from) from (e, ts) ≡ total → rises (below_at room) (level - next) next (chained e more, after) ≡ total
+  climbs level from next e ts after more total is l u read so_far = rw read at (climb_to level from next (e, ts) total is l u so_far)
 
-  pub climb_fails : (s : Stop) (level from next : ℕ) (e : Expr) (ts : Tokens) (total : Reading Expr) → next ≡ next_level ts → from < next → next ≤ level → Fails s (links_by (next - 1) (binary_with (below_at room) (next - 1)) ts) → rises (below_at room) (level - from) from (e, ts) ≡ total → Fails s total
+  pub climb_fails : (s : ParseError) (level from next : ℕ) (e : Expr) (ts : Tokens) (total : ParseResult Expr) → next ≡ next_level ts → from < next → next ≤ level → Fails s (links_by (next - 1) (binary_with (below_at room) (next - 1)) ts) → rises (below_at room) (level - from) from (e, ts) ≡ total → Fails s total
   climb_fails s level from next e ts total is l u read so_far =
       rw (← climb_to level from next (e, ts) total is l u so_far) (fails_bind s _ _ (fails_bind s _ _ read))

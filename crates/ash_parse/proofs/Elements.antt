@@ -8,13 +8,13 @@ use Rattle.ash_tree.specs.Tree.{Element}
 use Rattle.ash_tree.specs.Tokens.{Tokens}
 use Rattle.ash_tree.specs.Operators.{primitive}
 use Rattle.ash_tree.specs.Types.{IsElement, prim_element, handle_element}
-use Rattle.ash_parse.specs.TypeReader.{elem_at, element_at, behind_sign, behind_elem, behind_element}
+use Rattle.ash_parse.specs.TypeReader.{elem_at, element_at, after_sign, after_elem, after_element}
 use Rattle.ash_parse.proofs.Readings.{is_sign-refl, expect_again}
 
--- the sign behind what is passed
-behind_again : (s : Sign) (p : Place) (ts : Tokens) → behind_sign s ((sign s, p) ∷ ts) ≡ Some ts
-unfolding behind_sign
-behind_again s p ts = rw (is_sign-refl s) refl
+-- the sign after what is passed
+after_again : (s : Sign) (p : Place) (ts : Tokens) → after_sign s ((sign s, p) ∷ ts) ≡ Some ts
+unfolding after_sign
+after_again s p ts = rw (is_sign-refl s) refl
 
 pub element_read : {from left : Tokens} {e : Element} → IsElement from e left → element_at from ≡ Ok (e, left)
 unfolding element_at elem_at primitive
@@ -24,9 +24,9 @@ element_read (handle_element {o = o} {p = p} {q = q} {z = z} {text = text} {left
     rw (expect_again signs.Less o ((name text, p) ∷ (sign signs.Handle, q) ∷ (sign signs.Greater, z) ∷ left), expect_again signs.Handle q ((sign signs.Greater, z) ∷ left), expect_again signs.Greater z left) refl
 
 -- and it is passed so
-pub element_passed : {from left : Tokens} {e : Element} → IsElement from e left → behind_element from ≡ Some left
-unfolding behind_element behind_elem primitive
+pub element_passed : {from left : Tokens} {e : Element} → IsElement from e left → after_element from ≡ Some left
+unfolding after_element after_elem primitive
 element_passed (prim_element {m = m} {o = o} {p = p} {z = z} {k = k} {left = left} g) =
-    rw (behind_again signs.Less o ((m, p) ∷ (sign signs.Greater, z) ∷ left), g, behind_again signs.Greater z left) refl
+    rw (after_again signs.Less o ((m, p) ∷ (sign signs.Greater, z) ∷ left), g, after_again signs.Greater z left) refl
 element_passed (handle_element {o = o} {p = p} {q = q} {z = z} {text = text} {left = left}) =
-    rw (behind_again signs.Less o ((name text, p) ∷ (sign signs.Handle, q) ∷ (sign signs.Greater, z) ∷ left), behind_again signs.Handle q ((sign signs.Greater, z) ∷ left), behind_again signs.Greater z left) refl
+    rw (after_again signs.Less o ((name text, p) ∷ (sign signs.Handle, q) ∷ (sign signs.Greater, z) ∷ left), after_again signs.Handle q ((sign signs.Greater, z) ∷ left), after_again signs.Greater z left) refl

@@ -15,7 +15,7 @@ use Rattle.ash_tree.specs.Operators.{primitive, unary_operator, binary_operator,
 use Rattle.ash_tree.specs.Types.{IsElement}
 use Rattle.ash_tree.specs.Expressions.{DEPTH, IsInner, inner, AreExprs, no_exprs, some_exprs, AreMoreExprs, no_more_exprs, more_exprs, IsArgs, args, IsAssign, no_assign, assign, IsCond, no_branch, branches, IsBinary, operand, joined, AreLinks, no_links, more_links, IsUnary, applied, postfix, AreSuffixes, no_suffixes, more_suffixes, IsSuffix, field, method, index, increment, decrement, IsPrimary, numeral, yes, no, null, this, named, call, brackets, convert, new_array, cast}
 use Rattle.ash_parse.specs.Signs.{is_sign, same_sign}
-use Rattle.ash_parse.specs.Reading.{next_is, next_is_sign}
+use Rattle.ash_parse.specs.Readers.{next_is, next_is_sign}
 use Rattle.ash_parse.specs.ExpressionReader.{Below, begins, next_expr_with, more_exprs_with, exprs_with, arguments_with, bracketed_with, named_with, new_array_with, cast_with, primary_with, begins_suffix, is_suffix, member_with, index_with, suffix_with, suffixes_with, postfix_with, unary_with, operator_at, is_link, link_by, links_by, chain_by, binary_with, branches_with, assign_from, assign_with, limit_at, below_at}
 use Rattle.ash_parse.specs.TypeReader.{target_at}
 use Rattle.ash_parse.proofs.Readings.{expect_again, next_is_sign-again, name_again}
@@ -27,7 +27,7 @@ use Rattle.ash_parse.proofs.Rereading.{no_some, no_true, Reads, whole, cut, as_r
 abbrev pub Stops : ℕ → Tokens → Type 0
 Stops n left = (next_is_sign signs.OpenParenthesis left ≡ false) × (is_suffix left ≡ false) × ((k : ℕ) → k < n → is_link k left ≡ false)
 
--- what stands behind a whole expression
+-- what stands after a whole expression
 unfoldable pub ends_expr : Meaning → Bool
 ends_expr (sign signs.CloseParenthesis) = true
 ends_expr (sign signs.CloseBracket) = true
@@ -110,13 +110,13 @@ unfolding next_is_sign
 close_ends [] h = absurd (no_true h)
 close_ends ((m, p) ∷ ts) h = close_ends_at m h
 
--- what stands behind one of several arguments
+-- what stands after one of several arguments
 pub more_end : {free depth : ℕ} {from left : Tokens} {es : List Expr} → AreMoreExprs free depth from es left → Closes left → Ends from
 unfolding ends_expr
 more_end (no_more_exprs {left = left}) s = (close_ends left s).0
 more_end (more_exprs a b) s = refl
 
--- what stands behind an operand, in front of suffixes or operators
+-- what stands after an operand, before suffixes or operators
 suffixes_open : {free depth : ℕ} {from left : Tokens} {more : List Suffix} → AreSuffixes free depth from more left → next_is_sign signs.OpenParenthesis left ≡ false → next_is_sign signs.OpenParenthesis from ≡ false
 unfolding next_is_sign is_sign same_sign
 suffixes_open no_suffixes s = s
@@ -205,7 +205,7 @@ unfolding next_is_sign
 begins_no_close [] h = refl
 begins_no_close ((m, p) ∷ ts) h = begins_no_close_at m h
 
--- a primary stands alone, with no operator in front of it
+-- a primary stands alone, with no operator before it
 primary_alone : {free depth : ℕ} {from left : Tokens} {e : Expr} (below : Below) → IsPrimary free depth from e left → unary_with below from ≡ postfix_with below from
 unfolding unary_with unary_operator
 primary_alone below numeral = refl
@@ -229,13 +229,13 @@ module _ (below : Below) where
   unfolding exprs_with
   exprs_none left s = rw s refl
 
-  exprs_some : {free : ℕ} (from behind left : Tokens) (e : Expr) (es : List Expr) → next_is begins from ≡ true → Reads Expr free (below true from) (e, behind) → ReadsAll free (next_is_sign signs.Comma) (next_expr_with below) behind es left → Reads (List Expr) free (exprs_with below from) (e ∷ es, left)
+  exprs_some : {free : ℕ} (from after left : Tokens) (e : Expr) (es : List Expr) → next_is begins from ≡ true → Reads Expr free (below true from) (e, after) → ReadsAll free (next_is_sign signs.Comma) (next_expr_with below) after es left → Reads (List Expr) free (exprs_with below from) (e ∷ es, left)
   unfolding exprs_with more_exprs_with
-  exprs_some from behind left e es b h r = rw (begins_no_close from b) (then_reads _ h (put_reads e (r (length behind) (omega arith))))
+  exprs_some from after left e es b h r = rw (begins_no_close from b) (then_reads _ h (put_reads e (r (length after) (omega arith))))
 
-  next_expr_again : {free : ℕ} (p : Place) (from behind : Tokens) (e : Expr) → Reads Expr free (below true from) (e, behind) → Reads Expr free (next_expr_with below ((sign signs.Comma, p) ∷ from)) (e, behind)
+  next_expr_again : {free : ℕ} (p : Place) (from after : Tokens) (e : Expr) → Reads Expr free (below true from) (e, after) → Reads Expr free (next_expr_with below ((sign signs.Comma, p) ∷ from)) (e, after)
   unfolding next_expr_with
-  next_expr_again p from behind e h = rw (expect_again signs.Comma p from) h
+  next_expr_again p from after e h = rw (expect_again signs.Comma p from) h
 
   args_again : {free : ℕ} (p q : Place) (from left : Tokens) (es : List Expr) → Reads (List Expr) free (exprs_with below from) (es, (sign signs.CloseParenthesis, q) ∷ left) → Reads (List Expr) free (arguments_with below ((sign signs.OpenParenthesis, p) ∷ from)) (es, left)
   unfolding arguments_with
@@ -245,9 +245,9 @@ module _ (below : Below) where
   unfolding bracketed_with
   bracketed_again p q from left e h = rw (expect_again signs.OpenParenthesis p from) (then_reads _ h (rw (expect_again signs.CloseParenthesis q left) whole))
 
-  assign_again : {free : ℕ} (m : Meaning) (p : Place) (from behind left : Tokens) (target value : Expr) (operator : AssignOp) → assign_operator m ≡ Some operator → Reads Expr free (binary_with below LEVELS from) (target, (m, p) ∷ behind) → Reads Expr free (below true behind) (value, left) → Reads Expr free (assign_with below from) (Assign (place_of target) target operator value, left)
+  assign_again : {free : ℕ} (m : Meaning) (p : Place) (from after left : Tokens) (target value : Expr) (operator : AssignOp) → assign_operator m ≡ Some operator → Reads Expr free (binary_with below LEVELS from) (target, (m, p) ∷ after) → Reads Expr free (below true after) (value, left) → Reads Expr free (assign_with below from) (Assign (place_of target) target operator value, left)
   unfolding assign_with assign_from
-  assign_again m p from behind left target value operator o h v = then_reads _ h (rw ((assign_plain m operator o).3, o) (then_reads _ v whole))
+  assign_again m p from after left target value operator o h v = then_reads _ h (rw ((assign_plain m operator o).3, o) (then_reads _ v whole))
 
   alone_again : {free : ℕ} (from left : Tokens) (e : Expr) → Ends left → Reads Expr free (binary_with below LEVELS from) (e, left) → Reads Expr free (assign_with below from) (e, left)
   unfolding assign_with
@@ -257,9 +257,9 @@ module _ (below : Below) where
   unfolding assign_with assign_from branches_with is_sign same_sign
   branches_again p q from first second left c a b h f g = then_reads _ h (then_reads _ f (rw (expect_again signs.Colon q second) (then_reads _ g whole)))
 
-  joined_again : {free : ℕ} (n : ℕ) (from behind left : Tokens) (first : Expr) (more : List Operation) → Reads Expr free (binary_with below n from) (first, behind) → ReadsAll free (is_link n) (link_by n (binary_with below n)) behind more left → Reads Expr free (binary_with below (suc n) from) (chained first more, left)
+  joined_again : {free : ℕ} (n : ℕ) (from after left : Tokens) (first : Expr) (more : List Operation) → Reads Expr free (binary_with below n from) (first, after) → ReadsAll free (is_link n) (link_by n (binary_with below n)) after more left → Reads Expr free (binary_with below (suc n) from) (chained first more, left)
   unfolding binary_with chain_by links_by
-  joined_again n from behind left first more h r = then_reads _ h (then_reads _ (r (length behind) (omega arith)) whole)
+  joined_again n from after left first more h r = then_reads _ h (then_reads _ (r (length after) (omega arith)) whole)
 
   operator_again : (n : ℕ) (m : Meaning) (p : Place) (ts : Tokens) (o : BinaryOp) → binary_operator m ≡ Some o → level o ≡ suc n → operator_at n ((m, p) ∷ ts) ≡ Some (o, ts)
   unfolding operator_at
@@ -269,17 +269,17 @@ module _ (below : Below) where
   unfolding is_link
   link_begins n m p ts o h l = rw (operator_again n m p ts o h l) refl
 
-  link_again : {free : ℕ} (n : ℕ) (m : Meaning) (p : Place) (from behind : Tokens) (o : BinaryOp) (e : Expr) → binary_operator m ≡ Some o → level o ≡ suc n → Reads Expr free (binary_with below n from) (e, behind) → Reads Operation free (link_by n (binary_with below n) ((m, p) ∷ from)) (record { operator = o; operand = e }, behind)
+  link_again : {free : ℕ} (n : ℕ) (m : Meaning) (p : Place) (from after : Tokens) (o : BinaryOp) (e : Expr) → binary_operator m ≡ Some o → level o ≡ suc n → Reads Expr free (binary_with below n from) (e, after) → Reads Operation free (link_by n (binary_with below n) ((m, p) ∷ from)) (record { operator = o; operand = e }, after)
   unfolding link_by
-  link_again n m p from behind o e h l r = rw (operator_again n m p from o h l) (then_reads _ r whole)
+  link_again n m p from after o e h l r = rw (operator_again n m p from o h l) (then_reads _ r whole)
 
   applied_again : {free : ℕ} (m : Meaning) (p : Place) (from left : Tokens) (o : UnaryOp) (e : Expr) → unary_operator m ≡ Some o → Reads Expr free (below false from) (e, left) → Reads Expr free (unary_with below ((m, p) ∷ from)) (Unary p o e, left)
   unfolding unary_with
   applied_again m p from left o e h r = rw h (then_reads _ r whole)
 
-  postfix_again : {free : ℕ} (from behind left : Tokens) (e : Expr) (more : List Suffix) → Reads Expr free (primary_with below from) (e, behind) → ReadsAll free is_suffix (suffix_with below) behind more left → Reads Expr free (postfix_with below from) (suffixed e more, left)
+  postfix_again : {free : ℕ} (from after left : Tokens) (e : Expr) (more : List Suffix) → Reads Expr free (primary_with below from) (e, after) → ReadsAll free is_suffix (suffix_with below) after more left → Reads Expr free (postfix_with below from) (suffixed e more, left)
   unfolding postfix_with suffixes_with
-  postfix_again from behind left e more h r = then_reads _ h (then_reads _ (r (length behind) (omega arith)) whole)
+  postfix_again from after left e more h r = then_reads _ h (then_reads _ (r (length after) (omega arith)) whole)
 
   field_again : (p q : Place) (text : List ℕ) (left : Tokens) → next_is_sign signs.OpenParenthesis left ≡ false → suffix_with below ((sign signs.Dot, p) ∷ (name text, q) ∷ left) ≡ Ok (Field q text, left)
   unfolding suffix_with member_with
@@ -309,9 +309,9 @@ module _ (below : Below) where
   unfolding primary_with
   convert_again m k p q r from left e o h = rw o (then_reads _ (bracketed_again q r from left e h) whole)
 
-  new_array_again : {free : ℕ} (p : Place) (of : Element) (from behind left : Tokens) (es : List Expr) → IsElement from of behind → Reads (List Expr) free (arguments_with below behind) (es, left) → Reads Expr free (primary_with below ((reserved words.Array, p) ∷ from)) (NewArray p of (exprs es), left)
+  new_array_again : {free : ℕ} (p : Place) (of : Element) (from after left : Tokens) (es : List Expr) → IsElement from of after → Reads (List Expr) free (arguments_with below after) (es, left) → Reads Expr free (primary_with below ((reserved words.Array, p) ∷ from)) (NewArray p of (exprs es), left)
   unfolding primary_with new_array_with primitive
-  new_array_again p of from behind left es a h = rw (element_read a) (then_reads _ h whole)
+  new_array_again p of from after left es a h = rw (element_read a) (then_reads _ h whole)
 
   cast_again : {free : ℕ} (p o q r s z : Place) (text : List ℕ) (from left : Tokens) (e : Expr) → Reads Expr free (below true from) (e, (sign signs.CloseParenthesis, z) ∷ left) → Reads Expr free (primary_with below ((reserved words.Cast, p) ∷ (sign signs.Less, o) ∷ (name text, q) ∷ (sign signs.Greater, r) ∷ (sign signs.OpenParenthesis, s) ∷ from)) (Cast p (record { place = q; name = text }) e, left)
   unfolding primary_with cast_with primitive
@@ -340,23 +340,23 @@ mutual
 
   pub exprs_read : {free depth : ℕ} {from left : Tokens} {es : List Expr} → AreExprs free depth from es left → (room : ℕ) → depth + room ≡ DEPTH → Closes left → Reads (List Expr) free (exprs_with (below_at room) from) (es, left)
   exprs_read (no_exprs {left = left}) room d s = as_read (exprs_none (below_at room) left s)
-  exprs_read (some_exprs {from = from} {behind = behind} {left = left} {e = e} {es = es} a b) room d s =
-      exprs_some (below_at room) from behind left e es (inner_begins a) (inner_read a room d (more_end b s)) (more_exprs_read b room d s)
+  exprs_read (some_exprs {from = from} {after = after} {left = left} {e = e} {es = es} a b) room d s =
+      exprs_some (below_at room) from after left e es (inner_begins a) (inner_read a room d (more_end b s)) (more_exprs_read b room d s)
 
   more_exprs_read : {free depth : ℕ} {from left : Tokens} {es : List Expr} → AreMoreExprs free depth from es left → (room : ℕ) → depth + room ≡ DEPTH → Closes left → ReadsAll free (next_is_sign signs.Comma) (next_expr_with (below_at room)) from es left
   more_exprs_read (no_more_exprs {left = left}) room d s = none_again _ (next_is_sign signs.Comma) (next_expr_with (below_at room)) left (close_ends left s).1
-  more_exprs_read (more_exprs {p = p} {from = from} {behind = behind} {left = left} {e = e} {es = es} a b) room d s =
+  more_exprs_read (more_exprs {p = p} {from = from} {after = after} {left = left} {e = e} {es = es} a b) room d s =
       let l = inner_shorter a in
-      one_again _ (next_is_sign signs.Comma) (next_expr_with (below_at room)) ((sign signs.Comma, p) ∷ from) behind left e es (next_is_sign-again signs.Comma p from) (next_expr_again (below_at room) p from behind e (inner_read a room d (more_end b s))) (omega arith) (more_exprs_read b room d s)
+      one_again _ (next_is_sign signs.Comma) (next_expr_with (below_at room)) ((sign signs.Comma, p) ∷ from) after left e es (next_is_sign-again signs.Comma p from) (next_expr_again (below_at room) p from after e (inner_read a room d (more_end b s))) (omega arith) (more_exprs_read b room d s)
 
   pub args_read : {free depth : ℕ} {from left : Tokens} {es : List Expr} → IsArgs free depth from es left → (room : ℕ) → depth + room ≡ DEPTH → Reads (List Expr) free (arguments_with (below_at room) from) (es, left)
   args_read (args {p = p} {q = q} {from = from} {left = left} {es = es} a) room d = args_again (below_at room) p q from left es (exprs_read a room d (next_is_sign-again signs.CloseParenthesis q left))
 
   pub assign_read : {free depth : ℕ} {from left : Tokens} {e : Expr} → IsAssign free depth from e left → (room : ℕ) → depth + room ≡ DEPTH → Ends left → Reads Expr free (assign_with (below_at room) from) (e, left)
   assign_read (no_assign a) room d s = cond_read a room d s
-  assign_read (assign {m = m} {p = p} {from = from} {behind = behind} {left = left} {target = target} {value = value} {operator = operator} a o b) room d s =
+  assign_read (assign {m = m} {p = p} {from = from} {after = after} {left = left} {target = target} {value = value} {operator = operator} a o b) room d s =
       let q = assign_plain m operator o in
-      assign_again (below_at room) m p from behind left target value operator o (binary_read a room d (plain_stops LEVELS m p behind q.0 q.1 q.2)) (inner_read b room d s)
+      assign_again (below_at room) m p from after left target value operator o (binary_read a room d (plain_stops LEVELS m p after q.0 q.1 q.2)) (inner_read b room d s)
 
   cond_read : {free depth : ℕ} {from left : Tokens} {e : Expr} → IsCond free depth from e left → (room : ℕ) → depth + room ≡ DEPTH → Ends left → Reads Expr free (assign_with (below_at room) from) (e, left)
   cond_read (no_branch {from = from} {left = left} {e = e} a) room d s = alone_again (below_at room) from left e s (binary_read a room d (ends_stop LEVELS left s))
@@ -365,27 +365,27 @@ mutual
 
   binary_read : {free depth n : ℕ} {from left : Tokens} {e : Expr} → IsBinary free depth n from e left → (room : ℕ) → depth + room ≡ DEPTH → Stops n left → Reads Expr free (binary_with (below_at room) n from) (e, left)
   binary_read (operand a) room d s = unary_read a room d s
-  binary_read (joined {n = n} {from = from} {behind = behind} {left = left} {first = first} {more = more} a b) room d s =
-      joined_again (below_at room) n from behind left first more (binary_read a room d (links_stop b s)) (links_read b room d s)
+  binary_read (joined {n = n} {from = from} {after = after} {left = left} {first = first} {more = more} a b) room d s =
+      joined_again (below_at room) n from after left first more (binary_read a room d (links_stop b s)) (links_read b room d s)
 
   links_read : {free depth n : ℕ} {from left : Tokens} {more : List Operation} → AreLinks free depth n from more left → (room : ℕ) → depth + room ≡ DEPTH → Stops (suc n) left → ReadsAll free (is_link n) (link_by n (binary_with (below_at room) n)) from more left
   links_read (no_links {n = n} {left = left}) room d s = none_again _ (is_link n) (link_by n (binary_with (below_at room) n)) left (s.2 n (omega arith))
-  links_read (more_links {n = n} {m = m} {p = p} {from = from} {behind = behind} {left = left} {operator = operator} {operand = right} {more = more} o l a b) room d s =
+  links_read (more_links {n = n} {m = m} {p = p} {from = from} {after = after} {left = left} {operator = operator} {operand = right} {more = more} o l a b) room d s =
       let k = binary_shorter a in
-      one_again _ (is_link n) (link_by n (binary_with (below_at room) n)) ((m, p) ∷ from) behind left (record { operator = operator; operand = right }) more (link_begins (below_at room) n m p from operator o l) (link_again (below_at room) n m p from behind operator right o l (binary_read a room d (links_stop b s))) (omega arith) (links_read b room d s)
+      one_again _ (is_link n) (link_by n (binary_with (below_at room) n)) ((m, p) ∷ from) after left (record { operator = operator; operand = right }) more (link_begins (below_at room) n m p from operator o l) (link_again (below_at room) n m p from after operator right o l (binary_read a room d (links_stop b s))) (omega arith) (links_read b room d s)
 
   unary_read : {free depth : ℕ} {from left : Tokens} {e : Expr} → IsUnary free depth from e left → (room : ℕ) → depth + room ≡ DEPTH → Stops 0 left → Reads Expr free (unary_with (below_at room) from) (e, left)
   unary_read (applied {free = free} {depth = depth} {m = m} {p = p} {from = from} {left = left} {operator = operator} {e = e} o w a) zero d s =
       applied_again (below_at zero) m p from left operator e o (limit_cuts free from left e (unary_phrase_begins a) (past free (length from) depth w d))
   unary_read (applied {m = m} {p = p} {from = from} {left = left} {operator = operator} {e = e} o w a) (suc room) d s =
       applied_again (below_at (suc room)) m p from left operator e o (unary_read a room (omega arith) s)
-  unary_read (postfix {from = from} {behind = behind} {left = left} {e = e} {more = more} a b) room d s =
-      rw (primary_alone (below_at room) a) (postfix_again (below_at room) from behind left e more (primary_read a room d (suffixes_open b s.0)) (suffixes_read b room d s))
+  unary_read (postfix {from = from} {after = after} {left = left} {e = e} {more = more} a b) room d s =
+      rw (primary_alone (below_at room) a) (postfix_again (below_at room) from after left e more (primary_read a room d (suffixes_open b s.0)) (suffixes_read b room d s))
 
   suffixes_read : {free depth : ℕ} {from left : Tokens} {more : List Suffix} → AreSuffixes free depth from more left → (room : ℕ) → depth + room ≡ DEPTH → Stops 0 left → ReadsAll free is_suffix (suffix_with (below_at room)) from more left
   suffixes_read (no_suffixes {left = left}) room d s = none_again _ is_suffix (suffix_with (below_at room)) left s.1
-  suffixes_read (more_suffixes {from = from} {behind = behind} {left = left} {s = x} {more = more} a b) room d s =
-      one_again _ is_suffix (suffix_with (below_at room)) from behind left x more (suffix_begins a) (suffix_read a room d (suffixes_open b s.0)) (suffix_shorter a) (suffixes_read b room d s)
+  suffixes_read (more_suffixes {from = from} {after = after} {left = left} {s = x} {more = more} a b) room d s =
+      one_again _ is_suffix (suffix_with (below_at room)) from after left x more (suffix_begins a) (suffix_read a room d (suffixes_open b s.0)) (suffix_shorter a) (suffixes_read b room d s)
 
   suffix_read : {free depth : ℕ} {from left : Tokens} {x : Suffix} → IsSuffix free depth from x left → (room : ℕ) → depth + room ≡ DEPTH → next_is_sign signs.OpenParenthesis left ≡ false → Reads Suffix free (suffix_with (below_at room) from) (x, left)
   suffix_read (field {p = p} {q = q} {text = text} {left = left}) room d s = as_read (field_again (below_at room) p q text left s)

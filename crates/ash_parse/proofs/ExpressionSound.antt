@@ -14,7 +14,7 @@ use Rattle.ash_tree.specs.Tokens.{Tokens}
 use Rattle.ash_tree.specs.Operators.{primitive, unary_operator, binary_operator, level, LEVELS, assign_operator}
 use Rattle.ash_tree.specs.Expressions.{Within, IsInner, inner, AreExprs, no_exprs, some_exprs, AreMoreExprs, no_more_exprs, more_exprs, IsArgs, args, IsAssign, no_assign, assign, IsCond, no_branch, branches, IsBinary, operand, joined, AreLinks, no_links, more_links, IsUnary, applied, postfix, AreSuffixes, no_suffixes, more_suffixes, IsSuffix, field, method, index, increment, decrement, IsPrimary, numeral, yes, no, null, this, named, call, brackets, convert, new_array, cast}
 use Rattle.ash_parse.specs.Signs.{is_sign}
-use Rattle.ash_parse.specs.Reading.{Reading, Unexpected, TooDeep, ◌>>=◌, put, next_is, next_is_sign, expect_at, name_at}
+use Rattle.ash_parse.specs.Readers.{ParseResult, Unexpected, TooDeep, ◌>>=◌, put, next_is, next_is_sign, expect_at, name_at}
 use Rattle.ash_parse.specs.ExpressionReader.{Below, limit_at, next_expr_with, more_exprs_with, exprs_with, arguments_with, bracketed_with, named_with, new_array_with, cast_with, primary_by, primary_with, is_suffix, member_with, index_with, suffix_with, suffixes_with, postfix_with, unary_by, unary_with, operator_by, operator_at, is_link, link_from, link_by, links_by, chain_by, binary_with, branches_with, assign_by, assign_from, assign_with, below_at}
 use Rattle.ash_parse.specs.TypeReader.{element_at, target_at}
 use Rattle.ash_parse.proofs.Readings.{no_err, bind_ok, at_pair, if_elim, put_ok, Finds, repeat_sound, sign_is, expect_sound, name_sound}
@@ -44,11 +44,11 @@ tails : (x y : Meaning × Place) (xs ys : Tokens) → (x ∷ xs) ≡ (y ∷ ys) 
 tails x y xs ys h = cc
 
 module _ (free depth : ℕ) (below : Below) (whole : Finds (below true) (IsInner free depth)) (part : Finds (below false) (IsPart free depth)) where
-  pub grow_exprs : (from behind left : Tokens) (x : Expr) (xs : List Expr) → next_expr_with below from ≡ Ok (x, behind) → AreMoreExprs free depth behind xs left → AreMoreExprs free depth from (x ∷ xs) left
+  pub grow_exprs : (from after left : Tokens) (x : Expr) (xs : List Expr) → next_expr_with below from ≡ Ok (x, after) → AreMoreExprs free depth after xs left → AreMoreExprs free depth from (x ∷ xs) left
   unfolding next_expr_with
-  grow_exprs from behind left x xs h more =
-      let c = bind_ok (expect_at signs.Comma from) (λ comma. below true comma.1) (x, behind) h in
-      expect_sound signs.Comma from (c.0).0 (c.0).1 (λ r. AreMoreExprs free depth r (x ∷ xs) left) c.1 (more_exprs (whole (c.0).1 x behind c.2) more)
+  grow_exprs from after left x xs h more =
+      let c = bind_ok (expect_at signs.Comma from) (λ comma. below true comma.1) (x, after) h in
+      expect_sound signs.Comma from (c.0).0 (c.0).1 (λ r. AreMoreExprs free depth r (x ∷ xs) left) c.1 (more_exprs (whole (c.0).1 x after c.2) more)
 
   pub more_exprs_sound : Finds (more_exprs_with below) (AreMoreExprs free depth)
   unfolding more_exprs_with
@@ -171,7 +171,7 @@ module _ (free depth : ℕ) (below : Below) (whole : Finds (below true) (IsInner
 
   pub suffixes_sound : Finds (suffixes_with below) (AreSuffixes free depth)
   unfolding suffixes_with
-  suffixes_sound ts xs rest h = repeat_sound is_suffix (suffix_with below) (AreSuffixes free depth) (λ s. no_suffixes) (λ from behind left x xs e a. more_suffixes (suffix_sound from x behind e) a) (length ts) ts xs rest h
+  suffixes_sound ts xs rest h = repeat_sound is_suffix (suffix_with below) (AreSuffixes free depth) (λ s. no_suffixes) (λ from after left x xs e a. more_suffixes (suffix_sound from x after e) a) (length ts) ts xs rest h
 
   pub postfix_sound : Finds (postfix_with below) (IsUnary free depth)
   unfolding postfix_with
@@ -192,20 +192,20 @@ module _ (free depth : ℕ) (below : Below) (whole : Finds (below true) (IsInner
   unary_sound [] x rest h = absurd (no_err (Unexpected []) (x, rest) h)
   unary_sound ((m, p) ∷ ts) x rest h = unary_by_sound (unary_operator m) m p ts x rest refl h
 
-  pub link_from_sound : (n : ℕ) (read : Tokens → Reading Expr) → Finds read (IsBinary free depth n) → (from behind left : Tokens) (x : Operation) (xs : List Operation) (o : Option (BinaryOp × Tokens)) → operator_at n from ≡ o → link_from read o from ≡ Ok (x, behind) → AreLinks free depth n behind xs left → AreLinks free depth n from (x ∷ xs) left
+  pub link_from_sound : (n : ℕ) (read : Tokens → ParseResult Expr) → Finds read (IsBinary free depth n) → (from after left : Tokens) (x : Operation) (xs : List Operation) (o : Option (BinaryOp × Tokens)) → operator_at n from ≡ o → link_from read o from ≡ Ok (x, after) → AreLinks free depth n after xs left → AreLinks free depth n from (x ∷ xs) left
   unfolding operator_at
-  link_from_sound n read finds from behind left x xs None g h a = absurd (no_err (Unexpected from) (x, behind) h)
-  link_from_sound n read finds [] behind left x xs (Some o) g h a = absurd (no_operator o o g)
-  link_from_sound n read finds ((m, p) ∷ ts) behind left x xs (Some o) g h a =
-      let e = bind_ok (read o.1) (λ e. Ok (record { operator = o.0; operand = e.0 }, e.1)) (x, behind) h in
-      at_pair (λ y r. AreLinks free depth n r xs left → AreLinks free depth n ((m, p) ∷ ts) (y ∷ xs) left) (record { operator = o.0; operand = (e.0).0 }) (e.0).1 x behind e.2
+  link_from_sound n read finds from after left x xs None g h a = absurd (no_err (Unexpected from) (x, after) h)
+  link_from_sound n read finds [] after left x xs (Some o) g h a = absurd (no_operator o o g)
+  link_from_sound n read finds ((m, p) ∷ ts) after left x xs (Some o) g h a =
+      let e = bind_ok (read o.1) (λ e. Ok (record { operator = o.0; operand = e.0 }, e.1)) (x, after) h in
+      at_pair (λ y r. AreLinks free depth n r xs left → AreLinks free depth n ((m, p) ∷ ts) (y ∷ xs) left) (record { operator = o.0; operand = (e.0).0 }) (e.0).1 x after e.2
       (operator_found n (binary_operator m) ts o (λ q r. IsBinary free depth n r (e.0).0 (e.0).1 → AreLinks free depth n (e.0).1 xs left → AreLinks free depth n ((m, p) ∷ ts) (record { operator = q; operand = (e.0).0 } ∷ xs) left) g (λ q s l. more_links s l) (finds o.1 (e.0).0 (e.0).1 e.1)) a
 
-  pub links_sound : (n : ℕ) (read : Tokens → Reading Expr) → Finds read (IsBinary free depth n) → Finds (links_by n read) (AreLinks free depth n)
+  pub links_sound : (n : ℕ) (read : Tokens → ParseResult Expr) → Finds read (IsBinary free depth n) → Finds (links_by n read) (AreLinks free depth n)
   unfolding links_by link_by
-  links_sound n read finds ts xs rest h = repeat_sound (is_link n) (link_by n read) (AreLinks free depth n) (λ s. no_links) (λ from behind left x xs e a. link_from_sound n read finds from behind left x xs (operator_at n from) refl e a) (length ts) ts xs rest h
+  links_sound n read finds ts xs rest h = repeat_sound (is_link n) (link_by n read) (AreLinks free depth n) (λ s. no_links) (λ from after left x xs e a. link_from_sound n read finds from after left x xs (operator_at n from) refl e a) (length ts) ts xs rest h
 
-  pub chain_sound : (n : ℕ) (read : Tokens → Reading Expr) → Finds read (IsBinary free depth n) → Finds (chain_by n read) (IsBinary free depth (suc n))
+  pub chain_sound : (n : ℕ) (read : Tokens → ParseResult Expr) → Finds read (IsBinary free depth n) → Finds (chain_by n read) (IsBinary free depth (suc n))
   unfolding chain_by
   chain_sound n read finds ts x rest h =
       let e = bind_ok (read ts) (λ first. links_by n read first.1 >>= λ more. Ok (chained first.0 more.0, more.1)) (x, rest) h in

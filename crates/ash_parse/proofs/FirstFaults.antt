@@ -1,15 +1,15 @@
--- Where reading stops is the first fault by the grammar: what is proved of the tokens in front of it, and of those up to it.
+-- Where reading stops is the first fault by the grammar: what is proved of the tokens before it, and of those up to it.
 use Rattle.std.proofs.Common.{◌≡◌, suc, inl, inr, List, [], ◌∷◌, ◌++◌, length, Ok, Err, sym, ap, ◌∙◌, refl, append_assoc}
 use Rattle.ash_lex.specs.declared.tokens.Token.{Token}
 use Rattle.ash_tree.specs.Tree.{Item, Declaration}
 use Rattle.ash_tree.specs.Tokens.{Tokens, tokens_of}
 use Rattle.ash_parse.specs.declared.faults.ParseFault.{ParseFault}
 use Rattle.ash_parse.specs.declared.faults.ParseFault.TheVariants as faults
-use Rattle.ash_parse.specs.Reading.{Halt, Unexpected, TooDeep, Reading}
+use Rattle.ash_parse.specs.Readers.{Halt, Unexpected, TooDeep, ParseResult}
 use Rattle.ash_parse.specs.ItemReader.{module_at}
 use Rattle.ash_parse.specs.Faults.{IsFault, whole_declaration_at}
 use Rattle.ash_parse.specs.Unique.{HasTreeOrFault, HasDeclarationOrFault}
-use Rattle.ash_parse.specs.FirstFault.{NoneLeftDeep, FirstFault, FirstDeclarationFault, TellsFirst}
+use Rattle.ash_parse.specs.FirstFault.{NoneLeftDeep, FirstFault, FirstDeclarationFault, ReportsFirst}
 use Rattle.ash_parse.proofs.NoneGoesOn.{goes_too_deep, none_goes_on, none_within, no_declaration_goes_on}
 use Rattle.ash_parse.proofs.BeginItems.{begun, begun_deep, some_token_deep}
 use Rattle.ash_parse.proofs.BeginDeclarations.{begun_declaration}
@@ -20,22 +20,22 @@ use Rattle.ash_parse.proofs.KeepsItems.{keeps_not_deep}
 use Rattle.ash_parse.proofs.OneFault.{cut_there, one_fault, no_module}
 
 -- where reading stops, each fault is such a one
-abbrev pub StopsFirst : {A : Type 0} → (Tokens → Halt → Type 0) → Tokens → Reading A → Type 0
+abbrev pub StopsFirst : {A : Type 0} → (Tokens → Halt → Type 0) → Tokens → ParseResult A → Type 0
 StopsFirst {A} IsFirst ts read = (h : Halt) → read ≡ Err h → IsFirst ts h
 
--- what is told is the first fault
-told_first_at : {A : Type 0} (IsFirst : Tokens → Halt → Type 0) (all : List Token) (f : ParseFault) (read : Reading A) → StopsFirst IsFirst (tokens_of all) read → IsFault all f read → TellsFirst IsFirst all f
-told_first_at IsFirst all faults.NoMemory read first h = tt
-told_first_at IsFirst all (faults.Unexpected at) (Ok x) first h = absurd h
-told_first_at IsFirst all (faults.Unexpected at) (Err e) first h = (e, h, first e refl)
-told_first_at IsFirst all (faults.Unsupported word at) (Ok x) first h = absurd h
-told_first_at IsFirst all (faults.Unsupported word at) (Err e) first h = (e, h, first e refl)
-told_first_at IsFirst all (faults.TooDeep at) (Ok x) first h = absurd h
-told_first_at IsFirst all (faults.TooDeep at) (Err e) first h = (e, h, first e refl)
+-- what is reported is the first fault
+reported_first_at : {A : Type 0} (IsFirst : Tokens → Halt → Type 0) (all : List Token) (f : ParseFault) (read : ParseResult A) → StopsFirst IsFirst (tokens_of all) read → IsFault all f read → ReportsFirst IsFirst all f
+reported_first_at IsFirst all faults.NoMemory read first h = tt
+reported_first_at IsFirst all (faults.Unexpected at) (Ok x) first h = absurd h
+reported_first_at IsFirst all (faults.Unexpected at) (Err e) first h = (e, h, first e refl)
+reported_first_at IsFirst all (faults.Unsupported word at) (Ok x) first h = absurd h
+reported_first_at IsFirst all (faults.Unsupported word at) (Err e) first h = (e, h, first e refl)
+reported_first_at IsFirst all (faults.TooDeep at) (Ok x) first h = absurd h
+reported_first_at IsFirst all (faults.TooDeep at) (Err e) first h = (e, h, first e refl)
 
--- behind a token that could be too deep, nothing is unexpected as long as it is open what the token begins
-none_left_deep : (front rest : Tokens) → module_at (front ++ rest) ≡ Err (Unexpected rest) → NoneLeftDeep front
-none_left_deep front rest h less t seen e leaves deep =
+-- after a token that could be too deep, nothing is unexpected as long as it is open what the token begins
+none_left_deep : (prefix rest : Tokens) → module_at (prefix ++ rest) ≡ Err (Unexpected rest) → NoneLeftDeep prefix
+none_left_deep prefix rest h less t seen e leaves deep =
     let is : (less ++ t ∷ seen) ++ rest ≡ less ++ t ∷ (seen ++ rest) = append_assoc less (t ∷ seen) rest in
     let here : module_at (less ++ t ∷ (seen ++ rest)) ≡ Err (Unexpected rest) = ap module_at (sym is) ∙ ap (λ (l : Tokens). module_at (l ++ rest)) (sym e) ∙ h in
     keeps_not_deep less seen deep.0 t (Unexpected rest) leaves here (cut_there less deep.0 t deep.1 deep.2 deep.3 (module_cut (suc (length deep.0)) (less ++ t ∷ deep.0) deep.1 deep.2))
@@ -58,7 +58,7 @@ pub module_stops_first : (ts : Tokens) → StopsFirst FirstFault ts (module_at t
 module_stops_first ts (Unexpected rest) h = at_unexpected ts rest h
 module_stops_first ts (TooDeep rest) h = at_too_deep ts rest h
 
-stops_there : (ts : Tokens) (h : Halt) → FirstFault ts h → (o : Reading (List Item)) → module_at ts ≡ o → o ≡ Err h
+stops_there : (ts : Tokens) (h : Halt) → FirstFault ts h → (o : ParseResult (List Item)) → module_at ts ≡ o → o ≡ Err h
 stops_there ts h first (Ok x) e = absurd (no_module ts h x.0 first (module_derived ts x.0 x.1 e))
 stops_there ts h first (Err k) e = ap (λ (f : Halt). Err f) (one_fault ts k h (module_stops_first ts k e) first)
 
@@ -66,15 +66,15 @@ stops_there ts h first (Err k) e = ap (λ (f : Halt). Err f) (one_fault ts k h (
 pub first_is_stop : (ts : Tokens) (h : Halt) → FirstFault ts h → module_at ts ≡ Err h
 first_is_stop ts h first = stops_there ts h first (module_at ts) refl
 
-found : (ts : Tokens) (o : Reading (List Item)) → module_at ts ≡ o → HasTreeOrFault ts
+found : (ts : Tokens) (o : ParseResult (List Item)) → module_at ts ≡ o → HasTreeOrFault ts
 found ts (Ok x) e = inl (x.0, module_derived ts x.0 x.1 e)
 found ts (Err h) e = inr (h, module_stops_first ts h e)
 
 pub tree_or_fault : (ts : Tokens) → HasTreeOrFault ts
 tree_or_fault ts = found ts (module_at ts) refl
 
-pub module_told_first : (all : List Token) (f : ParseFault) → IsFault all f (module_at (tokens_of all)) → TellsFirst FirstFault all f
-module_told_first all f h = told_first_at FirstFault all f (module_at (tokens_of all)) (module_stops_first (tokens_of all)) h
+pub module_reported_first : (all : List Token) (f : ParseFault) → IsFault all f (module_at (tokens_of all)) → ReportsFirst FirstFault all f
+module_reported_first all f h = reported_first_at FirstFault all f (module_at (tokens_of all)) (module_stops_first (tokens_of all)) h
 
 declared_unexpected : (ts rest : Tokens) → whole_declaration_at ts ≡ Err (Unexpected rest) → FirstDeclarationFault ts (Unexpected rest)
 declared_unexpected ts rest h = let b = begun_declaration ts rest h in (b.0, b.1, b.2, no_declaration_goes_on b.0 rest (ap whole_declaration_at (sym b.1) ∙ h))
@@ -84,12 +84,12 @@ declaration_stops_first : (ts : Tokens) → StopsFirst FirstDeclarationFault ts 
 declaration_stops_first ts (Unexpected rest) h = declared_unexpected ts rest h
 declaration_stops_first ts (TooDeep rest) h = declaration_never_deep ts rest h
 
-found_declared : (ts : Tokens) (o : Reading Declaration) → whole_declaration_at ts ≡ o → HasDeclarationOrFault ts
+found_declared : (ts : Tokens) (o : ParseResult Declaration) → whole_declaration_at ts ≡ o → HasDeclarationOrFault ts
 found_declared ts (Ok x) e = inl (x.0, declaration_derived ts x.0 x.1 e)
 found_declared ts (Err h) e = inr (h, declaration_stops_first ts h e)
 
 pub declaration_or_fault : (ts : Tokens) → HasDeclarationOrFault ts
 declaration_or_fault ts = found_declared ts (whole_declaration_at ts) refl
 
-pub declaration_told_first : (all : List Token) (f : ParseFault) → IsFault all f (whole_declaration_at (tokens_of all)) → TellsFirst FirstDeclarationFault all f
-declaration_told_first all f h = told_first_at FirstDeclarationFault all f (whole_declaration_at (tokens_of all)) (declaration_stops_first (tokens_of all)) h
+pub declaration_reported_first : (all : List Token) (f : ParseFault) → IsFault all f (whole_declaration_at (tokens_of all)) → ReportsFirst FirstDeclarationFault all f
+declaration_reported_first all f h = reported_first_at FirstDeclarationFault all f (whole_declaration_at (tokens_of all)) (declaration_stops_first (tokens_of all)) h

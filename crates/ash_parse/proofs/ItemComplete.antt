@@ -13,10 +13,10 @@ use Rattle.ash_tree.specs.Grammar.{IsResultType, void, typed, IsParameter, param
 use Rattle.ash_parse.specs.declared.faults.ParseFault.{ParseFault}
 use Rattle.ash_parse.specs.declared.faults.ParseFault.TheVariants as faults
 use Rattle.ash_parse.specs.Signs.{is_sign, same_sign}
-use Rattle.ash_parse.specs.Reading.{TooDeep, Reading, next_is, next_is_sign}
+use Rattle.ash_parse.specs.Readers.{TooDeep, ParseResult, next_is, next_is_sign}
 use Rattle.ash_parse.specs.StatementReader.{is_name, next_is_name, type_at, goes_on}
 use Rattle.ash_parse.specs.ExpressionReader.{begins}
-use Rattle.ash_parse.specs.ItemReader.{is_void, is_class, is_interface, result_type_at, parameter_at, next_parameter_at, more_parameters_at, parameter_list_at, parameters_at, body_at, function_at, globals_at, behind, is_function, constructor_at, member_at, members_at, next_interface_at, more_interfaces_at, listed_interfaces_at, interfaces_at, class_at, interface_method_at, interface_methods_at, interface_at, item_at, strip, entry_at, is_left, entries_at, module_at, unnamed_at, next_unnamed_at, more_unnamed_at, unnamed_list_at, unnamed_parameters_at, declaration_behind, declaration_at}
+use Rattle.ash_parse.specs.ItemReader.{is_void, is_class, is_interface, result_type_at, parameter_at, next_parameter_at, more_parameters_at, parameter_list_at, parameters_at, body_at, function_at, globals_at, after, is_function, constructor_at, member_at, members_at, next_interface_at, more_interfaces_at, listed_interfaces_at, interfaces_at, class_at, interface_method_at, interface_methods_at, interface_at, item_at, strip, entry_at, is_left, entries_at, module_at, unnamed_at, next_unnamed_at, more_unnamed_at, unnamed_list_at, unnamed_parameters_at, declaration_after, declaration_at}
 use Rattle.ash_parse.specs.Faults.{IsFault, whole_declaration_at}
 use Rattle.ash_parse.specs.Unique.{HasOneModule, HasOneDeclaration}
 use Rattle.ash_parse.proofs.Readings.{ok_is, expect_again, next_is_sign-again, name_again}
@@ -25,7 +25,7 @@ use Rattle.ash_parse.proofs.Rereading.{no_true, Reads, whole, as_read, then_read
 use Rattle.ash_parse.proofs.ExpressionComplete.{Closes, begins_no_close, close_ends}
 use Rattle.ash_parse.proofs.VarsComplete.{Follows, ends_follow, type_read, type_begins, declared_read}
 use Rattle.ash_parse.proofs.StatementComplete.{brace_rests, block_read}
-use Rattle.ash_parse.proofs.ItemHeads.{begins_no_void, function_heads, vars_heads, member_goes, interface_method_goes, item_heads, function_function, vars_no_function, function_no_constructor, vars_no_constructor, constructor_constructor}
+use Rattle.ash_parse.proofs.ItemBeginnings.{begins_no_void, function_heads, vars_heads, member_goes, interface_method_goes, item_heads, function_function, vars_no_function, function_no_constructor, vars_no_constructor, constructor_constructor}
 
 name_no_handle : (text : List ℕ) (p : Place) (ts : Tokens) → next_is_sign signs.Handle ((name text, p) ∷ ts) ≡ false
 unfolding next_is_sign is_sign
@@ -54,14 +54,14 @@ next_parameter_again p from left x h = rw (expect_again signs.Comma p from) h
 
 more_parameters_read : {from left : Tokens} {xs : List Parameter} → AreMoreParameters from xs left → Closes left → ReadsAll 0 (next_is_sign signs.Comma) next_parameter_at from xs left
 more_parameters_read (no_more_parameters {left = left}) s = none_again 0 (next_is_sign signs.Comma) next_parameter_at left (close_ends left s).1
-more_parameters_read (more_parameters {p = p} {from = from} {behind = next} {left = left} {x = x} {xs = xs} a b) s =
+more_parameters_read (more_parameters {p = p} {from = from} {after = next} {left = left} {x = x} {xs = xs} a b) s =
     let l = parameter_shorter a in
     one_again 0 (next_is_sign signs.Comma) next_parameter_at ((sign signs.Comma, p) ∷ from) next left x xs (next_is_sign-again signs.Comma p from) (as_read (next_parameter_again p from next x (parameter_read a))) (omega arith) (more_parameters_read b s)
 
 parameters_read : {from left : Tokens} {xs : List Parameter} → AreParameters from xs left → parameters_at from ≡ Ok (xs, left)
 unfolding parameters_at parameter_list_at more_parameters_at
 parameters_read (no_parameters {p = p} {q = q} {left = left}) = rw (expect_again signs.OpenParenthesis p ((sign signs.CloseParenthesis, q) ∷ left), next_is_sign-again signs.CloseParenthesis q left, expect_again signs.CloseParenthesis q left) refl
-parameters_read (parameters {p = p} {q = q} {from = from} {behind = next} {left = left} {x = x} {xs = xs} a b) =
+parameters_read (parameters {p = p} {q = q} {from = from} {after = next} {left = left} {x = x} {xs = xs} a b) =
     rw (expect_again signs.OpenParenthesis p from, begins_no_close from (parameter_begins a), parameter_read a, is_whole (more_parameters_read b (next_is_sign-again signs.CloseParenthesis q left) (length next) (omega arith)) refl, expect_again signs.CloseParenthesis q left) refl
 
 body_read : {free : ℕ} {from left : Tokens} {ss : List Stmt} → IsBlock free 0 from ss left → Reads (List Stmt) free (body_at from) (ss, left)
@@ -70,7 +70,7 @@ body_read a = block_read a DEPTH (omega arith)
 
 function_read : {free : ℕ} {from left : Tokens} {f : Function} → IsFunction free from f left → Reads Function free (function_at from) (f, left)
 unfolding function_at
-function_read (function {p = p} {text = text} {behind = next} a b c) = rw (result_type_read a (name_no_handle text p next), name_again text p next, parameters_read b) (then_reads _ (body_read c) whole)
+function_read (function {p = p} {text = text} {after = next} a b c) = rw (result_type_read a (name_no_handle text p next), name_again text p next, parameters_read b) (then_reads _ (body_read c) whole)
 
 globals_read : {free : ℕ} {from : Tokens} {v : Vars} (p : Place) (left : Tokens) → IsVars free 0 from v ((sign signs.Semicolon, p) ∷ left) → Reads Vars free (globals_at from) (v, left)
 unfolding globals_at
@@ -88,7 +88,7 @@ member_read (constructor {p = p} {text = text} {from = from} {inside = inside} {
 
 members_read : {free : ℕ} {from left : Tokens} {xs : List Member} → AreMembers free from xs left → goes_on left ≡ false → ReadsAll free goes_on member_at from xs left
 members_read (no_members {left = left}) s = none_again _ goes_on member_at left s
-members_read (more_members {from = from} {behind = next} {left = left} {x = x} {xs = xs} a b) s =
+members_read (more_members {from = from} {after = next} {left = left} {x = x} {xs = xs} a b) s =
     one_again _ goes_on member_at from next left x xs (member_goes a) (member_read a) (member_shorter a) (members_read b s)
 
 next_interface_again : (p q : Place) (text : List ℕ) (ts : Tokens) → next_interface_at ((sign signs.Comma, p) ∷ (name text, q) ∷ ts) ≡ Ok (record { place = q; name = text }, ts)
@@ -97,13 +97,13 @@ next_interface_again p q text ts = rw (expect_again signs.Comma p ((name text, q
 
 more_interfaces_read : {from left : Tokens} {xs : List TypeName} → AreMoreInterfaces from xs left → next_is_sign signs.Comma left ≡ false → ReadsAll 0 (next_is_sign signs.Comma) next_interface_at from xs left
 more_interfaces_read (no_more_interfaces {left = left}) s = none_again 0 (next_is_sign signs.Comma) next_interface_at left s
-more_interfaces_read (more_interfaces {p = p} {q = q} {text = text} {behind = next} {left = left} {xs = xs} a) s =
+more_interfaces_read (more_interfaces {p = p} {q = q} {text = text} {after = next} {left = left} {xs = xs} a) s =
     one_again 0 (next_is_sign signs.Comma) next_interface_at ((sign signs.Comma, p) ∷ (name text, q) ∷ next) next left (record { place = q; name = text }) xs (next_is_sign-again signs.Comma p ((name text, q) ∷ next)) (as_read (next_interface_again p q text next)) (omega arith) (more_interfaces_read a s)
 
 interfaces_read : {from left : Tokens} {xs : List TypeName} → AreInterfaces from xs left → next_is_sign signs.Colon left ≡ false → next_is_sign signs.Comma left ≡ false → interfaces_at from ≡ Ok (xs, left)
 unfolding interfaces_at listed_interfaces_at more_interfaces_at
 interfaces_read no_interfaces c s = rw c refl
-interfaces_read (interfaces {p = p} {q = q} {text = text} {behind = next} a) c s =
+interfaces_read (interfaces {p = p} {q = q} {text = text} {after = next} a) c s =
     rw (next_is_sign-again signs.Colon p ((name text, q) ∷ next), expect_again signs.Colon p ((name text, q) ∷ next), name_again text q next, is_whole (more_interfaces_read a s (length next) (omega arith)) refl) refl
 
 -- no list of interfaces goes on with a brace
@@ -117,11 +117,11 @@ class_again q o w text head from left is xs i r = rw (name_again text q head, i,
 
 interface_method_read : {from left : Tokens} {x : InterfaceMethod} → IsInterfaceMethod from x left → interface_method_at from ≡ Ok (x, left)
 unfolding interface_method_at
-interface_method_read (interface_method {p = p} {q = q} {text = text} {behind = next} {left = left} a b) = rw (result_type_read a (name_no_handle text p next), name_again text p next, parameters_read b, expect_again signs.Semicolon q left) refl
+interface_method_read (interface_method {p = p} {q = q} {text = text} {after = next} {left = left} a b) = rw (result_type_read a (name_no_handle text p next), name_again text p next, parameters_read b, expect_again signs.Semicolon q left) refl
 
 interface_methods_read : {from left : Tokens} {xs : List InterfaceMethod} → AreInterfaceMethods from xs left → goes_on left ≡ false → ReadsAll 0 goes_on interface_method_at from xs left
 interface_methods_read (no_interface_methods {left = left}) s = none_again 0 goes_on interface_method_at left s
-interface_methods_read (more_interface_methods {from = from} {behind = next} {left = left} {x = x} {xs = xs} a b) s =
+interface_methods_read (more_interface_methods {from = from} {after = next} {left = left} {x = x} {xs = xs} a b) s =
     one_again 0 goes_on interface_method_at from next left x xs (interface_method_goes a) (as_read (interface_method_read a)) (interface_method_shorter a) (interface_methods_read b s)
 
 interface_again : (q o w : Place) (text : List ℕ) (from left : Tokens) (xs : List InterfaceMethod) → ReadsAll 0 goes_on interface_method_at from xs ((sign signs.CloseBrace, w) ∷ left) → interface_at ((name text, q) ∷ (sign signs.OpenBrace, o) ∷ from) ≡ Ok (record { place = q; name = text; methods = xs }, left)
@@ -143,7 +143,7 @@ brace_ends p left = (brace_rests p left).0
 
 item_read : {free : ℕ} {from left : Tokens} {x : Item} → IsItem free from x left → Reads Item free (item_at from) (x, left)
 unfolding item_at is_class is_interface
-item_read (a_class (class {q = q} {o = o} {z = w} {text = text} {behind = next} {from = from} {left = left} {is = is} {xs = xs} i a)) =
+item_read (a_class (class {q = q} {o = o} {z = w} {text = text} {after = next} {from = from} {left = left} {is = is} {xs = xs} i a)) =
     let b = brace_ends_list o from in
     then_reads _ (class_again q o w text next from left is xs (interfaces_read i b.0 b.1) (members_read a (brace_ends w left))) whole
 item_read (an_interface (interface {q = q} {o = o} {z = w} {text = text} {from = from} {left = left} {xs = xs} a)) = then_reads _ (as_read (interface_again q o w text from left xs (interface_methods_read a (brace_ends w left)))) whole
@@ -158,7 +158,7 @@ entries_read : {free : ℕ} {ts : Tokens} {xs : List Item} → Derives free ts x
 unfolding strip is_sign same_sign
 entries_read no_items = none_again _ is_left entry_at [] no_more_left
 entries_read (semicolon d) = entries_read d
-entries_read (item {free = free} {from = from} {behind = next} {x = x} {xs = xs} i d) =
+entries_read (item {free = free} {from = from} {after = next} {x = x} {xs = xs} i d) =
     let q = item_heads i in
     let a = item_shorter i in
     let b = strip_shorter next in
@@ -186,8 +186,8 @@ on_ok all (faults.TooDeep at) x h = absurd h
 on_ok all faults.NoMemory x h = refl
 
 -- where reading gives a tree, only memory can be wanting
-only_memory : {A : Type 0} (all : List Token) (f : ParseFault) (read : Reading A) (x : A × Tokens) → IsFault all f read → read ≡ Ok x → f ≡ faults.NoMemory
-only_memory {A} all f read x h e = on_ok all f x (subst (λ (r : Reading A). IsFault all f r) e h)
+only_memory : {A : Type 0} (all : List Token) (f : ParseFault) (read : ParseResult A) (x : A × Tokens) → IsFault all f read → read ≡ Ok x → f ≡ faults.NoMemory
+only_memory {A} all f read x h e = on_ok all f x (subst (λ (r : ParseResult A). IsFault all f r) e h)
 
 pub module_memory : (all : List Token) (f : ParseFault) (ts : Tokens) (xs : List Item) → IsFault all f (module_at ts) → Derives 0 ts xs → f ≡ faults.NoMemory
 module_memory all f ts xs h d = only_memory all f (module_at ts) (xs, []) h (module_read ts xs d)
@@ -197,7 +197,7 @@ unfolding unnamed_at
 unnamed_again from left t h s = rw (h, s) refl
 
 with_name_again : (p : Place) (text : List ℕ) (from left : Tokens) (t : Named) → type_at from ≡ Ok (t, (name text, p) ∷ left) → unnamed_at from ≡ Ok (t, left)
-unfolding unnamed_at next_is_name is_name behind
+unfolding unnamed_at next_is_name is_name after
 with_name_again p text from left t h = rw h refl
 
 unnamed_read : {from left : Tokens} {x : Named} → IsUnnamed from x left → Follows left → unnamed_at from ≡ Ok (x, left)
@@ -219,14 +219,14 @@ unnamed_follow (more_unnamed a b) s = (refl, refl)
 
 more_unnamed_read : {from left : Tokens} {xs : List Named} → AreMoreUnnamed from xs left → Closes left → ReadsAll 0 (next_is_sign signs.Comma) next_unnamed_at from xs left
 more_unnamed_read (no_more_unnamed {left = left}) s = none_again 0 (next_is_sign signs.Comma) next_unnamed_at left (close_ends left s).1
-more_unnamed_read (more_unnamed {p = p} {from = from} {behind = next} {left = left} {x = x} {xs = xs} a b) s =
+more_unnamed_read (more_unnamed {p = p} {from = from} {after = next} {left = left} {x = x} {xs = xs} a b) s =
     let l = unnamed_shorter a in
     one_again 0 (next_is_sign signs.Comma) next_unnamed_at ((sign signs.Comma, p) ∷ from) next left x xs (next_is_sign-again signs.Comma p from) (as_read (next_unnamed_again p from next x (unnamed_read a (unnamed_follow b s)))) (omega arith) (more_unnamed_read b s)
 
 unnamed_list_read : {from left : Tokens} {xs : List Named} → AreUnnamed from xs left → unnamed_parameters_at from ≡ Ok (xs, left)
 unfolding unnamed_parameters_at unnamed_list_at more_unnamed_at
 unnamed_list_read (no_unnamed {p = p} {q = q} {left = left}) = rw (expect_again signs.OpenParenthesis p ((sign signs.CloseParenthesis, q) ∷ left), next_is_sign-again signs.CloseParenthesis q left, expect_again signs.CloseParenthesis q left) refl
-unnamed_list_read (some_unnamed {p = p} {q = q} {from = from} {behind = next} {left = left} {x = x} {xs = xs} a b) =
+unnamed_list_read (some_unnamed {p = p} {q = q} {from = from} {after = next} {left = left} {x = x} {xs = xs} a b) =
     let s = next_is_sign-again signs.CloseParenthesis q left in
     rw (expect_again signs.OpenParenthesis p from, begins_no_close from (unnamed_begins a), unnamed_read a (unnamed_follow b s), is_whole (more_unnamed_read b s (length next) (omega arith)) refl, expect_again signs.CloseParenthesis q left) refl
 
@@ -236,13 +236,13 @@ unnamed_opens no_unnamed = refl
 unnamed_opens (some_unnamed a b) = refl
 
 property_again : (p : Place) (text : List ℕ) (from : Tokens) (t : Named) → result_type_at from ≡ Ok (Some t, (name text, p) ∷ []) → declaration_at from ≡ Ok (AProperty (record { place = p; of = t; name = text }), [])
-unfolding declaration_at declaration_behind next_is_sign
+unfolding declaration_at declaration_after next_is_sign
 property_again p text from t h = rw (h, name_again text p []) refl
 
 -- the declaration that tokens derive is read
 declaration_read : {ts : Tokens} {d : Declaration} → Declares ts d → declaration_at ts ≡ Ok (d, [])
-unfolding declaration_at declaration_behind
-declaration_read (signature {p = p} {text = text} {behind = next} a b) = rw (result_type_read a (name_no_handle text p next), name_again text p next, unnamed_opens b, unnamed_list_read b) refl
+unfolding declaration_at declaration_after
+declaration_read (signature {p = p} {text = text} {after = next} a b) = rw (result_type_read a (name_no_handle text p next), name_again text p next, unnamed_opens b, unnamed_list_read b) refl
 declaration_read (property {p = p} {text = text} {from = from} {t = t} a) = property_again p text from t (result_type_read (typed a) (name_no_handle text p []))
 
 pub whole_read : (ts : Tokens) (d : Declaration) → Declares ts d → whole_declaration_at ts ≡ Ok (d, [])

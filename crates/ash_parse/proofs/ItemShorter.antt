@@ -8,9 +8,9 @@ use Rattle.ash_tree.specs.Tokens.{Tokens}
 use Rattle.ash_tree.specs.Types.{IsType}
 use Rattle.ash_tree.specs.Grammar.{IsResultType, void, typed, IsParameter, parameter, AreMoreParameters, no_more_parameters, more_parameters, AreParameters, no_parameters, parameters, IsFunction, function, IsMember, method, fields, constructor, AreMembers, no_members, more_members, IsClass, class, IsItem, a_class, a_function, globals, IsUnnamed, unnamed, with_name, AreMoreUnnamed, no_more_unnamed, more_unnamed, AreUnnamed, no_unnamed, some_unnamed, Declares, signature, property, AreMoreInterfaces, no_more_interfaces, more_interfaces, AreInterfaces, no_interfaces, interfaces, IsInterfaceMethod, interface_method, AreInterfaceMethods, no_interface_methods, more_interface_methods, IsInterface, interface, an_interface}
 use Rattle.ash_parse.specs.Signs.{is_sign}
-use Rattle.ash_parse.specs.Reading.{Unexpected, ◌>>=◌, put, loop, next_is_sign, expect_at, name_at}
+use Rattle.ash_parse.specs.Readers.{Unexpected, ◌>>=◌, put, loop, next_is_sign, expect_at, name_at}
 use Rattle.ash_parse.specs.StatementReader.{is_name, next_is_name, type_at}
-use Rattle.ash_parse.specs.ItemReader.{next_parameter_at, member_at, next_interface_at, interface_method_at, item_at, entry_at, strip, behind, is_left, unnamed_at, next_unnamed_at, more_unnamed_at, unnamed_list_at, unnamed_parameters_at, property_by, declaration_behind, declaration_at, result_type_at}
+use Rattle.ash_parse.specs.ItemReader.{next_parameter_at, member_at, next_interface_at, interface_method_at, item_at, entry_at, strip, after, is_left, unnamed_at, next_unnamed_at, more_unnamed_at, unnamed_list_at, unnamed_parameters_at, property_by, declaration_after, declaration_at, result_type_at}
 use Rattle.ash_parse.proofs.Readings.{no_err, bind_ok, at_pair, if_elim, put_ok, Finds, repeat_sound, expect_sound}
 use Rattle.ash_parse.proofs.Types.{ends_in, type_sound, type_shorter}
 use Rattle.ash_parse.proofs.StatementShorter.{vars_shorter, block_shorter}
@@ -117,8 +117,8 @@ unfolding is_left
 left_is_none [] h = refl
 left_is_none (t ∷ ts) h = cc
 
-pub strip-more : (ts : Tokens) → next_is_sign signs.Semicolon ts ≡ true → strip ts ≡ strip (behind ts)
-unfolding next_is_sign strip behind
+pub strip-more : (ts : Tokens) → next_is_sign signs.Semicolon ts ≡ true → strip ts ≡ strip (after ts)
+unfolding next_is_sign strip after
 strip-more [] h = refl
 strip-more ((m, p) ∷ ts) h = rw h refl
 
@@ -127,14 +127,14 @@ unfolding next_is_sign strip
 strip-done [] h = refl
 strip-done ((m, p) ∷ ts) h = rw h refl
 
-pub behind-shorter : (ts : Tokens) → next_is_sign signs.Semicolon ts ≡ true → length (behind ts) < length ts
-unfolding next_is_sign behind
-behind-shorter [] h = absurd (no_truth h)
-behind-shorter (t ∷ ts) h = omega arith
+pub after-shorter : (ts : Tokens) → next_is_sign signs.Semicolon ts ≡ true → length (after ts) < length ts
+unfolding next_is_sign after
+after-shorter [] h = absurd (no_truth h)
+after-shorter (t ∷ ts) h = omega arith
 
--- a name in front
-name_is : (ts : Tokens) (Q : Tokens → Type 0) → next_is_name ts ≡ true → ((t : List ℕ) (p : Place) → Q ((name t, p) ∷ behind ts)) → Q ts
-unfolding next_is_name is_name behind
+-- a name in prefix
+name_is : (ts : Tokens) (Q : Tokens → Type 0) → next_is_name ts ≡ true → ((t : List ℕ) (p : Place) → Q ((name t, p) ∷ after ts)) → Q ts
+unfolding next_is_name is_name after
 name_is [] Q h go = absurd (no_truth h)
 name_is ((name t, p) ∷ ts) Q h go = go t p
 name_is (_ ∷ ts) Q h go = absurd (no_truth h)
@@ -142,17 +142,17 @@ name_is (_ ∷ ts) Q h go = absurd (no_truth h)
 unnamed_sound : Finds unnamed_at IsUnnamed
 unfolding unnamed_at
 unnamed_sound ts x rest h =
-    let t = bind_ok (type_at ts) (λ t. Ok (t.0, cond (next_is_name t.1) (behind t.1) t.1)) (x, rest) h in
+    let t = bind_ok (type_at ts) (λ t. Ok (t.0, cond (next_is_name t.1) (after t.1) t.1)) (x, rest) h in
     let d = type_sound ts (t.0).0 (t.0).1 t.1 in
-    let P : Bool → Type 0 = λ v. next_is_name (t.0).1 ≡ v → IsUnnamed ts (t.0).0 (cond v (behind (t.0).1) (t.0).1) in
-    at_pair (IsUnnamed ts) (t.0).0 (cond (next_is_name (t.0).1) (behind (t.0).1) (t.0).1) x rest t.2
-    ((elim (next_is_name (t.0).1) as P [ true ↦ λ e. name_is (t.0).1 (λ l. IsType ts (t.0).0 l → IsUnnamed ts (t.0).0 (behind (t.0).1)) e (λ n p k. with_name k) d | false ↦ λ e. unnamed d ]) refl)
+    let P : Bool → Type 0 = λ v. next_is_name (t.0).1 ≡ v → IsUnnamed ts (t.0).0 (cond v (after (t.0).1) (t.0).1) in
+    at_pair (IsUnnamed ts) (t.0).0 (cond (next_is_name (t.0).1) (after (t.0).1) (t.0).1) x rest t.2
+    ((elim (next_is_name (t.0).1) as P [ true ↦ λ e. name_is (t.0).1 (λ l. IsType ts (t.0).0 l → IsUnnamed ts (t.0).0 (after (t.0).1)) e (λ n p k. with_name k) d | false ↦ λ e. unnamed d ]) refl)
 
-grow_unnamed : (from behind left : Tokens) (x : Named) (xs : List Named) → next_unnamed_at from ≡ Ok (x, behind) → AreMoreUnnamed behind xs left → AreMoreUnnamed from (x ∷ xs) left
+grow_unnamed : (from after left : Tokens) (x : Named) (xs : List Named) → next_unnamed_at from ≡ Ok (x, after) → AreMoreUnnamed after xs left → AreMoreUnnamed from (x ∷ xs) left
 unfolding next_unnamed_at
-grow_unnamed from behind left x xs h more =
-    let c = bind_ok (expect_at signs.Comma from) (λ comma. unnamed_at comma.1) (x, behind) h in
-    expect_sound signs.Comma from (c.0).0 (c.0).1 (λ r. AreMoreUnnamed r (x ∷ xs) left) c.1 (more_unnamed (unnamed_sound (c.0).1 x behind c.2) more)
+grow_unnamed from after left x xs h more =
+    let c = bind_ok (expect_at signs.Comma from) (λ comma. unnamed_at comma.1) (x, after) h in
+    expect_sound signs.Comma from (c.0).0 (c.0).1 (λ r. AreMoreUnnamed r (x ∷ xs) left) c.1 (more_unnamed (unnamed_sound (c.0).1 x after c.2) more)
 
 pub unnamed_shorter : {from left : Tokens} {x : Named} → IsUnnamed from x left → length left < length from
 unnamed_shorter (unnamed t) = type_shorter t
@@ -185,7 +185,7 @@ unnamed_parameters_sound ts x rest h =
     (λ ys left r e. some_unnamed (unnamed_sound s (f.0).0 (f.0).1 f.1) (ends_in signs.CloseParenthesis left (z.0).0 (z.0).1 (λ l. AreMoreUnnamed (f.0).1 ys l) e (repeat_sound (next_is_sign signs.Comma) next_unnamed_at AreMoreUnnamed (λ s. no_more_unnamed) grow_unnamed (length (f.0).1) (f.0).1 ys left r))))
     z.1))
 
--- all of the tokens are a declaration, where none is left behind it
+-- all of the tokens are a declaration, where none is left after it
 abbrev Whole : Tokens → Declaration → Tokens → Type 0
 Whole ts d left = left ≡ [] → Declares ts d
 
@@ -194,7 +194,7 @@ property_sound None p t from ts x rest d h = absurd (no_err (Unexpected ts) (x, 
 property_sound (Some k) p t from ts x rest (typed d) h = at_pair (Whole from) (AProperty (record { place = p; of = k; name = t })) ts x rest h (λ e. property (subst (λ l. IsType from k ((name t, p) ∷ l)) e d))
 
 pub declaration_sound : (ts : Tokens) (x : Declaration) (rest : Tokens) → declaration_at ts ≡ Ok (x, rest) → rest ≡ [] → Declares ts x
-unfolding declaration_at declaration_behind
+unfolding declaration_at declaration_after
 declaration_sound ts x rest h =
     let r = bind_ok (result_type_at ts) (λ r. name_at r.1 >>= λ n. cond (next_is_sign signs.OpenParenthesis n.1) (unnamed_parameters_at n.1 >>= λ xs. Ok (ASignature (record { place = (n.0).1; result = r.0; name = (n.0).0; parameters = xs.0 }), xs.1)) (property_by r.0 (n.0).1 (n.0).0 n.1)) (x, rest) h in
     let n = bind_ok (name_at (r.0).1) (λ n. cond (next_is_sign signs.OpenParenthesis n.1) (unnamed_parameters_at n.1 >>= λ xs. Ok (ASignature (record { place = (n.0).1; result = (r.0).0; name = (n.0).0; parameters = xs.0 }), xs.1)) (property_by (r.0).0 (n.0).1 (n.0).0 n.1)) (x, rest) r.2 in

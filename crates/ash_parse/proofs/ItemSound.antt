@@ -11,10 +11,10 @@ use Rattle.ash_tree.specs.Types.{IsType}
 use Rattle.ash_tree.specs.Statements.{IsVars, IsBlock}
 use Rattle.ash_tree.specs.Grammar.{IsResultType, void, typed, IsParameter, parameter, AreMoreParameters, no_more_parameters, more_parameters, AreParameters, no_parameters, parameters, IsFunction, function, IsMember, method, fields, constructor, AreMembers, no_members, more_members, IsClass, class, IsItem, a_class, a_function, globals, Derives, no_items, semicolon, item, AreMoreInterfaces, no_more_interfaces, more_interfaces, AreInterfaces, no_interfaces, interfaces, IsInterfaceMethod, interface_method, AreInterfaceMethods, no_interface_methods, more_interface_methods, IsInterface, interface, an_interface}
 use Rattle.ash_parse.specs.Signs.{is_sign}
-use Rattle.ash_parse.specs.Reading.{Unexpected, ◌>>=◌, put, loop, next_is_sign, expect_at, name_at}
+use Rattle.ash_parse.specs.Readers.{Unexpected, ◌>>=◌, put, loop, next_is_sign, expect_at, name_at}
 use Rattle.ash_parse.specs.ExpressionReader.{below_at}
 use Rattle.ash_parse.specs.StatementReader.{type_at, goes_on, nested_at}
-use Rattle.ash_parse.specs.ItemReader.{is_void, is_class, is_interface, result_type_at, parameter_at, next_parameter_at, more_parameters_at, parameter_list_at, parameters_at, body_at, function_at, globals_at, behind, is_function, is_constructor, constructor_at, member_at, members_at, next_interface_at, more_interfaces_at, listed_interfaces_at, interfaces_at, class_at, interface_method_at, interface_methods_at, interface_at, other_item_at, item_at, strip, entry_at, is_left, entries_at, module_at}
+use Rattle.ash_parse.specs.ItemReader.{is_void, is_class, is_interface, result_type_at, parameter_at, next_parameter_at, more_parameters_at, parameter_list_at, parameters_at, body_at, function_at, globals_at, after, is_function, is_constructor, constructor_at, member_at, members_at, next_interface_at, more_interfaces_at, listed_interfaces_at, interfaces_at, class_at, interface_method_at, interface_methods_at, interface_at, other_item_at, item_at, strip, entry_at, is_left, entries_at, module_at}
 use Rattle.ash_parse.proofs.Readings.{no_err, bind_ok, at_pair, if_elim, put_ok, Finds, repeat_sound, sign_is, expect_sound, name_sound}
 use Rattle.ash_parse.proofs.Types.{ends_in, type_sound}
 use Rattle.ash_parse.proofs.ExpressionSound.{whole_sound, part_sound}
@@ -55,11 +55,11 @@ parameter_sound ts x rest h =
     let n = bind_ok (name_at (t.0).1) (λ n. Ok (record { of = (t.0).0; place = (n.0).1; name = (n.0).0 }, n.1)) (x, rest) t.2 in
     at_pair (IsParameter ts) (record { of = (t.0).0; place = ((n.0).0).1; name = ((n.0).0).0 }) (n.0).1 x rest n.2 (parameter (names_in (t.0).1 (n.0).0 (n.0).1 (λ r. IsType ts (t.0).0 r) n.1 (type_sound ts (t.0).0 (t.0).1 t.1)))
 
-pub grow_parameters : (from behind left : Tokens) (x : Parameter) (xs : List Parameter) → next_parameter_at from ≡ Ok (x, behind) → AreMoreParameters behind xs left → AreMoreParameters from (x ∷ xs) left
+pub grow_parameters : (from after left : Tokens) (x : Parameter) (xs : List Parameter) → next_parameter_at from ≡ Ok (x, after) → AreMoreParameters after xs left → AreMoreParameters from (x ∷ xs) left
 unfolding next_parameter_at
-grow_parameters from behind left x xs h more =
-    let c = bind_ok (expect_at signs.Comma from) (λ comma. parameter_at comma.1) (x, behind) h in
-    expect_sound signs.Comma from (c.0).0 (c.0).1 (λ r. AreMoreParameters r (x ∷ xs) left) c.1 (more_parameters (parameter_sound (c.0).1 x behind c.2) more)
+grow_parameters from after left x xs h more =
+    let c = bind_ok (expect_at signs.Comma from) (λ comma. parameter_at comma.1) (x, after) h in
+    expect_sound signs.Comma from (c.0).0 (c.0).1 (λ r. AreMoreParameters r (x ∷ xs) left) c.1 (more_parameters (parameter_sound (c.0).1 x after c.2) more)
 
 parameters_sound : Finds parameters_at AreParameters
 unfolding parameters_at parameter_list_at more_parameters_at
@@ -117,12 +117,12 @@ member_sound ts x rest h =
     (λ c l. let v = bind_ok (globals_at ts) (λ v. Ok (AField v.0, v.1)) (x, rest) l in
     at_pair (λ y l. IsMember 0 ts y l) (AField (v.0).0) (v.0).1 x rest v.2 (fields (globals_sound ts (v.0).0 (v.0).1 v.1).1)))
 
-pub grow_interfaces : (from behind left : Tokens) (x : TypeName) (xs : List TypeName) → next_interface_at from ≡ Ok (x, behind) → AreMoreInterfaces behind xs left → AreMoreInterfaces from (x ∷ xs) left
+pub grow_interfaces : (from after left : Tokens) (x : TypeName) (xs : List TypeName) → next_interface_at from ≡ Ok (x, after) → AreMoreInterfaces after xs left → AreMoreInterfaces from (x ∷ xs) left
 unfolding next_interface_at
-grow_interfaces from behind left x xs h more =
-    let c = bind_ok (expect_at signs.Comma from) (λ comma. name_at comma.1 >>= λ n. Ok (record { place = (n.0).1; name = (n.0).0 }, n.1)) (x, behind) h in
-    let n = bind_ok (name_at (c.0).1) (λ n. Ok (record { place = (n.0).1; name = (n.0).0 }, n.1)) (x, behind) c.2 in
-    at_pair (λ (y : TypeName) (r : Tokens). AreMoreInterfaces r xs left → AreMoreInterfaces from (y ∷ xs) left) (record { place = ((n.0).0).1; name = ((n.0).0).0 }) (n.0).1 x behind n.2
+grow_interfaces from after left x xs h more =
+    let c = bind_ok (expect_at signs.Comma from) (λ comma. name_at comma.1 >>= λ n. Ok (record { place = (n.0).1; name = (n.0).0 }, n.1)) (x, after) h in
+    let n = bind_ok (name_at (c.0).1) (λ n. Ok (record { place = (n.0).1; name = (n.0).0 }, n.1)) (x, after) c.2 in
+    at_pair (λ (y : TypeName) (r : Tokens). AreMoreInterfaces r xs left → AreMoreInterfaces from (y ∷ xs) left) (record { place = ((n.0).0).1; name = ((n.0).0).0 }) (n.0).1 x after n.2
     (λ m. expect_sound signs.Comma from (c.0).0 (c.0).1 (λ r. AreMoreInterfaces r (record { place = ((n.0).0).1; name = ((n.0).0).0 } ∷ xs) left) c.1
     (name_sound (c.0).1 (n.0).0 (n.0).1 (λ r. AreMoreInterfaces ((sign signs.Comma, (c.0).0) ∷ r) (record { place = ((n.0).0).1; name = ((n.0).0).0 } ∷ xs) left) n.1 (more_interfaces m))) more
 
@@ -148,7 +148,7 @@ class_sound p ts x rest h =
     let z = bind_ok (expect_at signs.CloseBrace (xs.0).1) (λ z. Ok (record { place = ((n.0).0).1; name = ((n.0).0).0; interfaces = (is.0).0; members = (xs.0).0 }, z.1)) (x, rest) xs.2 in
     let c : Class = record { place = ((n.0).0).1; name = ((n.0).0).0; interfaces = (is.0).0; members = (xs.0).0 } in
     let i : AreInterfaces (n.0).1 (is.0).0 (is.0).1 = interfaces_sound (n.0).1 (is.0).0 (is.0).1 is.1 in
-    let m : AreMembers 0 (o.0).1 (xs.0).0 (xs.0).1 = repeat_sound goes_on member_at (AreMembers 0) (λ s. no_members) (λ from behind left x xs e a. more_members (member_sound from x behind e) a) (length (o.0).1) (o.0).1 (xs.0).0 (xs.0).1 xs.1 in
+    let m : AreMembers 0 (o.0).1 (xs.0).0 (xs.0).1 = repeat_sound goes_on member_at (AreMembers 0) (λ s. no_members) (λ from after left x xs e a. more_members (member_sound from x after e) a) (length (o.0).1) (o.0).1 (xs.0).0 (xs.0).1 xs.1 in
     at_pair (λ y l. IsClass 0 ((reserved words.Class, p) ∷ ts) y l) c (z.0).1 x rest z.2
     (name_sound ts (n.0).0 (n.0).1 (λ l. IsClass 0 ((reserved words.Class, p) ∷ l) c (z.0).1) n.1
     (class (ends_in signs.OpenBrace (is.0).1 (o.0).0 (o.0).1 (λ l. AreInterfaces (n.0).1 (is.0).0 l) o.1 i) (ends_in signs.CloseBrace (xs.0).1 (z.0).0 (z.0).1 (λ l. AreMembers 0 (o.0).1 (xs.0).0 l) z.1 m)))
@@ -171,7 +171,7 @@ interface_sound p ts x rest h =
     let xs = bind_ok (loop goes_on interface_method_at (o.0).1) (λ xs. expect_at signs.CloseBrace xs.1 >>= λ z. Ok (record { place = ((n.0).0).1; name = ((n.0).0).0; methods = xs.0 }, z.1)) (x, rest) o.2 in
     let z = bind_ok (expect_at signs.CloseBrace (xs.0).1) (λ z. Ok (record { place = ((n.0).0).1; name = ((n.0).0).0; methods = (xs.0).0 }, z.1)) (x, rest) xs.2 in
     let i : Interface = record { place = ((n.0).0).1; name = ((n.0).0).0; methods = (xs.0).0 } in
-    let m : AreInterfaceMethods (o.0).1 (xs.0).0 (xs.0).1 = repeat_sound goes_on interface_method_at AreInterfaceMethods (λ s. no_interface_methods) (λ from behind left x xs e a. more_interface_methods (interface_method_sound from x behind e) a) (length (o.0).1) (o.0).1 (xs.0).0 (xs.0).1 xs.1 in
+    let m : AreInterfaceMethods (o.0).1 (xs.0).0 (xs.0).1 = repeat_sound goes_on interface_method_at AreInterfaceMethods (λ s. no_interface_methods) (λ from after left x xs e a. more_interface_methods (interface_method_sound from x after e) a) (length (o.0).1) (o.0).1 (xs.0).0 (xs.0).1 xs.1 in
     at_pair (λ y l. IsInterface ((reserved words.Interface, p) ∷ ts) y l) i (z.0).1 x rest z.2
     (name_sound ts (n.0).0 (n.0).1 (λ l. IsInterface ((reserved words.Interface, p) ∷ l) i (z.0).1) n.1
     (expect_sound signs.OpenBrace (n.0).1 (o.0).0 (o.0).1 (λ l. IsInterface ((reserved words.Interface, p) ∷ (name ((n.0).0).0, ((n.0).0).1) ∷ l) i (z.0).1) o.1
@@ -198,7 +198,7 @@ item_sound ((m, p) ∷ ts) x rest h =
     at_pair (λ y l. IsItem 0 u y l) (AnInterface (i.0).0) (i.0).1 x rest i.2 (an_interface (subst (λ w. IsInterface ((w, p) ∷ ts) (i.0).0 (i.0).1) (sym (interface_is m c)) (interface_sound p ts (i.0).0 (i.0).1 i.1))))
     (λ c l. other_item_sound u x rest l))
 
--- what stands behind each ";" is a module where the whole is
+-- what stands after each ";" is a module where the whole is
 strip_sound : (ts : Tokens) (xs : List Item) → Derives 0 (strip ts) xs → Derives 0 ts xs
 unfolding strip
 strip_sound [] xs d = d
@@ -210,11 +210,11 @@ strip_sound ((m, p) ∷ ts) xs d =
 abbrev Leads : Tokens → List Item → Tokens → Type 0
 Leads from xs left = Derives 0 left [] → Derives 0 from xs
 
-pub grow_items : (from behind left : Tokens) (x : Item) (xs : List Item) → entry_at from ≡ Ok (x, behind) → Leads behind xs left → Leads from (x ∷ xs) left
+pub grow_items : (from after left : Tokens) (x : Item) (xs : List Item) → entry_at from ≡ Ok (x, after) → Leads after xs left → Leads from (x ∷ xs) left
 unfolding entry_at
-grow_items from behind left x xs h more done =
-    let i = bind_ok (item_at from) (λ x. Ok (x.0, strip x.1)) (x, behind) h in
-    at_pair (λ y r. Derives 0 r xs → Derives 0 from (y ∷ xs)) (i.0).0 (strip (i.0).1) x behind i.2 (λ d. item (item_sound from (i.0).0 (i.0).1 i.1) (strip_sound (i.0).1 xs d)) (more done)
+grow_items from after left x xs h more done =
+    let i = bind_ok (item_at from) (λ x. Ok (x.0, strip x.1)) (x, after) h in
+    at_pair (λ y r. Derives 0 r xs → Derives 0 from (y ∷ xs)) (i.0).0 (strip (i.0).1) x after i.2 (λ d. item (item_sound from (i.0).0 (i.0).1 i.1) (strip_sound (i.0).1 xs d)) (more done)
 
 pub module_sound : (ts : Tokens) (xs : List Item) (rest : Tokens) → module_at ts ≡ Ok (xs, rest) → rest ≡ [] → Derives 0 ts xs
 unfolding module_at entries_at

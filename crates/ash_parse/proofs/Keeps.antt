@@ -1,5 +1,5 @@
 -- What a reader answers hangs only on the tokens that it takes and the next one, or, where the word `array` begins an
--- expression or a declaration of variables, on those up to the one behind its `"<" elem ">"`.
+-- expression or a declaration of variables, on those up to the one after its `"<" elem ">"`.
 use Rattle.std.proofs.Common.{◌≡◌, ℕ, zero, suc, ◌<◌, ◌≤◌, inl, List, [], ◌∷◌, ◌++◌, length, Bool, true, false, cond, Ok, Err, refl, sym, ap, subst, length-append, arith}
 use Rattle.ash_lex.specs.Tokens.{Meaning, name, number, sign, reserved, unsupported}
 use Rattle.ash_lex.specs.declared.signs.Sign.{Sign}
@@ -8,7 +8,7 @@ use Rattle.ash_tree.specs.declared.tree.places.Place.{Place}
 use Rattle.ash_tree.specs.Tree.{Element}
 use Rattle.ash_tree.specs.Tokens.{Tokens}
 use Rattle.ash_parse.specs.Signs.{is_sign}
-use Rattle.ash_parse.specs.Reading.{Halt, Unexpected, TooDeep, Reading, ◌>>=◌, put, repeat, loop, next_is, next_is_sign, expect_at, name_at}
+use Rattle.ash_parse.specs.Readers.{Halt, Unexpected, TooDeep, ParseResult, ◌>>=◌, put, repeat, loop, next_is, next_is_sign, expect_at, name_at}
 use Rattle.ash_parse.specs.TypeReader.{element_at}
 use Rattle.ash_parse.specs.StatementReader.{is_vars}
 use Rattle.ash_parse.specs.FirstFault.{LeavesOpen}
@@ -18,187 +18,187 @@ use Rattle.ash_parse.proofs.BeginLaws.{left_at}
 use Rattle.ash_parse.proofs.NeverDeep.{IsUncut, element_uncut}
 
 -- at most so many tokens are left
-abbrev pub Past : {A : Type 0} → ℕ → Reading A → Type 0
+abbrev pub Past : {A : Type 0} → ℕ → ParseResult A → Type 0
 Past n (Ok x) = length x.1 ≤ n
 Past n (Err (Unexpected rest)) = length rest ≤ n
 Past n (Err (TooDeep rest)) = length rest ≤ n
 
 -- fewer tokens are left
-abbrev pub Fewer : {A : Type 0} → ℕ → Reading A → Type 0
+abbrev pub Fewer : {A : Type 0} → ℕ → ParseResult A → Type 0
 Fewer n (Ok x) = length x.1 < n
 Fewer n (Err (Unexpected rest)) = length rest < n
 Fewer n (Err (TooDeep rest)) = length rest < n
 
--- behind those of these tokens that leave leaves what `t` begins, there are so many at the least
+-- after those of these tokens that leave leaves what `t` begins, there are so many at the least
 abbrev pub Beyond : Meaning × Place → Tokens → ℕ → Type 0
 Beyond t more n = (seen rest : Tokens) → LeavesOpen t seen → more ≡ seen ++ rest → n ≤ length rest
 
--- What two answers have to do with each other, where the tokens that were read differ only in what is behind `t`. They are
--- one answer, but that where `more` is left behind `t` in the first, `other` is in the second; or both took `t`. Or the
--- first took what tells that a declaration of variables begins, which it doesn't with the tokens of the second; or it
+-- What two answers have to do with each other, where the tokens that were read differ only in what is after `t`. They are
+-- one answer, but that where `more` is left after `t` in the first, `other` is in the second; or both took `t`. Or the
+-- first took what reports that a declaration of variables begins, which it doesn't with the tokens of the second; or it
 -- stops at a token that stands too deep, with which a declaration begins in the second.
-pub data Agree {A : Type 0} (t : Meaning × Place) (more other : Tokens) : Reading A → Reading A → Type 0 where
-  reads : (x : A) (front : Tokens) → Agree t more other (Ok (x, front ++ t ∷ more)) (Ok (x, front ++ t ∷ other))
-  stops : (front : Tokens) → Agree t more other (Err (Unexpected (front ++ t ∷ more))) (Err (Unexpected (front ++ t ∷ other)))
-  deep : (front : Tokens) → Agree t more other (Err (TooDeep (front ++ t ∷ more))) (Err (TooDeep (front ++ t ∷ other)))
-  past : {one two : Reading A} → Past (length more) one → Past (length other) two → Agree t more other one two
-  chosen : {one two : Reading A} (n : ℕ) → Fewer n one → Beyond t more n → Agree t more other one two
-  opens : {two : Reading A} (front : Tokens) → is_vars (front ++ t ∷ more) ≡ false → is_vars (front ++ t ∷ other) ≡ true → Agree t more other (Err (TooDeep (front ++ t ∷ more))) two
+pub data Agree {A : Type 0} (t : Meaning × Place) (more other : Tokens) : ParseResult A → ParseResult A → Type 0 where
+  reads : (x : A) (prefix : Tokens) → Agree t more other (Ok (x, prefix ++ t ∷ more)) (Ok (x, prefix ++ t ∷ other))
+  stops : (prefix : Tokens) → Agree t more other (Err (Unexpected (prefix ++ t ∷ more))) (Err (Unexpected (prefix ++ t ∷ other)))
+  deep : (prefix : Tokens) → Agree t more other (Err (TooDeep (prefix ++ t ∷ more))) (Err (TooDeep (prefix ++ t ∷ other)))
+  past : {one two : ParseResult A} → Past (length more) one → Past (length other) two → Agree t more other one two
+  chosen : {one two : ParseResult A} (n : ℕ) → Fewer n one → Beyond t more n → Agree t more other one two
+  opens : {two : ParseResult A} (prefix : Tokens) → is_vars (prefix ++ t ∷ more) ≡ false → is_vars (prefix ++ t ∷ other) ≡ true → Agree t more other (Err (TooDeep (prefix ++ t ∷ more))) two
 
--- behind `t`, the word `array`, all but the last `n` of these tokens stand before the end of an `"<" elem ">"`
+-- after `t`, the word `array`, all but the last `n` of these tokens stand before the end of an `"<" elem ">"`
 pub record Inside (t : Meaning × Place) (more : Tokens) (n : ℕ) : Type 0 where
   pub is_word : t.0 ≡ reserved words.Array
   pub ends_later : (x : Element) (rest : Tokens) → element_at more ≡ Ok (x, rest) → length rest < n
 
--- reading neither ended where the last `n` of `more` begin, behind `t`, nor stopped there at a token that stands too deep
-pub data Clear {A : Type 0} (t : Meaning × Place) (more : Tokens) (n : ℕ) : Reading A → Type 0 where
-  ends_before : (x : A) (front : Tokens) → Clear t more n (Ok (x, front ++ t ∷ more))
-  cut_before : (front : Tokens) → Clear t more n (Err (TooDeep (front ++ t ∷ more)))
+-- reading neither ended where the last `n` of `more` begin, after `t`, nor stopped there at a token that stands too deep
+pub data Clear {A : Type 0} (t : Meaning × Place) (more : Tokens) (n : ℕ) : ParseResult A → Type 0 where
+  ends_before : (x : A) (prefix : Tokens) → Clear t more n (Ok (x, prefix ++ t ∷ more))
+  cut_before : (prefix : Tokens) → Clear t more n (Err (TooDeep (prefix ++ t ∷ more)))
   unexpected : (rest : Tokens) → Clear t more n (Err (Unexpected rest))
-  behind_it : {o : Reading A} → Fewer n o → Clear t more n o
+  after_it : {o : ParseResult A} → Fewer n o → Clear t more n o
 
--- With other tokens behind `t`, the answers agree; tokens that are taken stay so; and no reading ends, or is cut, inside an
+-- With other tokens after `t`, the answers agree; tokens that are taken stay so; and no reading ends, or is cut, inside an
 -- array's `"<" elem ">"`.
-pub record Lawful {A : Type 0} (read : Tokens → Reading A) : Type 0 where
-  pub keeps : (t : Meaning × Place) (more other front : Tokens) → Agree t more other (read (front ++ t ∷ more)) (read (front ++ t ∷ other))
+pub record Lawful {A : Type 0} (read : Tokens → ParseResult A) : Type 0 where
+  pub keeps : (t : Meaning × Place) (more other prefix : Tokens) → Agree t more other (read (prefix ++ t ∷ more)) (read (prefix ++ t ∷ other))
   pub stays : (n : ℕ) (s : Tokens) → length s ≤ n → Past n (read s)
-  pub clears : (t : Meaning × Place) (more : Tokens) (n : ℕ) (front : Tokens) → Inside t more n → Clear t more n (read (front ++ t ∷ more))
+  pub clears : (t : Meaning × Place) (more : Tokens) (n : ℕ) (prefix : Tokens) → Inside t more n → Clear t more n (read (prefix ++ t ∷ more))
 
 -- a choice, where both choices agree if the tests differ
-abbrev pub Crosses : {A : Type 0} → (Tokens → Bool) → (Tokens → Reading A) → (Tokens → Reading A) → Type 0
+abbrev pub Crosses : {A : Type 0} → (Tokens → Bool) → (Tokens → ParseResult A) → (Tokens → ParseResult A) → Type 0
 Crosses test on off =
-    (t : Meaning × Place) (more other front : Tokens) →
-    (test (front ++ t ∷ more) ≡ true → test (front ++ t ∷ other) ≡ false → Agree t more other (on (front ++ t ∷ more)) (off (front ++ t ∷ other)))
-    × (test (front ++ t ∷ more) ≡ false → test (front ++ t ∷ other) ≡ true → Agree t more other (off (front ++ t ∷ more)) (on (front ++ t ∷ other)))
+    (t : Meaning × Place) (more other prefix : Tokens) →
+    (test (prefix ++ t ∷ more) ≡ true → test (prefix ++ t ∷ other) ≡ false → Agree t more other (on (prefix ++ t ∷ more)) (off (prefix ++ t ∷ other)))
+    × (test (prefix ++ t ∷ more) ≡ false → test (prefix ++ t ∷ other) ≡ true → Agree t more other (off (prefix ++ t ∷ more)) (on (prefix ++ t ∷ other)))
 
--- a reader behind its first token, `a`
-pub record Led {A : Type 0} (a : Meaning × Place) (read : Tokens → Reading A) : Type 0 where
+-- a reader after its first token, `a`
+pub record Led {A : Type 0} (a : Meaning × Place) (read : Tokens → ParseResult A) : Type 0 where
   pub starts : (more other : Tokens) → Agree a more other (read more) (read other)
-  pub keeps : (t : Meaning × Place) (more other front : Tokens) → Agree t more other (read (front ++ t ∷ more)) (read (front ++ t ∷ other))
+  pub keeps : (t : Meaning × Place) (more other prefix : Tokens) → Agree t more other (read (prefix ++ t ∷ more)) (read (prefix ++ t ∷ other))
   pub stays : (n : ℕ) (s : Tokens) → suc (length s) ≤ n → Past n (read s)
-  pub clears : (t : Meaning × Place) (more : Tokens) (n : ℕ) (front : Tokens) → Inside t more n → Clear t more n (read (front ++ t ∷ more))
+  pub clears : (t : Meaning × Place) (more : Tokens) (n : ℕ) (prefix : Tokens) → Inside t more n → Clear t more n (read (prefix ++ t ∷ more))
   pub clears_first : (more : Tokens) (n : ℕ) → Inside a more n → Clear a more n (read more)
 
--- the reader takes what `P` says that these tokens begin with, of which so many are left behind it at most
-pub record Takes {A : Type 0} (P : ℕ → Tokens → Type 0) (read : Tokens → Reading A) : Type 0 where
+-- the reader takes what `P` says that these tokens begin with, of which so many are left after it at most
+pub record Takes {A : Type 0} (P : ℕ → Tokens → Type 0) (read : Tokens → ParseResult A) : Type 0 where
   pub taken : (n : ℕ) (s : Tokens) → P n s → Past n (read s)
 
 -- the tokens begin with this one
 pub data First (a : Meaning × Place) (n : ℕ) : Tokens → Type 0 where
   first : (s : Tokens) → length s ≤ n → First a n (a ∷ s)
 
-pub past_fewer : {A : Type 0} (m n : ℕ) (o : Reading A) → m < n → Past m o → Fewer n o
+pub past_fewer : {A : Type 0} (m n : ℕ) (o : ParseResult A) → m < n → Past m o → Fewer n o
 past_fewer m n (Ok x) l h = omega arith
 past_fewer m n (Err (Unexpected rest)) l h = omega arith
 past_fewer m n (Err (TooDeep rest)) l h = omega arith
 
-pub fewer_past : {A : Type 0} (n m : ℕ) (o : Reading A) → n ≤ m → Fewer n o → Past m o
+pub fewer_past : {A : Type 0} (n m : ℕ) (o : ParseResult A) → n ≤ m → Fewer n o → Past m o
 fewer_past n m (Ok x) l h = omega arith
 fewer_past n m (Err (Unexpected rest)) l h = omega arith
 fewer_past n m (Err (TooDeep rest)) l h = omega arith
 
 pub ok_lawful : {A : Type 0} (x : A) → Lawful (λ s. Ok (x, s))
-ok_lawful x = record { keeps = λ t more other front. reads x front; stays = λ n s h. h; clears = λ t more n front i. ends_before x front }
+ok_lawful x = record { keeps = λ t more other prefix. reads x prefix; stays = λ n s h. h; clears = λ t more n prefix i. ends_before x prefix }
 
-module _ {A B : Type 0} (f : A × Tokens → Reading B) where
-  pub bind_past : (n : ℕ) (o : Reading A) → Past n o → ((x : A) (s : Tokens) → length s ≤ n → Past n (f (x, s))) → Past n (o >>= f)
+module _ {A B : Type 0} (f : A × Tokens → ParseResult B) where
+  pub bind_past : (n : ℕ) (o : ParseResult A) → Past n o → ((x : A) (s : Tokens) → length s ≤ n → Past n (f (x, s))) → Past n (o >>= f)
   bind_past n (Ok x) h go = go x.0 x.1 h
   bind_past n (Err (Unexpected rest)) h go = h
   bind_past n (Err (TooDeep rest)) h go = h
 
-  pub bind_fewer : (n : ℕ) (o : Reading A) → Fewer n o → ((x : A) (m : ℕ) (s : Tokens) → length s ≤ m → Past m (f (x, s))) → Fewer n (o >>= f)
+  pub bind_fewer : (n : ℕ) (o : ParseResult A) → Fewer n o → ((x : A) (m : ℕ) (s : Tokens) → length s ≤ m → Past m (f (x, s))) → Fewer n (o >>= f)
   bind_fewer n (Ok x) h go = past_fewer (length x.1) n (f x) h (go x.0 (length x.1) x.1 (omega arith))
   bind_fewer n (Err (Unexpected rest)) h go = h
   bind_fewer n (Err (TooDeep rest)) h go = h
 
   module _ (law : (x : A) → Lawful (λ s. f (x, s))) where
-    pub bind_agree : {t : Meaning × Place} {more other : Tokens} {one two : Reading A} → Agree t more other one two → Agree t more other (one >>= f) (two >>= f)
-    bind_agree {t} {more} {other} (reads x front) = (law x).keeps t more other front
-    bind_agree (stops front) = stops front
-    bind_agree (deep front) = deep front
+    pub bind_agree : {t : Meaning × Place} {more other : Tokens} {one two : ParseResult A} → Agree t more other one two → Agree t more other (one >>= f) (two >>= f)
+    bind_agree {t} {more} {other} (reads x prefix) = (law x).keeps t more other prefix
+    bind_agree (stops prefix) = stops prefix
+    bind_agree (deep prefix) = deep prefix
     bind_agree {more} {other} {one} {two} (past h k) = past (bind_past (length more) one h (λ x s l. (law x).stays (length more) s l)) (bind_past (length other) two k (λ x s l. (law x).stays (length other) s l))
     bind_agree {one} (chosen n h b) = chosen n (bind_fewer n one h (λ x k s l. (law x).stays k s l)) b
-    bind_agree (opens front h k) = opens front h k
+    bind_agree (opens prefix h k) = opens prefix h k
 
-    pub bind_clear : {t : Meaning × Place} {more : Tokens} {n : ℕ} {o : Reading A} → Clear t more n o → Inside t more n → Clear t more n (o >>= f)
-    bind_clear {t} {more} {n} (ends_before x front) i = (law x).clears t more n front i
-    bind_clear (cut_before front) i = cut_before front
+    pub bind_clear : {t : Meaning × Place} {more : Tokens} {n : ℕ} {o : ParseResult A} → Clear t more n o → Inside t more n → Clear t more n (o >>= f)
+    bind_clear {t} {more} {n} (ends_before x prefix) i = (law x).clears t more n prefix i
+    bind_clear (cut_before prefix) i = cut_before prefix
     bind_clear (unexpected rest) i = unexpected rest
-    bind_clear {n} {o} (behind_it h) i = behind_it (bind_fewer n o h (λ x k s l. (law x).stays k s l))
+    bind_clear {n} {o} (after_it h) i = after_it (bind_fewer n o h (λ x k s l. (law x).stays k s l))
 
-pub bind_lawful : {A B : Type 0} {read : Tokens → Reading A} (f : A × Tokens → Reading B) → Lawful read → ((x : A) → Lawful (λ s. f (x, s))) → Lawful (λ s. read s >>= f)
+pub bind_lawful : {A B : Type 0} {read : Tokens → ParseResult A} (f : A × Tokens → ParseResult B) → Lawful read → ((x : A) → Lawful (λ s. f (x, s))) → Lawful (λ s. read s >>= f)
 bind_lawful {read} f law next = record {
-  keeps = λ t more other front. bind_agree f next (law.keeps t more other front);
+  keeps = λ t more other prefix. bind_agree f next (law.keeps t more other prefix);
   stays = λ n s h. bind_past f n (read s) (law.stays n s h) (λ x r l. (next x).stays n r l);
-  clears = λ t more n front i. bind_clear f next (law.clears t more n front i) i;
+  clears = λ t more n prefix i. bind_clear f next (law.clears t more n prefix i) i;
 }
 
-pub bind_takes : {A B : Type 0} {P : ℕ → Tokens → Type 0} {read : Tokens → Reading A} (f : A × Tokens → Reading B) → Takes P read → ((x : A) → Lawful (λ s. f (x, s))) → Takes P (λ s. read s >>= f)
+pub bind_takes : {A B : Type 0} {P : ℕ → Tokens → Type 0} {read : Tokens → ParseResult A} (f : A × Tokens → ParseResult B) → Takes P read → ((x : A) → Lawful (λ s. f (x, s))) → Takes P (λ s. read s >>= f)
 bind_takes {read} f takes next = record { taken = λ n s p. bind_past f n (read s) (takes.taken n s p) (λ x r l. (next x).stays n r l) }
 
-pub put_past : {A : Type 0} (n : ℕ) (x : A) (o : Reading (List A)) → Past n o → Past n (put x o)
+pub put_past : {A : Type 0} (n : ℕ) (x : A) (o : ParseResult (List A)) → Past n o → Past n (put x o)
 put_past n x (Ok y) h = h
 put_past n x (Err (Unexpected rest)) h = h
 put_past n x (Err (TooDeep rest)) h = h
 
-put_fewer : {A : Type 0} (n : ℕ) (x : A) (o : Reading (List A)) → Fewer n o → Fewer n (put x o)
+put_fewer : {A : Type 0} (n : ℕ) (x : A) (o : ParseResult (List A)) → Fewer n o → Fewer n (put x o)
 put_fewer n x (Ok y) h = h
 put_fewer n x (Err (Unexpected rest)) h = h
 put_fewer n x (Err (TooDeep rest)) h = h
 
-pub put_agree : {A : Type 0} {t : Meaning × Place} {more other : Tokens} {one two : Reading (List A)} (x : A) → Agree t more other one two → Agree t more other (put x one) (put x two)
-put_agree x (reads xs front) = reads (x ∷ xs) front
-put_agree x (stops front) = stops front
-put_agree x (deep front) = deep front
+pub put_agree : {A : Type 0} {t : Meaning × Place} {more other : Tokens} {one two : ParseResult (List A)} (x : A) → Agree t more other one two → Agree t more other (put x one) (put x two)
+put_agree x (reads xs prefix) = reads (x ∷ xs) prefix
+put_agree x (stops prefix) = stops prefix
+put_agree x (deep prefix) = deep prefix
 put_agree {more} {other} {one} {two} x (past h k) = past (put_past (length more) x one h) (put_past (length other) x two k)
 put_agree {one} x (chosen n h b) = chosen n (put_fewer n x one h) b
-put_agree x (opens front h k) = opens front h k
+put_agree x (opens prefix h k) = opens prefix h k
 
-put_clear : {A : Type 0} {t : Meaning × Place} {more : Tokens} {n : ℕ} {o : Reading (List A)} (x : A) → Clear t more n o → Clear t more n (put x o)
-put_clear x (ends_before xs front) = ends_before (x ∷ xs) front
-put_clear x (cut_before front) = cut_before front
+put_clear : {A : Type 0} {t : Meaning × Place} {more : Tokens} {n : ℕ} {o : ParseResult (List A)} (x : A) → Clear t more n o → Clear t more n (put x o)
+put_clear x (ends_before xs prefix) = ends_before (x ∷ xs) prefix
+put_clear x (cut_before prefix) = cut_before prefix
 put_clear x (unexpected rest) = unexpected rest
-put_clear {n} {o} x (behind_it h) = behind_it (put_fewer n x o h)
+put_clear {n} {o} x (after_it h) = after_it (put_fewer n x o h)
 
-pub put_lawful : {A : Type 0} {read : Tokens → Reading (List A)} (x : A) → Lawful read → Lawful (λ s. put x (read s))
+pub put_lawful : {A : Type 0} {read : Tokens → ParseResult (List A)} (x : A) → Lawful read → Lawful (λ s. put x (read s))
 put_lawful {read} x law = record {
-  keeps = λ t more other front. put_agree x (law.keeps t more other front);
+  keeps = λ t more other prefix. put_agree x (law.keeps t more other prefix);
   stays = λ n s h. put_past n x (read s) (law.stays n s h);
-  clears = λ t more n front i. put_clear x (law.clears t more n front i);
+  clears = λ t more n prefix i. put_clear x (law.clears t more n prefix i);
 }
 
 -- a test that hangs only on the next token
 abbrev pub Steady : (Tokens → Bool) → Type 0
-Steady test = (t : Meaning × Place) (more other front : Tokens) → test (front ++ t ∷ more) ≡ test (front ++ t ∷ other)
+Steady test = (t : Meaning × Place) (more other prefix : Tokens) → test (prefix ++ t ∷ more) ≡ test (prefix ++ t ∷ other)
 
 pub next_steady : (test : Meaning → Bool) → Steady (next_is test)
 next_steady test t more other [] = refl
-next_steady test t more other (a ∷ front) = refl
+next_steady test t more other (a ∷ prefix) = refl
 
 pub sign_steady : (s : Sign) → Steady (next_is_sign s)
 unfolding next_is_sign
 sign_steady s = next_steady (is_sign s)
 
-pub cond_past : {A : Type 0} (n : ℕ) (b : Bool) (one two : Reading A) → Past n one → Past n two → Past n (cond b one two)
+pub cond_past : {A : Type 0} (n : ℕ) (b : Bool) (one two : ParseResult A) → Past n one → Past n two → Past n (cond b one two)
 cond_past n true one two h k = h
 cond_past n false one two h k = k
 
-cond_clear : {A : Type 0} {t : Meaning × Place} {more : Tokens} {n : ℕ} (b : Bool) {one two : Reading A} → Clear t more n one → Clear t more n two → Clear t more n (cond b one two)
+cond_clear : {A : Type 0} {t : Meaning × Place} {more : Tokens} {n : ℕ} (b : Bool) {one two : ParseResult A} → Clear t more n one → Clear t more n two → Clear t more n (cond b one two)
 cond_clear true p q = p
 cond_clear false p q = q
 
-choice : {A : Type 0} (t : Meaning × Place) (more other : Tokens) (b c : Bool) (on off on' off' : Reading A) → (b ≡ true → c ≡ false → Agree t more other on off') → (b ≡ false → c ≡ true → Agree t more other off on') → Agree t more other on on' → Agree t more other off off' → Agree t more other (cond b on off) (cond c on' off')
+choice : {A : Type 0} (t : Meaning × Place) (more other : Tokens) (b c : Bool) (on off on' off' : ParseResult A) → (b ≡ true → c ≡ false → Agree t more other on off') → (b ≡ false → c ≡ true → Agree t more other off on') → Agree t more other on on' → Agree t more other off off' → Agree t more other (cond b on off) (cond c on' off')
 choice t more other true true on off on' off' u v p q = p
 choice t more other true false on off on' off' u v p q = u refl refl
 choice t more other false true on off on' off' u v p q = v refl refl
 choice t more other false false on off on' off' u v p q = q
 
-pub choice_lawful : {A : Type 0} (test : Tokens → Bool) {on off : Tokens → Reading A} → Crosses test on off → Lawful on → Lawful off → Lawful (λ s. cond (test s) (on s) (off s))
+pub choice_lawful : {A : Type 0} (test : Tokens → Bool) {on off : Tokens → ParseResult A} → Crosses test on off → Lawful on → Lawful off → Lawful (λ s. cond (test s) (on s) (off s))
 choice_lawful test {on} {off} crosses p q = record {
-  keeps = λ t more other front. let s = front ++ t ∷ more in let r = front ++ t ∷ other in
-      choice t more other (test s) (test r) (on s) (off s) (on r) (off r) (crosses t more other front).0 (crosses t more other front).1 (p.keeps t more other front) (q.keeps t more other front);
+  keeps = λ t more other prefix. let s = prefix ++ t ∷ more in let r = prefix ++ t ∷ other in
+      choice t more other (test s) (test r) (on s) (off s) (on r) (off r) (crosses t more other prefix).0 (crosses t more other prefix).1 (p.keeps t more other prefix) (q.keeps t more other prefix);
   stays = λ n s h. cond_past n (test s) (on s) (off s) (p.stays n s h) (q.stays n s h);
-  clears = λ t more n front i. cond_clear (test (front ++ t ∷ more)) (p.clears t more n front i) (q.clears t more n front i);
+  clears = λ t more n prefix i. cond_clear (test (prefix ++ t ∷ more)) (p.clears t more n prefix i) (q.clears t more n prefix i);
 }
 
 pub differs_on : (a b : Bool) → a ≡ true → b ≡ false → a ≡ b → ⊥
@@ -211,18 +211,18 @@ differs_off a b h k e = cc
 pub no_cross : (b c : Bool) (P Q : Type 0) → b ≡ c → (b ≡ true → c ≡ false → P) × (b ≡ false → c ≡ true → Q)
 no_cross b c P Q e = (λ h k. absurd (differs_on b c h k e), λ h k. absurd (differs_off b c h k e))
 
-pub if_lawful : {A : Type 0} (test : Tokens → Bool) {on off : Tokens → Reading A} → Steady test → Lawful on → Lawful off → Lawful (λ s. cond (test s) (on s) (off s))
+pub if_lawful : {A : Type 0} (test : Tokens → Bool) {on off : Tokens → ParseResult A} → Steady test → Lawful on → Lawful off → Lawful (λ s. cond (test s) (on s) (off s))
 if_lawful test {on} {off} steady p q =
-    choice_lawful test (λ t more other front. let s = front ++ t ∷ more in let r = front ++ t ∷ other in
-    no_cross (test s) (test r) (Agree t more other (on s) (off r)) (Agree t more other (off s) (on r)) (steady t more other front)) p q
+    choice_lawful test (λ t more other prefix. let s = prefix ++ t ∷ more in let r = prefix ++ t ∷ other in
+    no_cross (test s) (test r) (Agree t more other (on s) (off r)) (Agree t more other (off s) (on r)) (steady t more other prefix)) p q
 
--- one answer, told by one reader and the other
-pub alike : {A : Type 0} {one two : Tokens → Reading A} → ((s : Tokens) → one s ≡ two s) → Lawful two → Lawful one
+-- one answer, reported by one reader and the other
+pub alike : {A : Type 0} {one two : Tokens → ParseResult A} → ((s : Tokens) → one s ≡ two s) → Lawful two → Lawful one
 alike {one} {two} e law = record {
-  keeps = λ t more other front. let s = front ++ t ∷ more in let r = front ++ t ∷ other in
-      subst (λ x. Agree t more other x (one r)) (sym (e s)) (subst (λ x. Agree t more other (two s) x) (sym (e r)) (law.keeps t more other front));
+  keeps = λ t more other prefix. let s = prefix ++ t ∷ more in let r = prefix ++ t ∷ other in
+      subst (λ x. Agree t more other x (one r)) (sym (e s)) (subst (λ x. Agree t more other (two s) x) (sym (e r)) (law.keeps t more other prefix));
   stays = λ n s h. subst (λ x. Past n x) (sym (e s)) (law.stays n s h);
-  clears = λ t more n front i. subst (λ x. Clear t more n x) (sym (e (front ++ t ∷ more))) (law.clears t more n front i);
+  clears = λ t more n prefix i. subst (λ x. Clear t more n x) (sym (e (prefix ++ t ∷ more))) (law.clears t more n prefix i);
 }
 
 -- not the word `array`
@@ -233,8 +233,8 @@ IsNoArray m = Unit {0}
 pub sign_no_array : (s : Sign) (m : Meaning) → is_sign s m ≡ true → IsNoArray m
 sign_no_array s m e = subst (λ w. IsNoArray w) (sym (sign_is s m e)) tt
 
--- a reader behind a token, of which it reads no array
-led_by : {A : Type 0} {read : Tokens → Reading A} {a : Meaning × Place} → Lawful read → ((more : Tokens) (n : ℕ) → Inside a more n → Clear a more n (read more)) → Led a read
+-- a reader after a token, of which it reads no array
+led_by : {A : Type 0} {read : Tokens → ParseResult A} {a : Meaning × Place} → Lawful read → ((more : Tokens) (n : ℕ) → Inside a more n → Clear a more n (read more)) → Led a read
 led_by {read} law inside = record {
   starts = λ more other. past (law.stays (length more) more (omega arith)) (law.stays (length other) other (omega arith));
   keeps = law.keeps;
@@ -243,70 +243,70 @@ led_by {read} law inside = record {
   clears_first = inside;
 }
 
-pub led_behind : {A : Type 0} {read : Tokens → Reading A} {a : Meaning × Place} → IsNoArray a.0 → Lawful read → Led a read
-led_behind other law = led_by law (λ more n i. absurd (subst (λ w. IsNoArray w) i.is_word other))
+pub led_after : {A : Type 0} {read : Tokens → ParseResult A} {a : Meaning × Place} → IsNoArray a.0 → Lawful read → Led a read
+led_after other law = led_by law (λ more n i. absurd (subst (λ w. IsNoArray w) i.is_word other))
 
--- a reader behind the word `array`
-module _ {A : Type 0} (f : Element × Tokens → Reading A) (law : Lawful element_at) (next : (x : Element) → Lawful (λ s. f (x, s))) where
-  element_clear : (t : Meaning × Place) (more : Tokens) (n : ℕ) (o : Reading Element) → element_at more ≡ o → Inside t more n → Clear t more n (o >>= f)
-  element_clear t more n (Ok x) e i = behind_it (past_fewer (length x.1) n (f x) (i.ends_later x.0 x.1 e) ((next x.0).stays (length x.1) x.1 (omega arith)))
+-- a reader after the word `array`
+module _ {A : Type 0} (f : Element × Tokens → ParseResult A) (law : Lawful element_at) (next : (x : Element) → Lawful (λ s. f (x, s))) where
+  element_clear : (t : Meaning × Place) (more : Tokens) (n : ℕ) (o : ParseResult Element) → element_at more ≡ o → Inside t more n → Clear t more n (o >>= f)
+  element_clear t more n (Ok x) e i = after_it (past_fewer (length x.1) n (f x) (i.ends_later x.0 x.1 e) ((next x.0).stays (length x.1) x.1 (omega arith)))
   element_clear t more n (Err (Unexpected rest)) e i = unexpected rest
   element_clear t more n (Err (TooDeep rest)) e i = absurd (subst (λ o. IsUncut o) e (element_uncut more))
 
   pub led_array : (p : Place) → Led (reserved words.Array, p) (λ s. element_at s >>= f)
   led_array p = led_by (bind_lawful f law next) (λ more n i. element_clear (reserved words.Array, p) more n (element_at more) refl i)
 
-pub led_from : {A : Type 0} {read : Tokens → Reading A} {a : Meaning × Place} → Lawful read → Led a (λ s. read (a ∷ s))
+pub led_from : {A : Type 0} {read : Tokens → ParseResult A} {a : Meaning × Place} → Lawful read → Led a (λ s. read (a ∷ s))
 led_from {a} law = record {
   starts = λ more other. law.keeps a more other [];
-  keeps = λ t more other front. law.keeps t more other (a ∷ front);
+  keeps = λ t more other prefix. law.keeps t more other (a ∷ prefix);
   stays = λ n s h. law.stays n (a ∷ s) (omega arith);
-  clears = λ t more n front i. law.clears t more n (a ∷ front) i;
+  clears = λ t more n prefix i. law.clears t more n (a ∷ prefix) i;
   clears_first = λ more n i. law.clears a more n [] i;
 }
 
 pub stop_lawful : {A : Type 0} → Lawful {A = A} (λ s. Err (Unexpected s))
-stop_lawful = record { keeps = λ t more other front. stops front; stays = λ n s h. h; clears = λ t more n front i. unexpected (front ++ t ∷ more) }
+stop_lawful = record { keeps = λ t more other prefix. stops prefix; stays = λ n s h. h; clears = λ t more n prefix i. unexpected (prefix ++ t ∷ more) }
 
 pub led_stop : {A : Type 0} {a : Meaning × Place} → Led {A = A} a (λ s. Err (Unexpected (a ∷ s)))
 led_stop = led_from stop_lawful
 
 cut_lawful : {A : Type 0} → Lawful {A = A} (λ s. Err (TooDeep s))
-cut_lawful = record { keeps = λ t more other front. deep front; stays = λ n s h. h; clears = λ t more n front i. cut_before front }
+cut_lawful = record { keeps = λ t more other prefix. deep prefix; stays = λ n s h. h; clears = λ t more n prefix i. cut_before prefix }
 
 pub led_deep : {A : Type 0} {a : Meaning × Place} → Led {A = A} a (λ s. Err (TooDeep (a ∷ s)))
 led_deep = led_from cut_lawful
 
-pub led_if : {A : Type 0} {a : Meaning × Place} {on off : Tokens → Reading A} (b : Bool) → (b ≡ true → Led a on) → Led a off → Led a (λ s. cond b (on s) (off s))
+pub led_if : {A : Type 0} {a : Meaning × Place} {on off : Tokens → ParseResult A} (b : Bool) → (b ≡ true → Led a on) → Led a off → Led a (λ s. cond b (on s) (off s))
 led_if true p q = p refl
 led_if false p q = q
 
 -- a reader by its first token
-pub led_lawful : {A : Type 0} {read : Tokens → Reading A} → ((n : ℕ) → Past n (read [])) → ((m : Meaning) (p : Place) → Led (m, p) (λ s. read ((m, p) ∷ s))) → Lawful read
-led_lawful {A} {read} none some = record { keeps = in_front; stays = with_less; clears = cleared }
+pub led_lawful : {A : Type 0} {read : Tokens → ParseResult A} → ((n : ℕ) → Past n (read [])) → ((m : Meaning) (p : Place) → Led (m, p) (λ s. read ((m, p) ∷ s))) → Lawful read
+led_lawful {A} {read} none some = record { keeps = in_prefix; stays = with_less; clears = cleared }
   where
-    in_front : (t : Meaning × Place) (more other front : Tokens) → Agree t more other (read (front ++ t ∷ more)) (read (front ++ t ∷ other))
-    in_front (m, p) more other [] = (some m p).starts more other
-    in_front t more other ((m, p) ∷ front) = (some m p).keeps t more other front
+    in_prefix : (t : Meaning × Place) (more other prefix : Tokens) → Agree t more other (read (prefix ++ t ∷ more)) (read (prefix ++ t ∷ other))
+    in_prefix (m, p) more other [] = (some m p).starts more other
+    in_prefix t more other ((m, p) ∷ prefix) = (some m p).keeps t more other prefix
 
     with_less : (n : ℕ) (s : Tokens) → length s ≤ n → Past n (read s)
     with_less n [] h = none n
     with_less n ((m, p) ∷ s) h = (some m p).stays n s (omega arith)
 
-    cleared : (t : Meaning × Place) (more : Tokens) (n : ℕ) (front : Tokens) → Inside t more n → Clear t more n (read (front ++ t ∷ more))
+    cleared : (t : Meaning × Place) (more : Tokens) (n : ℕ) (prefix : Tokens) → Inside t more n → Clear t more n (read (prefix ++ t ∷ more))
     cleared (m, p) more n [] i = (some m p).clears_first more n i
-    cleared t more n ((m, p) ∷ front) i = (some m p).clears t more n front i
+    cleared t more n ((m, p) ∷ prefix) i = (some m p).clears t more n prefix i
 
 pub expect_lawful : (s : Sign) → Lawful (expect_at s)
 unfolding expect_at
-expect_lawful s = led_lawful (λ n. omega arith) (λ m p. led_if (is_sign s m) (λ e. led_behind (sign_no_array s m e) (ok_lawful p)) led_stop)
+expect_lawful s = led_lawful (λ n. omega arith) (λ m p. led_if (is_sign s m) (λ e. led_after (sign_no_array s m e) (ok_lawful p)) led_stop)
 
 pub name_lawful : Lawful name_at
 unfolding name_at
 name_lawful = led_lawful (λ n. omega arith) by_token
   where
     by_token : (m : Meaning) (p : Place) → Led (m, p) (λ s. name_at ((m, p) ∷ s))
-    by_token (name text) p = led_behind tt (ok_lawful (text, p))
+    by_token (name text) p = led_after tt (ok_lawful (text, p))
     by_token (number n) p = led_stop
     by_token (sign n) p = led_stop
     by_token (reserved n) p = led_stop
@@ -319,11 +319,11 @@ name_takes text p = record { taken = by_first }
     by_first : (n : ℕ) (s : Tokens) → First (name text, p) n s → Past n (name_at s)
     by_first n _ (first s l) = l
 
-filled : (t : Meaning × Place) (front more : Tokens) → 1 ≤ length (front ++ t ∷ more)
+filled : (t : Meaning × Place) (prefix more : Tokens) → 1 ≤ length (prefix ++ t ∷ more)
 filled t [] more = omega arith
-filled t (a ∷ front) more = omega arith
+filled t (a ∷ prefix) more = omega arith
 
-module _ {A : Type 0} (test : Tokens → Bool) (read : Tokens → Reading A) (shrinks : Shrinks read) (steady : Steady test) (law : Lawful read) where
+module _ {A : Type 0} (test : Tokens → Bool) (read : Tokens → ParseResult A) (shrinks : Shrinks read) (steady : Steady test) (law : Lawful read) where
   repeat_past : (times n : ℕ) (s : Tokens) → length s ≤ n → Past n (repeat test read times s)
   unfolding repeat
   repeat_past zero n s h = h
@@ -331,67 +331,67 @@ module _ {A : Type 0} (test : Tokens → Bool) (read : Tokens → Reading A) (sh
       cond_past n (test s) (read s >>= λ x. put x.0 (repeat test read times x.1)) (Ok ([], s))
       (bind_past (λ x. put x.0 (repeat test read times x.1)) n (read s) (law.stays n s h) (λ x r l. put_past n x (repeat test read times r) (repeat_past times n r l))) h
 
-  behind_one : (times : ℕ) (x : A) (n : ℕ) (s : Tokens) → length s ≤ n → Past n (put x (repeat test read times s))
-  behind_one times x n s l = put_past n x (repeat test read times s) (repeat_past times n s l)
+  after_one : (times : ℕ) (x : A) (n : ℕ) (s : Tokens) → length s ≤ n → Past n (put x (repeat test read times s))
+  after_one times x n s l = put_past n x (repeat test read times s) (repeat_past times n s l)
 
-  round : (t : Meaning × Place) (more other front : Tokens) (times again : ℕ) (b : Bool) (one two : Reading A) → Agree t more other one two →
+  round : (t : Meaning × Place) (more other prefix : Tokens) (times again : ℕ) (b : Bool) (one two : ParseResult A) → Agree t more other one two →
       ((x : A) (next : Tokens) → one ≡ Ok (x, next ++ t ∷ more) → two ≡ Ok (x, next ++ t ∷ other) → Agree t more other (repeat test read times (next ++ t ∷ more)) (repeat test read again (next ++ t ∷ other))) →
-      Agree t more other (cond b (one >>= λ x. put x.0 (repeat test read times x.1)) (Ok ([], front ++ t ∷ more))) (cond b (two >>= λ x. put x.0 (repeat test read again x.1)) (Ok ([], front ++ t ∷ other)))
-  round t more other front times again false one two e next = reads [] front
-  round t more other front times again true one two (reads x left) next = put_agree x (next x left refl refl)
-  round t more other front times again true one two (stops left) next = stops left
-  round t more other front times again true one two (deep left) next = deep left
-  round t more other front times again true one two (past h k) next =
-      past (bind_past (λ x. put x.0 (repeat test read times x.1)) (length more) one h (λ x r l. behind_one times x (length more) r l)) (bind_past (λ x. put x.0 (repeat test read again x.1)) (length other) two k (λ x r l. behind_one again x (length other) r l))
-  round t more other front times again true one two (chosen n h b) next = chosen n (bind_fewer (λ x. put x.0 (repeat test read times x.1)) n one h (behind_one times)) b
-  round t more other front times again true one two (opens left h k) next = opens left h k
+      Agree t more other (cond b (one >>= λ x. put x.0 (repeat test read times x.1)) (Ok ([], prefix ++ t ∷ more))) (cond b (two >>= λ x. put x.0 (repeat test read again x.1)) (Ok ([], prefix ++ t ∷ other)))
+  round t more other prefix times again false one two e next = reads [] prefix
+  round t more other prefix times again true one two (reads x left) next = put_agree x (next x left refl refl)
+  round t more other prefix times again true one two (stops left) next = stops left
+  round t more other prefix times again true one two (deep left) next = deep left
+  round t more other prefix times again true one two (past h k) next =
+      past (bind_past (λ x. put x.0 (repeat test read times x.1)) (length more) one h (λ x r l. after_one times x (length more) r l)) (bind_past (λ x. put x.0 (repeat test read again x.1)) (length other) two k (λ x r l. after_one again x (length other) r l))
+  round t more other prefix times again true one two (chosen n h b) next = chosen n (bind_fewer (λ x. put x.0 (repeat test read times x.1)) n one h (after_one times)) b
+  round t more other prefix times again true one two (opens left h k) next = opens left h k
 
-  repeat_agree : (times again : ℕ) (t : Meaning × Place) (more other front : Tokens) → length (front ++ t ∷ more) ≤ times → length (front ++ t ∷ other) ≤ again → Agree t more other (repeat test read times (front ++ t ∷ more)) (repeat test read again (front ++ t ∷ other))
+  repeat_agree : (times again : ℕ) (t : Meaning × Place) (more other prefix : Tokens) → length (prefix ++ t ∷ more) ≤ times → length (prefix ++ t ∷ other) ≤ again → Agree t more other (repeat test read times (prefix ++ t ∷ more)) (repeat test read again (prefix ++ t ∷ other))
   unfolding repeat
-  repeat_agree zero again t more other front h k = let e = filled t front more in absurd (omega arith)
-  repeat_agree (suc times) zero t more other front h k = let e = filled t front other in absurd (omega arith)
-  repeat_agree (suc times) (suc again) t more other front h k =
-      let s = front ++ t ∷ more in
-      let r = front ++ t ∷ other in
-      subst (λ b. Agree t more other (cond (test s) (read s >>= λ x. put x.0 (repeat test read times x.1)) (Ok ([], s))) (cond b (read r >>= λ x. put x.0 (repeat test read again x.1)) (Ok ([], r)))) (steady t more other front)
-      (round t more other front times again (test s) (read s) (read r) (law.keeps t more other front) (λ x next e d.
+  repeat_agree zero again t more other prefix h k = let e = filled t prefix more in absurd (omega arith)
+  repeat_agree (suc times) zero t more other prefix h k = let e = filled t prefix other in absurd (omega arith)
+  repeat_agree (suc times) (suc again) t more other prefix h k =
+      let s = prefix ++ t ∷ more in
+      let r = prefix ++ t ∷ other in
+      subst (λ b. Agree t more other (cond (test s) (read s >>= λ x. put x.0 (repeat test read times x.1)) (Ok ([], s))) (cond b (read r >>= λ x. put x.0 (repeat test read again x.1)) (Ok ([], r)))) (steady t more other prefix)
+      (round t more other prefix times again (test s) (read s) (read r) (law.keeps t more other prefix) (λ x next e d.
       let p : length (next ++ t ∷ more) < length s = shrinks s x (next ++ t ∷ more) e in
       let q : length (next ++ t ∷ other) < length r = shrinks r x (next ++ t ∷ other) d in
       repeat_agree times again t more other next (omega arith) (omega arith)))
 
-  round_clear : (t : Meaning × Place) (more : Tokens) (n times : ℕ) (one : Reading A) → Clear t more n one → ((front : Tokens) → Clear t more n (repeat test read times (front ++ t ∷ more))) → Clear t more n (one >>= λ x. put x.0 (repeat test read times x.1))
-  round_clear t more n times one (ends_before x front) next = put_clear x (next front)
-  round_clear t more n times one (cut_before front) next = cut_before front
+  round_clear : (t : Meaning × Place) (more : Tokens) (n times : ℕ) (one : ParseResult A) → Clear t more n one → ((prefix : Tokens) → Clear t more n (repeat test read times (prefix ++ t ∷ more))) → Clear t more n (one >>= λ x. put x.0 (repeat test read times x.1))
+  round_clear t more n times one (ends_before x prefix) next = put_clear x (next prefix)
+  round_clear t more n times one (cut_before prefix) next = cut_before prefix
   round_clear t more n times one (unexpected rest) next = unexpected rest
-  round_clear t more n times one (behind_it h) next = behind_it (bind_fewer (λ x. put x.0 (repeat test read times x.1)) n one h (behind_one times))
+  round_clear t more n times one (after_it h) next = after_it (bind_fewer (λ x. put x.0 (repeat test read times x.1)) n one h (after_one times))
 
-  repeat_clear : (times : ℕ) (t : Meaning × Place) (more : Tokens) (n : ℕ) → Inside t more n → (front : Tokens) → Clear t more n (repeat test read times (front ++ t ∷ more))
+  repeat_clear : (times : ℕ) (t : Meaning × Place) (more : Tokens) (n : ℕ) → Inside t more n → (prefix : Tokens) → Clear t more n (repeat test read times (prefix ++ t ∷ more))
   unfolding repeat
-  repeat_clear zero t more n i front = ends_before [] front
-  repeat_clear (suc times) t more n i front =
-      let s = front ++ t ∷ more in
-      cond_clear (test s) {one = read s >>= λ x. put x.0 (repeat test read times x.1)} {two = Ok ([], s)} (round_clear t more n times (read s) (law.clears t more n front i) (repeat_clear times t more n i)) (ends_before [] front)
+  repeat_clear zero t more n i prefix = ends_before [] prefix
+  repeat_clear (suc times) t more n i prefix =
+      let s = prefix ++ t ∷ more in
+      cond_clear (test s) {one = read s >>= λ x. put x.0 (repeat test read times x.1)} {two = Ok ([], s)} (round_clear t more n times (read s) (law.clears t more n prefix i) (repeat_clear times t more n i)) (ends_before [] prefix)
 
   pub loop_lawful : Lawful (loop test read)
   loop_lawful = record {
-    keeps = λ t more other front. repeat_agree (length (front ++ t ∷ more)) (length (front ++ t ∷ other)) t more other front (omega arith) (omega arith);
+    keeps = λ t more other prefix. repeat_agree (length (prefix ++ t ∷ more)) (length (prefix ++ t ∷ other)) t more other prefix (omega arith) (omega arith);
     stays = λ n s h. repeat_past (length s) n s h;
-    clears = λ t more n front i. repeat_clear (length (front ++ t ∷ more)) t more n i front;
+    clears = λ t more n prefix i. repeat_clear (length (prefix ++ t ∷ more)) t more n i prefix;
   }
 
-ok_no_err : {A : Type 0} (x : A × Tokens) (e : Halt) → ◌≡◌ {A = Reading A} (Ok x) (Err e) → ⊥
+ok_no_err : {A : Type 0} (x : A × Tokens) (e : Halt) → ◌≡◌ {A = ParseResult A} (Ok x) (Err e) → ⊥
 ok_no_err x e h = cc
 
-deep_no_unexpected : {A : Type 0} (s r : Tokens) → ◌≡◌ {A = Reading A} (Err (TooDeep s)) (Err (Unexpected r)) → ⊥
+deep_no_unexpected : {A : Type 0} (s r : Tokens) → ◌≡◌ {A = ParseResult A} (Err (TooDeep s)) (Err (Unexpected r)) → ⊥
 deep_no_unexpected s r h = cc
 
-unexpected_no_deep : {A : Type 0} (s r : Tokens) → ◌≡◌ {A = Reading A} (Err (Unexpected s)) (Err (TooDeep r)) → ⊥
+unexpected_no_deep : {A : Type 0} (s r : Tokens) → ◌≡◌ {A = ParseResult A} (Err (Unexpected s)) (Err (TooDeep r)) → ⊥
 unexpected_no_deep s r h = cc
 
-same_unexpected : {A : Type 0} (s r : Tokens) → ◌≡◌ {A = Reading A} (Err (Unexpected s)) (Err (Unexpected r)) → s ≡ r
+same_unexpected : {A : Type 0} (s r : Tokens) → ◌≡◌ {A = ParseResult A} (Err (Unexpected s)) (Err (Unexpected r)) → s ≡ r
 same_unexpected s r h = cc
 
-same_deep : {A : Type 0} (s r : Tokens) → ◌≡◌ {A = Reading A} (Err (TooDeep s)) (Err (TooDeep r)) → s ≡ r
+same_deep : {A : Type 0} (s r : Tokens) → ◌≡◌ {A = ParseResult A} (Err (TooDeep s)) (Err (TooDeep r)) → s ≡ r
 same_deep s r h = cc
 
 tails_same : (a b : Meaning × Place) (s r : Tokens) → ◌≡◌ {A = Tokens} (a ∷ s) (b ∷ r) → s ≡ r
@@ -400,36 +400,36 @@ tails_same a b s r h = cc
 heads_same : (a b : Meaning × Place) (s r : Tokens) → ◌≡◌ {A = Tokens} (a ∷ s) (b ∷ r) → a ≡ b
 heads_same a b s r h = cc
 
-longer : (t : Meaning × Place) (front more : Tokens) → length more < length (front ++ t ∷ more)
+longer : (t : Meaning × Place) (prefix more : Tokens) → length more < length (prefix ++ t ∷ more)
 longer t [] more = omega arith
-longer t (a ∷ front) more = let e : length more < length (front ++ t ∷ more) = longer t front more in omega arith
+longer t (a ∷ prefix) more = let e : length more < length (prefix ++ t ∷ more) = longer t prefix more in omega arith
 
--- what stands in front of the same end is the same
-same_front : (f g r : Tokens) → f ++ r ≡ g ++ r → f ≡ g
-same_front [] [] r h = refl
-same_front [] (b ∷ g) r h = let e : length r ≡ length (b ∷ g ++ r) = ap length h in let k = length-append g r in absurd (omega arith)
-same_front (a ∷ f) [] r h = let e : length (a ∷ f ++ r) ≡ length r = ap length h in let k = length-append f r in absurd (omega arith)
-same_front (a ∷ f) (b ∷ g) r h = both (heads_same a b (f ++ r) (g ++ r) h) (same_front f g r (tails_same a b (f ++ r) (g ++ r) h))
+-- what stands before the same end is the same
+same_prefix : (f g r : Tokens) → f ++ r ≡ g ++ r → f ≡ g
+same_prefix [] [] r h = refl
+same_prefix [] (b ∷ g) r h = let e : length r ≡ length (b ∷ g ++ r) = ap length h in let k = length-append g r in absurd (omega arith)
+same_prefix (a ∷ f) [] r h = let e : length (a ∷ f ++ r) ≡ length r = ap length h in let k = length-append f r in absurd (omega arith)
+same_prefix (a ∷ f) (b ∷ g) r h = both (heads_same a b (f ++ r) (g ++ r) h) (same_prefix f g r (tails_same a b (f ++ r) (g ++ r) h))
   where
     both : a ≡ b → f ≡ g → ◌≡◌ {A = Tokens} (a ∷ f) (b ∷ g)
     both h k = cc
 
-pub stops_alike : {A : Type 0} {one two : Reading A} (t : Meaning × Place) (more other : Tokens) → Agree t more other one two → one ≡ Err (Unexpected (t ∷ more)) → two ≡ Err (Unexpected (t ∷ other))
-stops_alike t more other (reads x front) h = absurd (ok_no_err (x, front ++ t ∷ more) (Unexpected (t ∷ more)) h)
-stops_alike t more other (stops front) h = ap (λ (f : Tokens). Err (Unexpected (f ++ t ∷ other))) (same_front front [] (t ∷ more) (same_unexpected (front ++ t ∷ more) (t ∷ more) h))
-stops_alike t more other (deep front) h = absurd (deep_no_unexpected (front ++ t ∷ more) (t ∷ more) h)
+pub stops_alike : {A : Type 0} {one two : ParseResult A} (t : Meaning × Place) (more other : Tokens) → Agree t more other one two → one ≡ Err (Unexpected (t ∷ more)) → two ≡ Err (Unexpected (t ∷ other))
+stops_alike t more other (reads x prefix) h = absurd (ok_no_err (x, prefix ++ t ∷ more) (Unexpected (t ∷ more)) h)
+stops_alike t more other (stops prefix) h = ap (λ (f : Tokens). Err (Unexpected (f ++ t ∷ other))) (same_prefix prefix [] (t ∷ more) (same_unexpected (prefix ++ t ∷ more) (t ∷ more) h))
+stops_alike t more other (deep prefix) h = absurd (deep_no_unexpected (prefix ++ t ∷ more) (t ∷ more) h)
 stops_alike {one} t more other (past l k) h = let e : length (t ∷ more) ≤ length more = subst (λ x. Past (length more) x) h l in absurd (omega arith)
 stops_alike {one} t more other (chosen n l b) h =
     let e : length (t ∷ more) < n = subst (λ x. Fewer n x) h l in
     let k : n ≤ length more = b [] more (inl refl) refl in
     absurd (omega arith)
-stops_alike t more other (opens front h k) e = absurd (deep_no_unexpected (front ++ t ∷ more) (t ∷ more) e)
+stops_alike t more other (opens prefix h k) e = absurd (deep_no_unexpected (prefix ++ t ∷ more) (t ∷ more) e)
 
--- where a token stands too deep, behind which `u` comes after what leaves open what it begins
-pub deep_alike : {A : Type 0} {one two : Reading A} (seen : Tokens) (t : Meaning × Place) (more other : Tokens) → Agree t more other one two → (is_vars (seen ++ t ∷ more) ≡ false → is_vars (seen ++ t ∷ other) ≡ true → ⊥) → one ≡ Err (TooDeep (seen ++ t ∷ more)) → two ≡ Err (TooDeep (seen ++ t ∷ other))
-deep_alike seen t more other (reads x front) same h = absurd (ok_no_err (x, front ++ t ∷ more) (TooDeep (seen ++ t ∷ more)) h)
-deep_alike seen t more other (stops front) same h = absurd (unexpected_no_deep (front ++ t ∷ more) (seen ++ t ∷ more) h)
-deep_alike seen t more other (deep front) same h = ap (λ (f : Tokens). Err (TooDeep (f ++ t ∷ other))) (same_front front seen (t ∷ more) (same_deep (front ++ t ∷ more) (seen ++ t ∷ more) h))
+-- where a token stands too deep, after which `u` comes after what leaves open what it begins
+pub deep_alike : {A : Type 0} {one two : ParseResult A} (seen : Tokens) (t : Meaning × Place) (more other : Tokens) → Agree t more other one two → (is_vars (seen ++ t ∷ more) ≡ false → is_vars (seen ++ t ∷ other) ≡ true → ⊥) → one ≡ Err (TooDeep (seen ++ t ∷ more)) → two ≡ Err (TooDeep (seen ++ t ∷ other))
+deep_alike seen t more other (reads x prefix) same h = absurd (ok_no_err (x, prefix ++ t ∷ more) (TooDeep (seen ++ t ∷ more)) h)
+deep_alike seen t more other (stops prefix) same h = absurd (unexpected_no_deep (prefix ++ t ∷ more) (seen ++ t ∷ more) h)
+deep_alike seen t more other (deep prefix) same h = ap (λ (f : Tokens). Err (TooDeep (f ++ t ∷ other))) (same_prefix prefix seen (t ∷ more) (same_deep (prefix ++ t ∷ more) (seen ++ t ∷ more) h))
 deep_alike {one} seen t more other (past l k) same h =
     let e : length (seen ++ t ∷ more) ≤ length more = subst (λ x. Past (length more) x) h l in
     let g : length more < length (seen ++ t ∷ more) = longer t seen more in
@@ -439,38 +439,38 @@ deep_alike {one} seen t more other (chosen n l b) same h =
     let k : n ≤ length more = b [] more (inl refl) refl in
     let g : length more < length (seen ++ t ∷ more) = longer t seen more in
     absurd (omega arith)
-deep_alike seen t more other (opens front v w) same h =
-    let e : front ≡ seen = same_front front seen (t ∷ more) (same_deep (front ++ t ∷ more) (seen ++ t ∷ more) h) in
+deep_alike seen t more other (opens prefix v w) same h =
+    let e : prefix ≡ seen = same_prefix prefix seen (t ∷ more) (same_deep (prefix ++ t ∷ more) (seen ++ t ∷ more) h) in
     absurd (same (subst (λ (f : Tokens). is_vars (f ++ t ∷ more) ≡ false) e v) (subst (λ (f : Tokens). is_vars (f ++ t ∷ other) ≡ true) e w))
 
 -- the tokens that are left where reading ends or stops
-left_in : {A : Type 0} → Reading A → Tokens
+left_in : {A : Type 0} → ParseResult A → Tokens
 left_in (Ok x) = x.1
 left_in (Err h) = left_at h
 
-left_of_err : {A : Type 0} (o : Reading A) (h : Halt) → o ≡ Err h → length (left_in o) ≡ length (left_at h)
+left_of_err : {A : Type 0} (o : ParseResult A) (h : Halt) → o ≡ Err h → length (left_in o) ≡ length (left_at h)
 unfolding left_in
 left_of_err o h e = ap (λ x. length (left_in x)) e
 
-fewer_left : {A : Type 0} (n : ℕ) (o : Reading A) → Fewer n o → length (left_in o) < n
+fewer_left : {A : Type 0} (n : ℕ) (o : ParseResult A) → Fewer n o → length (left_in o) < n
 unfolding left_in
 fewer_left n (Ok x) h = h
 fewer_left n (Err (Unexpected rest)) h = h
 fewer_left n (Err (TooDeep rest)) h = h
 
 -- where reading stops in the first at what follows what leaves open what `t` begins, `t` is not too deep in the second
-pub not_deep_beyond : {A : Type 0} {one two : Reading A} (t : Meaning × Place) (more other seen : Tokens) (halt : Halt) → LeavesOpen t seen → more ≡ seen ++ left_at halt → Agree t more other one two → one ≡ Err halt → two ≡ Err (TooDeep (t ∷ other)) → ⊥
+pub not_deep_beyond : {A : Type 0} {one two : ParseResult A} (t : Meaning × Place) (more other seen : Tokens) (halt : Halt) → LeavesOpen t seen → more ≡ seen ++ left_at halt → Agree t more other one two → one ≡ Err halt → two ≡ Err (TooDeep (t ∷ other)) → ⊥
 unfolding left_in
-not_deep_beyond {A} t more other seen halt leaves is (reads x front) h k = ok_no_err (x, front ++ t ∷ more) halt h
-not_deep_beyond {A} t more other seen halt leaves is (stops front) h k =
-    let e : length (front ++ t ∷ more) ≡ length (left_at halt) = left_of_err {A = A} (Err (Unexpected (front ++ t ∷ more))) halt h in
-    let l : length more < length (front ++ t ∷ more) = longer t front more in
+not_deep_beyond {A} t more other seen halt leaves is (reads x prefix) h k = ok_no_err (x, prefix ++ t ∷ more) halt h
+not_deep_beyond {A} t more other seen halt leaves is (stops prefix) h k =
+    let e : length (prefix ++ t ∷ more) ≡ length (left_at halt) = left_of_err {A = A} (Err (Unexpected (prefix ++ t ∷ more))) halt h in
+    let l : length more < length (prefix ++ t ∷ more) = longer t prefix more in
     let m : length more ≡ length (seen ++ left_at halt) = ap length is in
     let n = length-append seen (left_at halt) in
     absurd (omega arith)
-not_deep_beyond {A} t more other seen halt leaves is (deep front) h k =
-    let e : length (front ++ t ∷ more) ≡ length (left_at halt) = left_of_err {A = A} (Err (TooDeep (front ++ t ∷ more))) halt h in
-    let l : length more < length (front ++ t ∷ more) = longer t front more in
+not_deep_beyond {A} t more other seen halt leaves is (deep prefix) h k =
+    let e : length (prefix ++ t ∷ more) ≡ length (left_at halt) = left_of_err {A = A} (Err (TooDeep (prefix ++ t ∷ more))) halt h in
+    let l : length more < length (prefix ++ t ∷ more) = longer t prefix more in
     let m : length more ≡ length (seen ++ left_at halt) = ap length is in
     let n = length-append seen (left_at halt) in
     absurd (omega arith)
@@ -480,19 +480,19 @@ not_deep_beyond {A} {one} t more other seen halt leaves is (chosen n l b) h k =
     let f : length (left_in one) < n = fewer_left n one l in
     let g : n ≤ length (left_at halt) = b seen (left_at halt) leaves is in
     absurd (omega arith)
-not_deep_beyond {A} t more other seen halt leaves is (opens front v w) h k =
-    let e : length (front ++ t ∷ more) ≡ length (left_at halt) = left_of_err {A = A} (Err (TooDeep (front ++ t ∷ more))) halt h in
-    let l : length more < length (front ++ t ∷ more) = longer t front more in
+not_deep_beyond {A} t more other seen halt leaves is (opens prefix v w) h k =
+    let e : length (prefix ++ t ∷ more) ≡ length (left_at halt) = left_of_err {A = A} (Err (TooDeep (prefix ++ t ∷ more))) halt h in
+    let l : length more < length (prefix ++ t ∷ more) = longer t prefix more in
     let m : length more ≡ length (seen ++ left_at halt) = ap length is in
     let n = length-append seen (left_at halt) in
     absurd (omega arith)
 
 -- reading is not cut inside an array's `"<" elem ">"`
-pub not_cut_inside : {A : Type 0} {o : Reading A} (t : Meaning × Place) (more rest : Tokens) → length rest ≤ length more → Clear t more (length rest) o → o ≡ Err (TooDeep rest) → ⊥
-not_cut_inside t more rest l (ends_before x front) h = ok_no_err (x, front ++ t ∷ more) (TooDeep rest) h
-not_cut_inside {A} t more rest l (cut_before front) h =
-    let e : length (front ++ t ∷ more) ≡ length rest = ap length (same_deep {A = A} (front ++ t ∷ more) rest h) in
-    let k : length more < length (front ++ t ∷ more) = longer t front more in
+pub not_cut_inside : {A : Type 0} {o : ParseResult A} (t : Meaning × Place) (more rest : Tokens) → length rest ≤ length more → Clear t more (length rest) o → o ≡ Err (TooDeep rest) → ⊥
+not_cut_inside t more rest l (ends_before x prefix) h = ok_no_err (x, prefix ++ t ∷ more) (TooDeep rest) h
+not_cut_inside {A} t more rest l (cut_before prefix) h =
+    let e : length (prefix ++ t ∷ more) ≡ length rest = ap length (same_deep {A = A} (prefix ++ t ∷ more) rest h) in
+    let k : length more < length (prefix ++ t ∷ more) = longer t prefix more in
     absurd (omega arith)
 not_cut_inside {A} t more rest l (unexpected r) h = unexpected_no_deep {A = A} r rest h
-not_cut_inside {A} {o} t more rest l (behind_it f) h = let e : length rest < length rest = subst (λ x. Fewer (length rest) x) h f in absurd (omega arith)
+not_cut_inside {A} {o} t more rest l (after_it f) h = let e : length rest < length rest = subst (λ x. Fewer (length rest) x) h f in absurd (omega arith)

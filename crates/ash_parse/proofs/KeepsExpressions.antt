@@ -12,12 +12,12 @@ use Rattle.ash_tree.specs.Tree.{Element, Expr, Number, Truth, Null, This, Name, 
 use Rattle.ash_tree.specs.Tokens.{Tokens}
 use Rattle.ash_tree.specs.Operators.{primitive, unary_operator, binary_operator, level, LEVELS, assign_operator}
 use Rattle.ash_parse.specs.Signs.{is_sign}
-use Rattle.ash_parse.specs.Reading.{TooDeep, Reading, ◌>>=◌, next_is, next_is_sign}
+use Rattle.ash_parse.specs.Readers.{TooDeep, ParseResult, ◌>>=◌, next_is, next_is_sign}
 use Rattle.ash_parse.specs.ExpressionReader.{begins, limit_at, next_expr_with, more_exprs_with, exprs_with, arguments_with, bracketed_with, named_with, new_array_with, cast_with, primary_by, primary_with, begins_suffix, is_suffix, member_with, index_with, suffix_with, suffixes_with, postfix_with, unary_by, unary_with, operator_by, operator_at, is_link, link_from, link_by, links_by, chain_by, binary_with, branches_with, assign_by, assign_from, assign_with, below_at}
 use Rattle.ash_parse.specs.TypeReader.{element_at, target_at}
 use Rattle.ash_parse.proofs.ExpressionLoops.{next_expr_shrinks, suffix_shrinks, link_shrinks}
 use Rattle.ash_parse.proofs.Rereading.{no_some}
-use Rattle.ash_parse.proofs.Keeps.{Past, Lawful, ok_lawful, bind_past, bind_lawful, put_lawful, Steady, next_steady, sign_steady, if_lawful, IsNoArray, sign_no_array, Led, led_behind, led_array, led_from, led_stop, led_deep, led_if, led_lawful, expect_lawful, name_lawful, Takes, bind_takes, loop_lawful}
+use Rattle.ash_parse.proofs.Keeps.{Past, Lawful, ok_lawful, bind_past, bind_lawful, put_lawful, Steady, next_steady, sign_steady, if_lawful, IsNoArray, sign_no_array, Led, led_after, led_array, led_from, led_stop, led_deep, led_if, led_lawful, expect_lawful, name_lawful, Takes, bind_takes, loop_lawful}
 use Rattle.ash_parse.proofs.Choices.{element_lawful, Passed, name_passed, word_passed, array_passed}
 
 suffix_steady : Steady is_suffix
@@ -35,7 +35,7 @@ same_operator n (Some o) s r = same (level o == suc n)
 link_steady : (n : ℕ) → Steady (is_link n)
 unfolding is_link operator_at
 link_steady n (m, p) more other [] = same_operator n (binary_operator m) more other
-link_steady n t more other ((m, p) ∷ front) = same_operator n (binary_operator m) (front ++ t ∷ more) (front ++ t ∷ other)
+link_steady n t more other ((m, p) ∷ prefix) = same_operator n (binary_operator m) (prefix ++ t ∷ more) (prefix ++ t ∷ other)
 
 limit_lawful : Lawful limit_at
 unfolding limit_at
@@ -105,25 +105,25 @@ module _ (room : ℕ) (h : room ≤ 64) (deeper : (whole : Bool) → Lawful (bel
   unfolding cast_with
   cast_lawful p = bind_lawful _ target_lawful λ t. bind_lawful _ bracketed_lawful λ e. ok_lawful (Cast p t e)
 
-  -- what is behind an array's elements' type
-  behind_element_lawful : (p : Place) (of : Element) → Lawful (λ s. arguments_with (below_at room) s >>= λ es. Ok (NewArray p of (exprs es.0), es.1))
-  behind_element_lawful p of = bind_lawful _ arguments_lawful λ es. ok_lawful (NewArray p of (exprs es))
+  -- what is after an array's elements' type
+  after_element_lawful : (p : Place) (of : Element) → Lawful (λ s. arguments_with (below_at room) s >>= λ es. Ok (NewArray p of (exprs es.0), es.1))
+  after_element_lawful p of = bind_lawful _ arguments_lawful λ es. ok_lawful (NewArray p of (exprs es))
 
   new_array_led : (p : Place) → Led (reserved words.Array, p) (λ s. new_array_with (below_at room) p s)
   unfolding new_array_with
-  new_array_led p = led_array (λ of. arguments_with (below_at room) of.1 >>= λ es. Ok (NewArray p of.0 (exprs es.0), es.1)) element_lawful (behind_element_lawful p) p
+  new_array_led p = led_array (λ of. arguments_with (below_at room) of.1 >>= λ es. Ok (NewArray p of.0 (exprs es.0), es.1)) element_lawful (after_element_lawful p) p
 
   primary_led : (k : Option Primitive) (m : Meaning) (p : Place) → primitive m ≡ k → Led (m, p) (λ s. primary_by (below_at room) k m p s)
-  primary_led (Some k) m p g = led_behind (word_is_no_array m k g) (convert_lawful p k)
-  primary_led None (name text) p g = led_behind tt (named_lawful p text)
-  primary_led None (number n) p g = led_behind tt (ok_lawful (Number p n))
+  primary_led (Some k) m p g = led_after (word_is_no_array m k g) (convert_lawful p k)
+  primary_led None (name text) p g = led_after tt (named_lawful p text)
+  primary_led None (number n) p g = led_after tt (ok_lawful (Number p n))
   primary_led None (sign signs.OpenParenthesis) p g = led_from {read = λ s. bracketed_with (below_at room) s >>= λ e. Ok (Brackets p e.0, e.1)} (bind_lawful _ bracketed_lawful λ e. ok_lawful (Brackets p e))
-  primary_led None (reserved words.True) p g = led_behind tt (ok_lawful (Truth p true))
-  primary_led None (reserved words.False) p g = led_behind tt (ok_lawful (Truth p false))
-  primary_led None (reserved words.Null) p g = led_behind tt (ok_lawful (Null p))
-  primary_led None (reserved words.This) p g = led_behind tt (ok_lawful (This p))
+  primary_led None (reserved words.True) p g = led_after tt (ok_lawful (Truth p true))
+  primary_led None (reserved words.False) p g = led_after tt (ok_lawful (Truth p false))
+  primary_led None (reserved words.Null) p g = led_after tt (ok_lawful (Null p))
+  primary_led None (reserved words.This) p g = led_after tt (ok_lawful (This p))
   primary_led None (reserved words.Array) p g = new_array_led p
-  primary_led None (reserved words.Cast) p g = led_behind tt (cast_lawful p)
+  primary_led None (reserved words.Cast) p g = led_after tt (cast_lawful p)
   primary_led None m p g = led_stop
 
   primary_lawful : Lawful (primary_with (below_at room))
@@ -140,10 +140,10 @@ module _ (room : ℕ) (h : room ≤ 64) (deeper : (whole : Bool) → Lawful (bel
 
   suffix_led : (m : Meaning) (p : Place) → Led (m, p) (λ s. suffix_with (below_at room) ((m, p) ∷ s))
   unfolding suffix_with
-  suffix_led (sign signs.Dot) p = led_behind tt member_lawful
-  suffix_led (sign signs.OpenBracket) p = led_behind tt index_lawful
-  suffix_led (sign signs.Increment) p = led_behind tt (ok_lawful Increment)
-  suffix_led (sign signs.Decrement) p = led_behind tt (ok_lawful Decrement)
+  suffix_led (sign signs.Dot) p = led_after tt member_lawful
+  suffix_led (sign signs.OpenBracket) p = led_after tt index_lawful
+  suffix_led (sign signs.Increment) p = led_after tt (ok_lawful Increment)
+  suffix_led (sign signs.Decrement) p = led_after tt (ok_lawful Decrement)
   suffix_led m p = led_stop
 
   suffix_lawful : Lawful (suffix_with (below_at room))
@@ -154,27 +154,27 @@ module _ (room : ℕ) (h : room ≤ 64) (deeper : (whole : Bool) → Lawful (bel
   unfolding suffixes_with
   suffixes_lawful = loop_lawful is_suffix (suffix_with (below_at room)) (suffix_shrinks room h) suffix_steady suffix_lawful
 
-  behind_primary : (e : Expr) → Lawful (λ s. suffixes_with (below_at room) s >>= λ more. Ok (suffixed e more.0, more.1))
-  behind_primary e = bind_lawful _ suffixes_lawful λ more. ok_lawful (suffixed e more)
+  after_primary : (e : Expr) → Lawful (λ s. suffixes_with (below_at room) s >>= λ more. Ok (suffixed e more.0, more.1))
+  after_primary e = bind_lawful _ suffixes_lawful λ more. ok_lawful (suffixed e more)
 
   postfix_lawful : Lawful (postfix_with (below_at room))
   unfolding postfix_with
-  postfix_lawful = bind_lawful _ primary_lawful behind_primary
+  postfix_lawful = bind_lawful _ primary_lawful after_primary
 
   unary_led : (o : Option UnaryOp) (m : Meaning) (p : Place) → unary_operator m ≡ o → Led (m, p) (λ s. unary_by (below_at room) o m p s)
   unary_led None m p g = led_from postfix_lawful
-  unary_led (Some o) m p g = led_behind (unary_no_array m o g) (bind_lawful _ (deeper false) λ e. ok_lawful (Unary p o e))
+  unary_led (Some o) m p g = led_after (unary_no_array m o g) (bind_lawful _ (deeper false) λ e. ok_lawful (Unary p o e))
 
   pub unary_lawful : Lawful (unary_with (below_at room))
   unfolding unary_with
   unary_lawful = led_lawful (λ n. omega arith) (λ m p. unary_led (unary_operator m) m p refl)
 
-  link_led : (read : Tokens → Reading Expr) → Lawful read → (n : ℕ) (o : Option BinaryOp) (m : Meaning) (p : Place) → binary_operator m ≡ o → Led (m, p) (λ s. link_from read (operator_by n o s) ((m, p) ∷ s))
+  link_led : (read : Tokens → ParseResult Expr) → Lawful read → (n : ℕ) (o : Option BinaryOp) (m : Meaning) (p : Place) → binary_operator m ≡ o → Led (m, p) (λ s. link_from read (operator_by n o s) ((m, p) ∷ s))
   link_led read law n None m p g = led_stop
   link_led read law n (Some o) m p g = on_level (level o == suc n)
     where
       on_level : (b : Bool) → Led (m, p) (λ s. link_from read (cond b (Some (o, s)) None) ((m, p) ∷ s))
-      on_level true = led_behind (binary_no_array m o g) (bind_lawful _ law λ e. ok_lawful (record { operator = o; operand = e }))
+      on_level true = led_after (binary_no_array m o g) (bind_lawful _ law λ e. ok_lawful (record { operator = o; operand = e }))
       on_level false = led_stop
 
   link_lawful : (n : ℕ) → Lawful (binary_with (below_at room) n) → Lawful (link_by n (binary_with (below_at room) n))
@@ -185,12 +185,12 @@ module _ (room : ℕ) (h : room ≤ 64) (deeper : (whole : Bool) → Lawful (bel
   unfolding links_by
   links_lawful n law = loop_lawful (is_link n) (link_by n (binary_with (below_at room) n)) (link_shrinks room h n) (link_steady n) (link_lawful n law)
 
-  behind_operand : (n : ℕ) → Lawful (binary_with (below_at room) n) → (e : Expr) → Lawful (λ s. links_by n (binary_with (below_at room) n) s >>= λ more. Ok (chained e more.0, more.1))
-  behind_operand n law e = bind_lawful _ (links_lawful n law) λ more. ok_lawful (chained e more)
+  after_operand : (n : ℕ) → Lawful (binary_with (below_at room) n) → (e : Expr) → Lawful (λ s. links_by n (binary_with (below_at room) n) s >>= λ more. Ok (chained e more.0, more.1))
+  after_operand n law e = bind_lawful _ (links_lawful n law) λ more. ok_lawful (chained e more)
 
   chain_lawful : (n : ℕ) → Lawful (binary_with (below_at room) n) → Lawful (chain_by n (binary_with (below_at room) n))
   unfolding chain_by
-  chain_lawful n law = bind_lawful _ law (behind_operand n law)
+  chain_lawful n law = bind_lawful _ law (after_operand n law)
 
   binary_lawful : (n : ℕ) → Lawful (binary_with (below_at room) n)
   unfolding binary_with
@@ -203,11 +203,11 @@ module _ (room : ℕ) (h : room ≤ 64) (deeper : (whole : Bool) → Lawful (bel
 
   assign_led : (e : Expr) (o : Option AssignOp) (m : Meaning) (p : Place) → assign_operator m ≡ o → Led (m, p) (λ s. assign_by (below_at room) e o m p s)
   assign_led e None m p g = led_from (ok_lawful e)
-  assign_led e (Some o) m p g = led_behind (assign_no_array m o g) (bind_lawful _ (deeper true) λ v. ok_lawful (Assign (place_of e) e o v))
+  assign_led e (Some o) m p g = led_after (assign_no_array m o g) (bind_lawful _ (deeper true) λ v. ok_lawful (Assign (place_of e) e o v))
 
   assign_from_lawful : (e : Expr) → Lawful (assign_from (below_at room) e)
   unfolding assign_from
-  assign_from_lawful e = led_lawful (λ n. omega arith) (λ m p. led_if (is_sign signs.Question m) (λ q. led_behind (sign_no_array signs.Question m q) (branches_lawful e)) (assign_led e (assign_operator m) m p refl))
+  assign_from_lawful e = led_lawful (λ n. omega arith) (λ m p. led_if (is_sign signs.Question m) (λ q. led_after (sign_no_array signs.Question m q) (branches_lawful e)) (assign_led e (assign_operator m) m p refl))
 
   pub assign_lawful : Lawful (assign_with (below_at room))
   unfolding assign_with
@@ -221,11 +221,11 @@ module _ (room : ℕ) (h : room ≤ 64) (deeper : (whole : Bool) → Lawful (bel
       by_passed : (n : ℕ) (s : Tokens) → Passed n s → Past n (primary_with (below_at room) s)
       by_passed n _ (name_passed text p s l) = (named_lawful p text).stays n s l
       by_passed n _ (word_passed m p k s e l) = rw e ((convert_lawful p k).stays n s l)
-      by_passed n _ (array_passed p s l) = bind_past (λ of. arguments_with (below_at room) of.1 >>= λ es. Ok (NewArray p of.0 (exprs es.0), es.1)) n (element_at s) l (λ of r k. (behind_element_lawful p of).stays n r k)
+      by_passed n _ (array_passed p s l) = bind_past (λ of. arguments_with (below_at room) of.1 >>= λ es. Ok (NewArray p of.0 (exprs es.0), es.1)) n (element_at s) l (λ of r k. (after_element_lawful p of).stays n r k)
 
   postfix_takes : Takes Passed (postfix_with (below_at room))
   unfolding postfix_with
-  postfix_takes = bind_takes _ primary_takes behind_primary
+  postfix_takes = bind_takes _ primary_takes after_primary
 
   unary_takes : Takes Passed (unary_with (below_at room))
   unfolding unary_with unary_operator
@@ -239,7 +239,7 @@ module _ (room : ℕ) (h : room ≤ 64) (deeper : (whole : Bool) → Lawful (bel
   binary_takes : (level : ℕ) → Takes Passed (binary_with (below_at room) level)
   unfolding binary_with chain_by
   binary_takes zero = unary_takes
-  binary_takes (suc level) = bind_takes _ (binary_takes level) (behind_operand level (binary_lawful level))
+  binary_takes (suc level) = bind_takes _ (binary_takes level) (after_operand level (binary_lawful level))
 
   pub assign_takes : Takes Passed (assign_with (below_at room))
   unfolding assign_with
@@ -270,15 +270,15 @@ passed_begins n _ (word_passed m p k s e l) = word_begins m k e
 passed_begins n _ (array_passed p s l) = refl
 
 -- the reader takes what leaves it open, or is cut there
-pub record TakesOrCut {A : Type 0} (read : Tokens → Reading A) : Type 0 where
+pub record TakesOrCut {A : Type 0} (read : Tokens → ParseResult A) : Type 0 where
   pub taken : (n : ℕ) (s : Tokens) → Passed n s → Past n (read s) ⊎ (read s ≡ Err (TooDeep s))
 
-pub then_takes_or_cut : {A B : Type 0} {read : Tokens → Reading A} (f : A × Tokens → Reading B) → TakesOrCut read → ((x : A) → Lawful (λ s. f (x, s))) → TakesOrCut (λ s. read s >>= f)
+pub then_takes_or_cut : {A B : Type 0} {read : Tokens → ParseResult A} (f : A × Tokens → ParseResult B) → TakesOrCut read → ((x : A) → Lawful (λ s. f (x, s))) → TakesOrCut (λ s. read s >>= f)
 then_takes_or_cut {A} {B} {read} f takes next = record { taken = λ n s p. either n s (takes.taken n s p) }
   where
     either : (n : ℕ) (s : Tokens) → Past n (read s) ⊎ (read s ≡ Err (TooDeep s)) → Past n (read s >>= f) ⊎ ((read s >>= f) ≡ Err (TooDeep s))
     either n s (inl h) = inl (bind_past f n (read s) h (λ x r l. (next x).stays n r l))
-    either n s (inr e) = inr (ap (λ (o : Reading A). ◌>>=◌ {B = B} o f) e)
+    either n s (inr e) = inr (ap (λ (o : ParseResult A). ◌>>=◌ {B = B} o f) e)
 
 limit_takes : TakesOrCut limit_at
 unfolding limit_at

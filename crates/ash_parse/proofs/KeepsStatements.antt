@@ -13,14 +13,14 @@ use Rattle.ash_tree.specs.Operators.{primitive}
 use Rattle.ash_parse.specs.declared.statements.Leading.{Leading}
 use Rattle.ash_parse.specs.declared.statements.Leading.TheVariants as leads
 use Rattle.ash_parse.specs.Signs.{is_sign}
-use Rattle.ash_parse.specs.Reading.{Unexpected, TooDeep, Reading, ◌>>=◌, next_is, next_is_sign, expect_at}
+use Rattle.ash_parse.specs.Readers.{Unexpected, TooDeep, ParseResult, ◌>>=◌, next_is, next_is_sign, expect_at}
 use Rattle.ash_parse.specs.ExpressionReader.{begins, bracketed_with, below_at}
-use Rattle.ash_parse.specs.TypeReader.{is_array, element_at, behind_element}
+use Rattle.ash_parse.specs.TypeReader.{is_array, element_at, after_element}
 use Rattle.ash_parse.specs.StatementReader.{is_name, next_is_name, names_vars, array_names_vars, handle_by, type_by, type_at, is_vars, initializer_with, decl_with, next_decl_with, more_decls_with, decls_with, vars_with, declared_with, first_with, test_with, result_with, leading, begins_stmt, stmt_limit_at, is_end, ends_case, goes_on, case_goes_on, evaluate_with, is_else, else_with, if_with, while_with, is_while, while_at, do_with, for_with, number_at, case_value_at, label_by, label_at, stmts_with, case_with, cases_with, switch_with, local_with, locals_with, block_with, stmt_by, stmt_with, nested_at}
 use Rattle.ash_parse.proofs.StatementLoops.{next_decl_shrinks, nested_shrinks, local_shrinks, case_shrinks}
 use Rattle.ash_parse.proofs.Rereading.{no_some, no_true}
-use Rattle.ash_parse.proofs.Keeps.{differs_off, Past, Fewer, past_fewer, bind_past, bind_fewer, First, first, name_takes, Agree, past, chosen, opens, Lawful, ok_lawful, bind_lawful, put_lawful, Steady, next_steady, sign_steady, Crosses, choice_lawful, if_lawful, IsNoArray, Led, led_behind, led_array, led_from, led_stop, led_deep, led_if, led_lawful, expect_lawful, name_lawful, Takes, bind_takes, loop_lawful}
-use Rattle.ash_parse.proofs.Choices.{element_lawful, left_of, passed_is_read, Passed, name_passed, word_passed, array_passed, or_none, behind_open, differ_passed, differ_beyond, word_no_array}
+use Rattle.ash_parse.proofs.Keeps.{differs_off, Past, Fewer, past_fewer, bind_past, bind_fewer, First, first, name_takes, Agree, past, chosen, opens, Lawful, ok_lawful, bind_lawful, put_lawful, Steady, next_steady, sign_steady, Crosses, choice_lawful, if_lawful, IsNoArray, Led, led_after, led_array, led_from, led_stop, led_deep, led_if, led_lawful, expect_lawful, name_lawful, Takes, bind_takes, loop_lawful}
+use Rattle.ash_parse.proofs.Choices.{element_lawful, left_of, passed_is_read, Passed, name_passed, word_passed, array_passed, or_none, after_open, differ_passed, differ_beyond, word_no_array}
 use Rattle.ash_parse.proofs.KeepsExpressions.{word_is_no_array, passed_begins, TakesOrCut, then_takes_or_cut, exprs_lawful, arguments_lawful, bracketed_lawful, assign_lawful, assign_takes, below_lawful, below_takes}
 
 pub goes_on_steady : Steady goes_on
@@ -38,8 +38,8 @@ handle_lawful : (p : Place) (t : List ℕ) → Lawful (λ s. cond (next_is_sign 
 handle_lawful p t = handle_by_lawful (Object p t) (Handle p t)
 
 type_led : (k : Option Primitive) (m : Meaning) (p : Place) → primitive m ≡ k → Led (m, p) (λ s. type_by k m p s)
-type_led (Some k) m p g = led_behind (word_is_no_array m k g) (ok_lawful (Prim p k))
-type_led None (name t) p g = led_behind tt (handle_lawful p t)
+type_led (Some k) m p g = led_after (word_is_no_array m k g) (ok_lawful (Prim p k))
+type_led None (name t) p g = led_after tt (handle_lawful p t)
 type_led None (reserved words.Array) p g = led_array (λ e. handle_by (Array p e.0) (ArrayHandle p e.0) e.1) element_lawful (λ e. handle_by_lawful (Array p e) (ArrayHandle p e)) p
 type_led None m p g = led_stop
 
@@ -64,23 +64,23 @@ name_is (sign n) Q h go = absurd (no_true h)
 name_is (reserved n) Q h go = absurd (no_true h)
 name_is (unsupported n) Q h go = absurd (no_true h)
 
--- the reader takes what leaves open whether a declaration of variables begins, and, where one does, what tells it
-pub record TakesVars {A : Type 0} (read : Tokens → Reading A) : Type 0 where
+-- the reader takes what leaves open whether a declaration of variables begins, and, where one does, what reports it
+pub record TakesVars {A : Type 0} (read : Tokens → ParseResult A) : Type 0 where
   pub takes : Takes Passed read
-  pub chooses : (s : Tokens) → is_vars s ≡ true → Fewer (length (behind_open s)) (read s)
+  pub chooses : (s : Tokens) → is_vars s ≡ true → Fewer (length (after_open s)) (read s)
 
-vars_then : {A B : Type 0} {read : Tokens → Reading A} (f : A × Tokens → Reading B) → TakesVars read → ((x : A) → Lawful (λ s. f (x, s))) → TakesVars (λ s. read s >>= f)
+vars_then : {A B : Type 0} {read : Tokens → ParseResult A} (f : A × Tokens → ParseResult B) → TakesVars read → ((x : A) → Lawful (λ s. f (x, s))) → TakesVars (λ s. read s >>= f)
 vars_then {read} f u next = record {
   takes = bind_takes f u.takes next;
-  chooses = λ s v. bind_fewer f (length (behind_open s)) (read s) (u.chooses s v) (λ x k r l. (next x).stays k r l);
+  chooses = λ s v. bind_fewer f (length (after_open s)) (read s) (u.chooses s v) (λ x k r l. (next x).stays k r l);
 }
 
 only_name : (b : Bool) → cond b true false ≡ true → b ≡ true
 only_name true h = refl
 only_name false h = h
 
--- what reads behind a type takes the name there
-module _ {B : Type 0} (f : Named × Tokens → Reading B) (law : (t : Named) → Lawful (λ s. f (t, s))) (takes : (t : Named) (text : List ℕ) (p : Place) → Takes (First (name text, p)) (λ s. f (t, s))) where
+-- what reads after a type takes the name there
+module _ {B : Type 0} (f : Named × Tokens → ParseResult B) (law : (t : Named) → Lawful (λ s. f (t, s))) (takes : (t : Named) (text : List ℕ) (p : Place) → Takes (First (name text, p)) (λ s. f (t, s))) where
   name_fewer : (t : Named) (n : Meaning) (q : Place) (s : Tokens) → is_name n ≡ true → Fewer (suc (length s)) (f (t, (n, q) ∷ s))
   name_fewer t n q s h =
       past_fewer (length s) (suc (length s)) (f (t, (n, q) ∷ s)) (omega arith)
@@ -100,16 +100,16 @@ module _ {B : Type 0} (f : Named × Tokens → Reading B) (law : (t : Named) →
   handle_fewer plain handled [] h = absurd (no_true h)
   handle_fewer plain handled ((n, q) ∷ s) h = sign_fewer (is_sign signs.Handle n) plain handled n q s h
 
-  element_fewer : (p : Place) (o : Reading Element) → array_names_vars (left_of o) ≡ true → Fewer (length (or_none (left_of o))) ((o >>= λ e. handle_by (Array p e.0) (ArrayHandle p e.0) e.1) >>= f)
+  element_fewer : (p : Place) (o : ParseResult Element) → array_names_vars (left_of o) ≡ true → Fewer (length (or_none (left_of o))) ((o >>= λ e. handle_by (Array p e.0) (ArrayHandle p e.0) e.1) >>= f)
   element_fewer p (Ok e) h = handle_fewer (Array p e.0) (ArrayHandle p e.0) e.1 h
   element_fewer p (Err e) h = absurd (no_true h)
 
-  array_fewer : (p : Place) (s : Tokens) → array_names_vars (behind_element s) ≡ true → Fewer (length (or_none (behind_element s))) ((element_at s >>= λ e. handle_by (Array p e.0) (ArrayHandle p e.0) e.1) >>= f)
+  array_fewer : (p : Place) (s : Tokens) → array_names_vars (after_element s) ≡ true → Fewer (length (or_none (after_element s))) ((element_at s >>= λ e. handle_by (Array p e.0) (ArrayHandle p e.0) e.1) >>= f)
   array_fewer p s =
       subst (λ (b : Option Tokens). array_names_vars b ≡ true → Fewer (length (or_none b)) ((element_at s >>= λ e. handle_by (Array p e.0) (ArrayHandle p e.0) e.1) >>= f)) (sym (passed_is_read s)) (element_fewer p (element_at s))
 
-  type_fewer : (k : Option Primitive) (m : Meaning) (p : Place) (s : Tokens) → primitive m ≡ k → cond (is_some k) (next_is_name s) (cond (is_name m) (names_vars s) (cond (is_array m) (array_names_vars (behind_element s)) false)) ≡ true → Fewer (length (behind_open ((m, p) ∷ s))) (type_by k m p s >>= f)
-  unfolding is_name is_array behind_open
+  type_fewer : (k : Option Primitive) (m : Meaning) (p : Place) (s : Tokens) → primitive m ≡ k → cond (is_some k) (next_is_name s) (cond (is_name m) (names_vars s) (cond (is_array m) (array_names_vars (after_element s)) false)) ≡ true → Fewer (length (after_open ((m, p) ∷ s))) (type_by k m p s >>= f)
+  unfolding is_name is_array after_open
   type_fewer (Some k) m p s g h = rw (word_no_array m k g) (named_fewer (Prim p k) s h)
   type_fewer None (name text) p s g h = handle_fewer (Object p text) (Handle p text) s h
   type_fewer None (number x) p s g h = absurd (no_true h)
@@ -118,25 +118,25 @@ module _ {B : Type 0} (f : Named × Tokens → Reading B) (law : (t : Named) →
   type_fewer None (reserved x) p s g h = absurd (no_true h)
   type_fewer None (unsupported x) p s g h = absurd (no_true h)
 
-  type_chooses : (s : Tokens) → is_vars s ≡ true → Fewer (length (behind_open s)) (type_at s >>= f)
+  type_chooses : (s : Tokens) → is_vars s ≡ true → Fewer (length (after_open s)) (type_at s >>= f)
   unfolding is_vars type_at
   type_chooses [] h = absurd (no_true h)
   type_chooses ((m, p) ∷ s) h = type_fewer (primitive m) m p s refl h
 
-  behind_type_takes : TakesVars (λ s. type_at s >>= f)
-  behind_type_takes = record { takes = bind_takes f type_takes law; chooses = type_chooses }
+  after_type_takes : TakesVars (λ s. type_at s >>= f)
+  after_type_takes = record { takes = bind_takes f type_takes law; chooses = type_chooses }
 
-pub vars_crosses : {A : Type 0} {on off : Tokens → Reading A} → TakesVars on → TakesOrCut off → Crosses is_vars on off
-vars_crosses {A} {on} {off} u v t more other front =
-    let s = front ++ t ∷ more in
-    let r = front ++ t ∷ other in (
-      λ h k. chosen (length (behind_open s)) (u.chooses s h) (differ_beyond t more other front h k),
-      λ h k. by_off h k (v.taken (length more) s (differ_passed t more other front (differs_off (is_vars s) (is_vars r) h k))),
+pub vars_crosses : {A : Type 0} {on off : Tokens → ParseResult A} → TakesVars on → TakesOrCut off → Crosses is_vars on off
+vars_crosses {A} {on} {off} u v t more other prefix =
+    let s = prefix ++ t ∷ more in
+    let r = prefix ++ t ∷ other in (
+      λ h k. chosen (length (after_open s)) (u.chooses s h) (differ_beyond t more other prefix h k),
+      λ h k. by_off h k (v.taken (length more) s (differ_passed t more other prefix (differs_off (is_vars s) (is_vars r) h k))),
     )
   where
-    by_off : is_vars (front ++ t ∷ more) ≡ false → is_vars (front ++ t ∷ other) ≡ true → Past (length more) (off (front ++ t ∷ more)) ⊎ (off (front ++ t ∷ more) ≡ Err (TooDeep (front ++ t ∷ more))) → Agree t more other (off (front ++ t ∷ more)) (on (front ++ t ∷ other))
-    by_off h k (inl p) = past p (u.takes.taken (length other) (front ++ t ∷ other) (differ_passed t other more front (λ e. differs_off (is_vars (front ++ t ∷ more)) (is_vars (front ++ t ∷ other)) h k (sym e))))
-    by_off h k (inr e) = subst (λ x. Agree t more other x (on (front ++ t ∷ other))) (sym e) (opens front h k)
+    by_off : is_vars (prefix ++ t ∷ more) ≡ false → is_vars (prefix ++ t ∷ other) ≡ true → Past (length more) (off (prefix ++ t ∷ more)) ⊎ (off (prefix ++ t ∷ more) ≡ Err (TooDeep (prefix ++ t ∷ more))) → Agree t more other (off (prefix ++ t ∷ more)) (on (prefix ++ t ∷ other))
+    by_off h k (inl p) = past p (u.takes.taken (length other) (prefix ++ t ∷ other) (differ_passed t other more prefix (λ e. differs_off (is_vars (prefix ++ t ∷ more)) (is_vars (prefix ++ t ∷ other)) h k (sym e))))
+    by_off h k (inr e) = subst (λ x. Agree t more other x (on (prefix ++ t ∷ other))) (sym e) (opens prefix h k)
 
 module _ (room : ℕ) (h : room ≤ 64) where
   pub initializer_lawful : Lawful (initializer_with (below_at room))
@@ -161,19 +161,19 @@ module _ (room : ℕ) (h : room ≤ 64) where
   unfolding decls_with
   decls_lawful = bind_lawful _ decl_lawful λ d. put_lawful d more_decls_lawful
 
-  behind_type : (t : Named) → Lawful {A = Vars} (λ s. decls_with (below_at room) s >>= λ ds. Ok (record { of = t; decls = ds.0 }, ds.1))
-  behind_type t = bind_lawful _ decls_lawful λ ds. ok_lawful (record { of = t; decls = ds })
+  after_type : (t : Named) → Lawful {A = Vars} (λ s. decls_with (below_at room) s >>= λ ds. Ok (record { of = t; decls = ds.0 }, ds.1))
+  after_type t = bind_lawful _ decls_lawful λ ds. ok_lawful (record { of = t; decls = ds })
 
   vars_lawful : Lawful (vars_with (below_at room))
   unfolding vars_with
-  vars_lawful = bind_lawful _ type_lawful behind_type
+  vars_lawful = bind_lawful _ type_lawful after_type
 
-  behind_vars : (v : Vars) → Lawful (λ s. expect_at signs.Semicolon s >>= λ o. Ok (v, o.1))
-  behind_vars v = bind_lawful _ (expect_lawful signs.Semicolon) λ o. ok_lawful v
+  after_vars : (v : Vars) → Lawful (λ s. expect_at signs.Semicolon s >>= λ o. Ok (v, o.1))
+  after_vars v = bind_lawful _ (expect_lawful signs.Semicolon) λ o. ok_lawful v
 
   pub declared_lawful : Lawful (declared_with (below_at room))
   unfolding declared_with
-  declared_lawful = bind_lawful _ vars_lawful behind_vars
+  declared_lawful = bind_lawful _ vars_lawful after_vars
 
   declare_lawful : Lawful (λ s. declared_with (below_at room) s >>= λ v. Ok (Declare (place_of_type (v.0).of) v.0, v.1))
   declare_lawful = bind_lawful _ declared_lawful λ v. ok_lawful (Declare (place_of_type v.of) v)
@@ -184,45 +184,45 @@ module _ (room : ℕ) (h : room ≤ 64) where
 
   vars_takes : TakesVars (vars_with (below_at room))
   unfolding vars_with
-  vars_takes = behind_type_takes (λ t. decls_with (below_at room) t.1 >>= λ ds. Ok (record { of = t.0; decls = ds.0 }, ds.1)) behind_type (λ t text p. bind_takes _ (decls_takes text p) (λ ds. ok_lawful (record { of = t; decls = ds })))
+  vars_takes = after_type_takes (λ t. decls_with (below_at room) t.1 >>= λ ds. Ok (record { of = t.0; decls = ds.0 }, ds.1)) after_type (λ t text p. bind_takes _ (decls_takes text p) (λ ds. ok_lawful (record { of = t; decls = ds })))
 
   declared_takes : TakesVars (declared_with (below_at room))
   unfolding declared_with
-  declared_takes = vars_then (λ v. expect_at signs.Semicolon v.1 >>= λ s. Ok (v.0, s.1)) vars_takes behind_vars
+  declared_takes = vars_then (λ v. expect_at signs.Semicolon v.1 >>= λ s. Ok (v.0, s.1)) vars_takes after_vars
 
   declare_takes : TakesVars (λ s. declared_with (below_at room) s >>= λ v. Ok (Declare (place_of_type (v.0).of) v.0, v.1))
   declare_takes = vars_then (λ v. Ok (Declare (place_of_type (v.0).of) v.0, v.1)) declared_takes (λ v. ok_lawful (Declare (place_of_type v.of) v))
 
-  behind_tested : (e : Expr) → Lawful (λ s. expect_at signs.Semicolon s >>= λ o. Ok (Some e, o.1))
-  behind_tested e = bind_lawful _ (expect_lawful signs.Semicolon) λ o. ok_lawful (Some e)
+  after_tested : (e : Expr) → Lawful (λ s. expect_at signs.Semicolon s >>= λ o. Ok (Some e, o.1))
+  after_tested e = bind_lawful _ (expect_lawful signs.Semicolon) λ o. ok_lawful (Some e)
 
-  behind_evaluated : (e : Expr) → Lawful (λ s. expect_at signs.Semicolon s >>= λ o. Ok (Evaluate (place_of e) e, o.1))
-  behind_evaluated e = bind_lawful _ (expect_lawful signs.Semicolon) λ o. ok_lawful (Evaluate (place_of e) e)
+  after_evaluated : (e : Expr) → Lawful (λ s. expect_at signs.Semicolon s >>= λ o. Ok (Evaluate (place_of e) e, o.1))
+  after_evaluated e = bind_lawful _ (expect_lawful signs.Semicolon) λ o. ok_lawful (Evaluate (place_of e) e)
 
   evaluated_takes : TakesOrCut (λ s. below_at room true s >>= λ e. expect_at signs.Semicolon e.1 >>= λ o. Ok (Evaluate (place_of e.0) e.0, o.1))
-  evaluated_takes = then_takes_or_cut _ (below_takes room h) behind_evaluated
+  evaluated_takes = then_takes_or_cut _ (below_takes room h) after_evaluated
 
   first_lawful : Lawful (first_with (below_at room))
   unfolding first_with
   first_lawful =
       if_lawful _ (sign_steady signs.Semicolon) (bind_lawful _ (expect_lawful signs.Semicolon) λ s. ok_lawful (Empty s))
-      (choice_lawful _ (vars_crosses declare_takes evaluated_takes) declare_lawful (bind_lawful _ (below_lawful room h true) behind_evaluated))
+      (choice_lawful _ (vars_crosses declare_takes evaluated_takes) declare_lawful (bind_lawful _ (below_lawful room h true) after_evaluated))
 
   test_lawful : Lawful (test_with (below_at room))
   unfolding test_with
-  test_lawful = if_lawful _ (sign_steady signs.Semicolon) (bind_lawful _ (expect_lawful signs.Semicolon) λ s. ok_lawful None) (bind_lawful _ (below_lawful room h true) behind_tested)
+  test_lawful = if_lawful _ (sign_steady signs.Semicolon) (bind_lawful _ (expect_lawful signs.Semicolon) λ s. ok_lawful None) (bind_lawful _ (below_lawful room h true) after_tested)
 
   result_lawful : Lawful (result_with (below_at room))
   unfolding result_with
-  result_lawful = if_lawful _ (sign_steady signs.Semicolon) (bind_lawful _ (expect_lawful signs.Semicolon) λ s. ok_lawful None) (bind_lawful _ (assign_lawful room h (below_lawful room h)) behind_tested)
+  result_lawful = if_lawful _ (sign_steady signs.Semicolon) (bind_lawful _ (expect_lawful signs.Semicolon) λ s. ok_lawful None) (bind_lawful _ (assign_lawful room h (below_lawful room h)) after_tested)
 
   evaluate_lawful : Lawful (evaluate_with (below_at room))
   unfolding evaluate_with
-  evaluate_lawful = bind_lawful _ (assign_lawful room h (below_lawful room h)) behind_evaluated
+  evaluate_lawful = bind_lawful _ (assign_lawful room h (below_lawful room h)) after_evaluated
 
   evaluate_takes : Takes Passed (evaluate_with (below_at room))
   unfolding evaluate_with
-  evaluate_takes = bind_takes _ (assign_takes room h (below_lawful room h)) behind_evaluated
+  evaluate_takes = bind_takes _ (assign_takes room h (below_lawful room h)) after_evaluated
 
 word_leads : (m : Meaning) (k : Primitive) → primitive m ≡ Some k → leading m ≡ leads.Other
 unfolding primitive leading
@@ -285,11 +285,11 @@ nested_takes (suc room) h = record { taken = λ n s p. inl (by_passed n s p) }
 
 while_at_lawful : Lawful while_at
 unfolding while_at
-while_at_lawful = led_lawful (λ n. omega arith) (λ m p. led_if (is_while (leading m)) (λ e. led_behind (while_no_array m e) (ok_lawful p)) led_stop)
+while_at_lawful = led_lawful (λ n. omega arith) (λ m p. led_if (is_while (leading m)) (λ e. led_after (while_no_array m e) (ok_lawful p)) led_stop)
 
 number_led : (m : Meaning) (p : Place) → Led (m, p) (λ s. number_at ((m, p) ∷ s))
 unfolding number_at
-number_led (number n) p = led_behind tt (ok_lawful (n, p))
+number_led (number n) p = led_after tt (ok_lawful (n, p))
 number_led m p = led_stop
 
 number_lawful : Lawful number_at
@@ -303,8 +303,8 @@ case_value_lawful =
     (bind_lawful _ number_lawful λ n. bind_lawful _ (expect_lawful signs.Colon) λ c. ok_lawful (labels.Case n.0, n.1))
 
 label_led : (k : Leading) (m : Meaning) (p : Place) → leading m ≡ k → Led (m, p) (λ s. label_by k m p s)
-label_led leads.Case m p g = led_behind (leads_no_array leads.Case m g refl) case_value_lawful
-label_led leads.Default m p g = led_behind (leads_no_array leads.Default m g refl) (bind_lawful _ (expect_lawful signs.Colon) λ c. ok_lawful (labels.Default, p))
+label_led leads.Case m p g = led_after (leads_no_array leads.Case m g refl) case_value_lawful
+label_led leads.Default m p g = led_after (leads_no_array leads.Default m g refl) (bind_lawful _ (expect_lawful signs.Colon) λ c. ok_lawful (labels.Default, p))
 label_led k m p g = led_stop
 
 label_lawful : Lawful label_at
@@ -317,7 +317,7 @@ module _ (room : ℕ) (h : room ≤ 64) (nested : Lawful (nested_at room)) where
 
   else_lawful : (p : Place) (c : Expr) (s : Stmt) → Lawful (else_with (nested_at room) p c s)
   unfolding else_with
-  else_lawful p c s = led_lawful (λ n. omega arith) (λ m o. led_if (is_else (leading m)) (λ e. led_behind (else_no_array m e) (bind_lawful _ nested λ t. ok_lawful (IfElse p c s t))) (led_from (ok_lawful (If p c s))))
+  else_lawful p c s = led_lawful (λ n. omega arith) (λ m o. led_if (is_else (leading m)) (λ e. led_after (else_no_array m e) (bind_lawful _ nested λ t. ok_lawful (IfElse p c s t))) (led_from (ok_lawful (If p c s))))
 
   if_stmt_lawful : (p : Place) → Lawful (if_with (below_at room) (nested_at room) p)
   unfolding if_with
@@ -367,15 +367,15 @@ module _ (room : ℕ) (h : room ≤ 64) (nested : Lawful (nested_at room)) where
 
   stmt_led : (k : Leading) (m : Meaning) (p : Place) → leading m ≡ k → Led (m, p) (λ s. stmt_by k (below_at room) (nested_at room) m p s)
   stmt_led leads.Block m p g = led_from {read = λ s. block_with (below_at room) (nested_at room) s >>= λ b. Ok (Block p (stmts b.0), b.1)} (bind_lawful _ block_lawful λ b. ok_lawful (Block p (stmts b)))
-  stmt_led leads.Empty m p g = led_behind (leads_no_array leads.Empty m g refl) (ok_lawful (Empty p))
-  stmt_led leads.If m p g = led_behind (leads_no_array leads.If m g refl) (if_stmt_lawful p)
-  stmt_led leads.While m p g = led_behind (leads_no_array leads.While m g refl) (while_lawful p)
-  stmt_led leads.Do m p g = led_behind (leads_no_array leads.Do m g refl) (do_lawful p)
-  stmt_led leads.For m p g = led_behind (leads_no_array leads.For m g refl) (for_lawful p)
-  stmt_led leads.Switch m p g = led_behind (leads_no_array leads.Switch m g refl) (switch_lawful p)
-  stmt_led leads.Break m p g = led_behind (leads_no_array leads.Break m g refl) (bind_lawful _ (expect_lawful signs.Semicolon) λ s. ok_lawful (Break p))
-  stmt_led leads.Continue m p g = led_behind (leads_no_array leads.Continue m g refl) (bind_lawful _ (expect_lawful signs.Semicolon) λ s. ok_lawful (Continue p))
-  stmt_led leads.Return m p g = led_behind (leads_no_array leads.Return m g refl) (bind_lawful _ (result_lawful room h) λ e. ok_lawful (Return p e))
+  stmt_led leads.Empty m p g = led_after (leads_no_array leads.Empty m g refl) (ok_lawful (Empty p))
+  stmt_led leads.If m p g = led_after (leads_no_array leads.If m g refl) (if_stmt_lawful p)
+  stmt_led leads.While m p g = led_after (leads_no_array leads.While m g refl) (while_lawful p)
+  stmt_led leads.Do m p g = led_after (leads_no_array leads.Do m g refl) (do_lawful p)
+  stmt_led leads.For m p g = led_after (leads_no_array leads.For m g refl) (for_lawful p)
+  stmt_led leads.Switch m p g = led_after (leads_no_array leads.Switch m g refl) (switch_lawful p)
+  stmt_led leads.Break m p g = led_after (leads_no_array leads.Break m g refl) (bind_lawful _ (expect_lawful signs.Semicolon) λ s. ok_lawful (Break p))
+  stmt_led leads.Continue m p g = led_after (leads_no_array leads.Continue m g refl) (bind_lawful _ (expect_lawful signs.Semicolon) λ s. ok_lawful (Continue p))
+  stmt_led leads.Return m p g = led_after (leads_no_array leads.Return m g refl) (bind_lawful _ (result_lawful room h) λ e. ok_lawful (Return p e))
   stmt_led leads.Other m p g = led_from (evaluate_lawful room h)
   stmt_led k m p g = led_stop
 

@@ -12,12 +12,12 @@ pub mod StatementSound
 pub mod StatementLoops
 pub mod ItemSound
 pub mod ItemShorter
-pub mod Told
+pub mod Reported
 pub mod Rereading
 pub mod ExpressionComplete
 pub mod VarsComplete
 pub mod StatementComplete
-pub mod ItemHeads
+pub mod ItemBeginnings
 pub mod ItemComplete
 pub mod WholeModules
 pub mod BeginLaws

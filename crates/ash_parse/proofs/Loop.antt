@@ -1,34 +1,34 @@
--- Reading again and again, as a loop does.
+-- ParseResult again and again, as a loop does.
 use Rattle.std.proofs.Common.{◌≡◌, ℕ, zero, suc, ◌≤◌, ◌<◌, List, [], ◌∷◌, ◌++◌, length, Bool, true, false, cond, Ok, Err, refl, sym, ap, ◌∙◌, append_assoc, arith, map}
 use Rattle.std.proofs.lemmas.List.{append-nil, map-append}
 use Rattle.ash_tree.specs.Tokens.{Tokens, tokens_of}
-use Rattle.ash_parse.specs.declared.stop.Stop.{Stop}
-use Rattle.ash_parse.specs.declared.stop.Stop.TheVariants as stops
-use Rattle.ash_parse.specs.Reading.{Halt, Reading, ◌>>=◌, Fails, put, repeat, loop, Unexpected, TooDeep}
+use Rattle.ash_parse.specs.declared.error.ParseError.{ParseError}
+use Rattle.ash_parse.specs.declared.error.ParseError.TheVariants as stops
+use Rattle.ash_parse.specs.Readers.{Halt, ParseResult, ◌>>=◌, Fails, put, repeat, loop, Unexpected, TooDeep}
 
 -- what is read takes a token at least
-abbrev pub Shrinks : {A : Type 0} → (Tokens → Reading A) → Type 0
+abbrev pub Shrinks : {A : Type 0} → (Tokens → ParseResult A) → Type 0
 Shrinks {A} read = (ts : Tokens) (x : A) (rest : Tokens) → read ts ≡ Ok (x, rest) → length rest < length ts
 
 -- what was read before, and what is still read
-abbrev pub with_front : {A : Type 0} → List A → Reading (List A) → Reading (List A)
-with_front front (Ok y) = Ok (front ++ y.0, y.1)
-with_front front (Err e) = Err e
+abbrev pub with_prefix : {A : Type 0} → List A → ParseResult (List A) → ParseResult (List A)
+with_prefix prefix (Ok y) = Ok (prefix ++ y.0, y.1)
+with_prefix prefix (Err e) = Err e
 
-regroup : {A : Type 0} (front : List A) (x : A) (read : Reading (List A)) → with_front front (put x read) ≡ with_front (front ++ x ∷ []) read
-regroup {A} front x (Ok y) = ap (λ (xs : List A). Ok (xs, y.1)) (simp append_assoc)
-regroup front x (Err e) = refl
+regroup : {A : Type 0} (prefix : List A) (x : A) (read : ParseResult (List A)) → with_prefix prefix (put x read) ≡ with_prefix (prefix ++ x ∷ []) read
+regroup {A} prefix x (Ok y) = ap (λ (xs : List A). Ok (xs, y.1)) (simp append_assoc)
+regroup prefix x (Err e) = refl
 
-pub starts : {A : Type 0} (read : Reading (List A)) → with_front [] read ≡ read
+pub starts : {A : Type 0} (read : ParseResult (List A)) → with_prefix [] read ≡ read
 starts (Ok y) = refl
 starts (Err e) = refl
 
-module _ {A : Type 0} (more : Tokens → Bool) (read : Tokens → Reading A) (shrinks : Shrinks read) (none_left : more [] ≡ false) where
+module _ {A : Type 0} (more : Tokens → Bool) (read : Tokens → ParseResult A) (shrinks : Shrinks read) (none_left : more [] ≡ false) where
   none_more : (s : Tokens) → length s ≡ 0 → more s ≡ false
   none_more [] h = none_left
   none_more (t ∷ ts) h = absurd (omega arith)
 
-  step : (b : Bool) (o : Reading A) (n m : ℕ) → ((x : A) (rest : Tokens) → o ≡ Ok (x, rest) → repeat more read n rest ≡ repeat more read m rest) → (s : Tokens) → cond b (o >>= λ x. put x.0 (repeat more read n x.1)) (Ok ([], s)) ≡ cond b (o >>= λ x. put x.0 (repeat more read m x.1)) (Ok ([], s))
+  step : (b : Bool) (o : ParseResult A) (n m : ℕ) → ((x : A) (rest : Tokens) → o ≡ Ok (x, rest) → repeat more read n rest ≡ repeat more read m rest) → (s : Tokens) → cond b (o >>= λ x. put x.0 (repeat more read n x.1)) (Ok ([], s)) ≡ cond b (o >>= λ x. put x.0 (repeat more read m x.1)) (Ok ([], s))
   step false o n m h s = refl
   step true (Err e) n m h s = refl
   step true (Ok x) n m h s = ap (put x.0) (h x.0 x.1 refl)
@@ -67,15 +67,15 @@ module _ {A : Type 0} (more : Tokens → Bool) (read : Tokens → Reading A) (sh
   loop_fails s f b e = enough (length s) (suc (length s)) s (omega arith) (omega arith) ∙ fails_at (length s) s f b e
 
   -- one round of a loop that fills a `Vec`, whose elements are seen by `view`
-  pub goes_on : {X : Type 0} (view : X → A) (xs : List X) (x : X) (s rest : Tokens) (total : Reading (List A)) → more s ≡ true → read s ≡ Ok (view x, rest) → with_front (map view xs) (loop more read s) ≡ total → with_front (map view (xs ++ x ∷ [])) (loop more read rest) ≡ total
+  pub goes_on : {X : Type 0} (view : X → A) (xs : List X) (x : X) (s rest : Tokens) (total : ParseResult (List A)) → more s ≡ true → read s ≡ Ok (view x, rest) → with_prefix (map view xs) (loop more read s) ≡ total → with_prefix (map view (xs ++ x ∷ [])) (loop more read rest) ≡ total
   goes_on view xs x s rest total b e so_far =
       let one : loop more read s ≡ put (view x) (loop more read rest) = loop_more s (view x) rest b e in
-      ap (λ front. with_front front (loop more read rest)) (map-append view xs (x ∷ [])) ∙ sym (regroup (map view xs) (view x) (loop more read rest)) ∙ sym (ap (with_front (map view xs)) one) ∙ so_far
+      ap (λ prefix. with_prefix prefix (loop more read rest)) (map-append view xs (x ∷ [])) ∙ sym (regroup (map view xs) (view x) (loop more read rest)) ∙ sym (ap (with_prefix (map view xs)) one) ∙ so_far
 
-  pub ends : (e : Stop) (front : List A) (s : Tokens) (total : Reading (List A)) → more s ≡ true → Fails e (read s) → with_front front (loop more read s) ≡ total → Fails e total
-  ends stops.NoMemory front s total b e so_far = tt
-  ends (stops.Unexpected rest) front s total b e so_far = sym so_far ∙ ap (with_front front) (loop_fails s (Unexpected (tokens_of rest.now)) b e)
-  ends (stops.TooDeep rest) front s total b e so_far = sym so_far ∙ ap (with_front front) (loop_fails s (TooDeep (tokens_of rest.now)) b e)
+  pub ends : (e : ParseError) (prefix : List A) (s : Tokens) (total : ParseResult (List A)) → more s ≡ true → Fails e (read s) → with_prefix prefix (loop more read s) ≡ total → Fails e total
+  ends stops.NoMemory prefix s total b e so_far = tt
+  ends (stops.Unexpected rest) prefix s total b e so_far = sym so_far ∙ ap (with_prefix prefix) (loop_fails s (Unexpected (tokens_of rest.now)) b e)
+  ends (stops.TooDeep rest) prefix s total b e so_far = sym so_far ∙ ap (with_prefix prefix) (loop_fails s (TooDeep (tokens_of rest.now)) b e)
 
-  pub is_done : (front : List A) (s : Tokens) (total : Reading (List A)) → more s ≡ false → with_front front (loop more read s) ≡ total → total ≡ Ok (front, s)
-  is_done front s total b so_far = sym so_far ∙ ap (with_front front) (loop_done s b) ∙ ap (λ (xs : List A). Ok (xs, s)) (append-nil front)
+  pub is_done : (prefix : List A) (s : Tokens) (total : ParseResult (List A)) → more s ≡ false → with_prefix prefix (loop more read s) ≡ total → total ≡ Ok (prefix, s)
+  is_done prefix s total b so_far = sym so_far ∙ ap (with_prefix prefix) (loop_done s b) ∙ ap (λ (xs : List A). Ok (xs, s)) (append-nil prefix)

@@ -10,33 +10,33 @@ use Rattle.ash_tree.specs.Tree.{Named, Object, Handle, Array, ArrayHandle}
 use Rattle.ash_tree.specs.Tokens.{Tokens}
 use Rattle.ash_tree.specs.Operators.{primitive}
 use Rattle.ash_parse.specs.Signs.{is_sign}
-use Rattle.ash_parse.specs.Reading.{Unexpected, TooDeep, Reading, ◌>>=◌, put, repeat, next_is_sign, expect_at, name_at}
+use Rattle.ash_parse.specs.Readers.{Unexpected, TooDeep, ParseResult, ◌>>=◌, put, repeat, next_is_sign, expect_at, name_at}
 use Rattle.ash_parse.specs.TypeReader.{elem_by, elem_at, element_at}
 use Rattle.ash_parse.specs.StatementReader.{handle_by, type_by, type_at}
-use Rattle.ash_parse.specs.ItemReader.{is_void, result_type_at, unnamed_at, next_unnamed_at, more_unnamed_at, unnamed_list_at, unnamed_parameters_at, property_by, declaration_behind, declaration_at, is_left}
+use Rattle.ash_parse.specs.ItemReader.{is_void, result_type_at, unnamed_at, next_unnamed_at, more_unnamed_at, unnamed_list_at, unnamed_parameters_at, property_by, declaration_after, declaration_at, is_left}
 use Rattle.ash_parse.specs.Faults.{whole_declaration_at}
 
 -- reading is not cut at the depth
-abbrev pub IsUncut : {A : Type 0} → Reading A → Type 0
+abbrev pub IsUncut : {A : Type 0} → ParseResult A → Type 0
 IsUncut (Ok x) = Unit {0}
 IsUncut (Err (Unexpected rest)) = Unit {0}
 IsUncut (Err (TooDeep rest)) = ⊥
 
-then_uncut : {A B : Type 0} (f : A × Tokens → Reading B) (o : Reading A) → IsUncut o → ((x : A) (s : Tokens) → IsUncut (f (x, s))) → IsUncut (o >>= f)
+then_uncut : {A B : Type 0} (f : A × Tokens → ParseResult B) (o : ParseResult A) → IsUncut o → ((x : A) (s : Tokens) → IsUncut (f (x, s))) → IsUncut (o >>= f)
 then_uncut f (Ok x) h go = go x.0 x.1
 then_uncut f (Err (Unexpected rest)) h go = tt
 then_uncut f (Err (TooDeep rest)) h go = h
 
-put_uncut : {A : Type 0} (x : A) (o : Reading (List A)) → IsUncut o → IsUncut (put x o)
+put_uncut : {A : Type 0} (x : A) (o : ParseResult (List A)) → IsUncut o → IsUncut (put x o)
 put_uncut x (Ok y) h = tt
 put_uncut x (Err (Unexpected rest)) h = tt
 put_uncut x (Err (TooDeep rest)) h = h
 
-cond_uncut : {A : Type 0} (b : Bool) (one two : Reading A) → IsUncut one → IsUncut two → IsUncut (cond b one two)
+cond_uncut : {A : Type 0} (b : Bool) (one two : ParseResult A) → IsUncut one → IsUncut two → IsUncut (cond b one two)
 cond_uncut true one two h k = h
 cond_uncut false one two h k = k
 
-repeat_uncut : {A : Type 0} (more : Tokens → Bool) (read : Tokens → Reading A) → ((s : Tokens) → IsUncut (read s)) → (n : ℕ) (s : Tokens) → IsUncut (repeat more read n s)
+repeat_uncut : {A : Type 0} (more : Tokens → Bool) (read : Tokens → ParseResult A) → ((s : Tokens) → IsUncut (read s)) → (n : ℕ) (s : Tokens) → IsUncut (repeat more read n s)
 unfolding repeat
 repeat_uncut more read h zero s = tt
 repeat_uncut more read h (suc n) s = cond_uncut (more s) (read s >>= λ x. put x.0 (repeat more read n x.1)) (Ok ([], s)) (then_uncut (λ x. put x.0 (repeat more read n x.1)) (read s) (h s) (λ x r. put_uncut x (repeat more read n r) (repeat_uncut more read h n r))) tt
@@ -114,13 +114,13 @@ property_uncut : (r : Option Named) (p : Place) (text : List ℕ) (ts : Tokens) 
 property_uncut (Some t) p text ts = tt
 property_uncut None p text ts = tt
 
-behind_uncut : (r : Option Named) (p : Place) (text : List ℕ) (ts : Tokens) → IsUncut (declaration_behind r p text ts)
-unfolding declaration_behind
-behind_uncut r p text ts = cond_uncut (next_is_sign signs.OpenParenthesis ts) _ _ (then_uncut _ (unnamed_parameters_at ts) (unnamed_parameters_uncut ts) (λ xs s. tt)) (property_uncut r p text ts)
+after_uncut : (r : Option Named) (p : Place) (text : List ℕ) (ts : Tokens) → IsUncut (declaration_after r p text ts)
+unfolding declaration_after
+after_uncut r p text ts = cond_uncut (next_is_sign signs.OpenParenthesis ts) _ _ (then_uncut _ (unnamed_parameters_at ts) (unnamed_parameters_uncut ts) (λ xs s. tt)) (property_uncut r p text ts)
 
 declaration_uncut : (ts : Tokens) → IsUncut (declaration_at ts)
 unfolding declaration_at
-declaration_uncut ts = then_uncut _ (result_type_at ts) (result_type_uncut ts) (λ r s. then_uncut _ (name_at s) (name_uncut s) (λ n u. behind_uncut r n.1 n.0 u))
+declaration_uncut ts = then_uncut _ (result_type_at ts) (result_type_uncut ts) (λ r s. then_uncut _ (name_at s) (name_uncut s) (λ n u. after_uncut r n.1 n.0 u))
 
 whole_uncut : (ts : Tokens) → IsUncut (whole_declaration_at ts)
 unfolding whole_declaration_at

@@ -8,7 +8,7 @@ use Rattle.ash_tree.specs.Tree.{Element, Item, Declaration}
 use Rattle.ash_tree.specs.Tokens.{Tokens}
 use Rattle.ash_tree.specs.Types.{IsElement}
 use Rattle.ash_tree.specs.Grammar.{Derives, Declares}
-use Rattle.ash_parse.specs.Reading.{Halt, Unexpected, TooDeep}
+use Rattle.ash_parse.specs.Readers.{Halt, Unexpected, TooDeep}
 use Rattle.ash_parse.specs.ItemReader.{module_at}
 use Rattle.ash_parse.specs.Unique.{HasOneFault, HasNotBoth, HasOneDeclarationFault, HasNotBothDeclared}
 use Rattle.ash_parse.specs.FirstFault.{Begun, NoneGoesOn, LeavesOpen, NoneKeeps, GoesTooDeep, NoneWithin, FirstFault, NoDeclarationGoesOn, FirstDeclarationFault}
@@ -19,8 +19,8 @@ use Rattle.ash_parse.proofs.WholeModules.{module_derived}
 use Rattle.ash_parse.proofs.KeepsItems.{none_deep_inside}
 use Rattle.ash_parse.proofs.ModuleFreer.{derives_freer}
 
-pub heads : (a b : Meaning × Place) (s r : Tokens) → ◌≡◌ {A = Tokens} (a ∷ s) (b ∷ r) → a ≡ b
-heads a b s r h = cc
+pub beginnings : (a b : Meaning × Place) (s r : Tokens) → ◌≡◌ {A = Tokens} (a ∷ s) (b ∷ r) → a ≡ b
+beginnings a b s r h = cc
 
 pub tails : (a b : Meaning × Place) (s r : Tokens) → ◌≡◌ {A = Tokens} (a ∷ s) (b ∷ r) → s ≡ r
 tails a b s r h = cc
@@ -28,14 +28,14 @@ tails a b s r h = cc
 prefixed : (a b : Meaning × Place) (s r : Tokens) → a ≡ b → s ≡ r → ◌≡◌ {A = Tokens} (a ∷ s) (b ∷ r)
 prefixed a b s r h k = cc
 
--- where one front is longer, it goes on with what is behind the other
+-- where one prefix is longer, it goes on with what is after the other
 pub split : (f r g s : Tokens) → f ++ r ≡ g ++ s → length s < length r → (t : Meaning × Place) × (mid : Tokens) × (g ≡ f ++ t ∷ mid) × (r ≡ t ∷ (mid ++ s))
 split [] r [] s e l = let k : length r ≡ length s = ap length e in absurd (omega arith)
 split [] r (x ∷ g) s e l = (x, g, refl, e)
 split (a ∷ f) r [] s e l = let k : length (a ∷ (f ++ r)) ≡ length s = ap length e in let n = length-append f r in absurd (omega arith)
 split (a ∷ f) r (b ∷ g) s e l =
     let q = split f r g s (tails a b (f ++ r) (g ++ s) e) l in
-    (q.0, q.1, prefixed b a g (f ++ q.0 ∷ q.1) (sym (heads a b (f ++ r) (g ++ s) e)) q.2, q.3)
+    (q.0, q.1, prefixed b a g (f ++ q.0 ∷ q.1) (sym (beginnings a b (f ++ r) (g ++ s) e)) q.2, q.3)
 
 pub same_place : (f r g s : Tokens) → f ++ r ≡ g ++ s → length r ≡ length s → (f ≡ g) × (r ≡ s)
 same_place [] r [] s e l = (refl, e)
@@ -43,7 +43,7 @@ same_place [] r (x ∷ g) s e l = let k : length r ≡ length (x ∷ (g ++ s)) =
 same_place (a ∷ f) r [] s e l = let k : length (a ∷ (f ++ r)) ≡ length s = ap length e in let n = length-append f r in absurd (omega arith)
 same_place (a ∷ f) r (b ∷ g) s e l =
     let q = same_place f r g s (tails a b (f ++ r) (g ++ s) e) l in
-    (prefixed a b f g (heads a b (f ++ r) (g ++ s) e) q.0, q.1)
+    (prefixed a b f g (beginnings a b (f ++ r) (g ++ s) e) q.0, q.1)
 
 three : (m n : ℕ) → (m < n) ⊎ ((m ≡ n) ⊎ (n < m))
 three zero zero = inr (inl refl)
@@ -58,10 +58,10 @@ three (suc m) (suc n) = further (three m n)
 
 -- of two places in tokens, one is the later, or they are the same
 pub by_place : (Q : Type 0) (r s : Tokens) → (length s < length r → Q) → (length r ≡ length s → Q) → (length r < length s → Q) → Q
-by_place Q r s before same behind = by_order (three (length r) (length s))
+by_place Q r s before same after = by_order (three (length r) (length s))
   where
     by_order : (length r < length s) ⊎ ((length r ≡ length s) ⊎ (length s < length r)) → Q
-    by_order (inl h) = behind h
+    by_order (inl h) = after h
     by_order (inr (inl h)) = same h
     by_order (inr (inr h)) = before h
 
@@ -77,7 +77,7 @@ leaves_less : (t : Meaning × Place) (a b : Tokens) → LeavesOpen t (a ++ b) �
 leaves_less t a b (inl e) = inl (no_first a b e)
 leaves_less t a b (inr d) = inr (d.0, b ++ d.1, d.2, subst (λ (l : Tokens). IsElement l d.2 []) (append_assoc a b d.1) d.3)
 
--- `t` is the word `array`, and `u` stands in its `"<" elem ">"`, behind `mid`
+-- `t` is the word `array`, and `u` stands in its `"<" elem ">"`, after `mid`
 abbrev StandsInside : Meaning × Place → Tokens → Meaning × Place → Type 0
 StandsInside t mid u = (t.0 ≡ reserved words.Array) × (tail : Tokens) × (of : Element) × IsElement (mid ++ u ∷ tail) of []
 
@@ -85,7 +85,7 @@ inside_seen : (t : Meaning × Place) (mid more : Tokens) (u : Meaning × Place) 
 inside_seen t mid more u (inl e) = absurd (not_none mid more u e)
 inside_seen t mid more u (inr d) = (d.0, more ++ d.1, d.2, subst (λ (l : Tokens). IsElement l d.2 []) (append_assoc mid (u ∷ more) d.1) d.3)
 
--- a module that goes on behind `t` has `t` too deep, where each does that has the same tokens behind it as far as they count
+-- a module that goes on after `t` has `t` too deep, where each does that has the same tokens after it as far as they count
 module _ (less : Tokens) (t : Meaning × Place) (mid tail rest : Tokens) (u : Meaning × Place) (free : ℕ) (items : List Item) (inside : StandsInside t mid u → ⊥) (d : Derives free (less ++ t ∷ (mid ++ u ∷ tail)) items) (few : free ≤ suc (length tail)) where
   at_same : NoneKeeps less t mid (u ∷ rest) → ⊥
   at_same none = none tail items (derives_freer d (length mid + suc (length tail)) (omega arith))
@@ -100,7 +100,7 @@ module _ (less : Tokens) (t : Meaning × Place) (mid tail rest : Tokens) (u : Me
   within_later w =
       by_place ⊥ (u ∷ rest) w.1
       (λ k. let q = split mid (u ∷ rest) w.0 w.1 w.2 k in
-      let same : u ≡ q.0 = heads u q.0 rest (q.1 ++ w.1) q.3 in
+      let same : u ≡ q.0 = beginnings u q.0 rest (q.1 ++ w.1) q.3 in
       inside (inside_seen t mid q.1 u (subst (λ (l : Tokens). LeavesOpen t l) (q.2 ∙ ap (λ (a : Meaning × Place). mid ++ a ∷ q.1) (sym same)) w.3)))
       (λ k. let q = same_place mid (u ∷ rest) w.0 w.1 w.2 k in
       at_same (subst (λ (l : Tokens). NoneKeeps less t l (u ∷ rest)) (sym q.0) (subst (λ (l : Tokens). NoneKeeps less t w.0 l) (sym q.1) w.4)))
@@ -108,14 +108,14 @@ module _ (less : Tokens) (t : Meaning × Place) (mid tail rest : Tokens) (u : Me
       at_later w.0 q.1 q.0 q.2 (subst (λ (l : Tokens). NoneKeeps less t w.0 l) q.3 w.4))
 
 -- no module has `t` within the depth
-none_whole : (less : Tokens) (t : Meaning × Place) (seen behind : Tokens) (items : List Item) → NoneKeeps less t seen behind → Derives 0 (less ++ t ∷ (seen ++ behind)) items → ⊥
+none_whole : (less : Tokens) (t : Meaning × Place) (seen after : Tokens) (items : List Item) → NoneKeeps less t seen after → Derives 0 (less ++ t ∷ (seen ++ after)) items → ⊥
 none_whole less t seen [] items none d = none items (derives_freer (subst (λ (l : Tokens). Derives 0 (less ++ t ∷ l) items) (append-nil seen) d) (length seen) (omega arith))
-none_whole less t seen (u ∷ behind) items none d = none behind items (derives_freer d (length seen + suc (length behind)) (omega arith))
+none_whole less t seen (u ∷ after) items none d = none after items (derives_freer d (length seen + suc (length after)) (omega arith))
 
 pub whole_within : (less : Tokens) (t : Meaning × Place) (rest : Tokens) (items : List Item) → NoneWithin less t rest → Derives 0 (less ++ t ∷ rest) items → ⊥
 whole_within less t rest items w d = none_whole less t w.0 w.1 items w.4 (subst (λ (l : Tokens). Derives 0 (less ++ t ∷ l) items) w.2 d)
 
--- where only `t` and what is behind it are free, and `t` is too deep, reading is cut there
+-- where only `t` and what is after it are free, and `t` is too deep, reading is cut there
 pub cut_there : (less tail : Tokens) (t : Meaning × Place) (items : List Item) → Derives (suc (length tail)) (less ++ t ∷ tail) items → NoneWithin less t tail → (module_at (less ++ t ∷ tail) ≡ Ok (items, [])) ⊎ ((rest : Tokens) × (module_at (less ++ t ∷ tail) ≡ Err (TooDeep rest)) × (length rest ≤ suc (length tail))) → module_at (less ++ t ∷ tail) ≡ Err (TooDeep (t ∷ tail))
 cut_there less tail t items d none (inl e) = absurd (whole_within less t tail items none (module_derived (less ++ t ∷ tail) items [] e))
 cut_there less tail t items d none (inr ([], e, l)) = absurd (some_token_deep (less ++ t ∷ tail) e)
@@ -123,11 +123,11 @@ cut_there less tail t items d none (inr (u ∷ rest, e, l)) =
     let b = begun_deep (less ++ t ∷ tail) rest u e in
     by_place (module_at (less ++ t ∷ tail) ≡ Err (TooDeep (t ∷ tail))) (t ∷ tail) (u ∷ rest)
     (λ k. let q = split less (t ∷ tail) b.0 (u ∷ rest) b.3 k in
-    let same : t ≡ q.0 = heads t q.0 tail (q.1 ++ u ∷ rest) q.3 in
-    let behind : tail ≡ q.1 ++ u ∷ rest = tails t q.0 tail (q.1 ++ u ∷ rest) q.3 in
+    let same : t ≡ q.0 = beginnings t q.0 tail (q.1 ++ u ∷ rest) q.3 in
+    let after : tail ≡ q.1 ++ u ∷ rest = tails t q.0 tail (q.1 ++ u ∷ rest) q.3 in
     let f : b.0 ≡ less ++ t ∷ q.1 = q.2 ∙ ap (λ (a : Meaning × Place). less ++ a ∷ q.1) (sym same) in
     let g : Derives (suc (length b.1)) ((less ++ t ∷ q.1) ++ u ∷ b.1) b.2 = subst (λ (l : Tokens). Derives (suc (length b.1)) (l ++ u ∷ b.1) b.2) f b.5 in
-    absurd (within_later less t q.1 b.1 rest u (suc (length b.1)) b.2 (λ s. none_deep_inside less q.1 rest s.1 t u s.2 s.0 s.3 (subst (λ (l : Tokens). module_at (less ++ t ∷ l) ≡ Err (TooDeep (u ∷ rest))) behind e)) (subst (λ (l : Tokens). Derives (suc (length b.1)) l b.2) (append_assoc less (t ∷ q.1) (u ∷ b.1)) g) (omega arith) (subst (NoneWithin less t) behind none)))
+    absurd (within_later less t q.1 b.1 rest u (suc (length b.1)) b.2 (λ s. none_deep_inside less q.1 rest s.1 t u s.2 s.0 s.3 (subst (λ (l : Tokens). module_at (less ++ t ∷ l) ≡ Err (TooDeep (u ∷ rest))) after e)) (subst (λ (l : Tokens). Derives (suc (length b.1)) l b.2) (append_assoc less (t ∷ q.1) (u ∷ b.1)) g) (omega arith) (subst (NoneWithin less t) after none)))
     (λ k. e ∙ ap (λ (l : Tokens). Err (TooDeep l)) (sym (same_place less (t ∷ tail) b.0 (u ∷ rest) b.3 k).1))
     (λ k. absurd (omega arith))
 
@@ -148,7 +148,7 @@ begun_on f g r mid more t e k none b =
     subst (NoneGoesOn f) k none (length b.0) (mid ++ b.0) b.1 (subst (λ (l : Tokens). Derives (length b.0) l b.1) (append_assoc f (t ∷ mid) b.0) d)
 
 -- where a fault stands
-abbrev stands : (ts : Tokens) (h : Halt) → FirstFault ts h → (front : Tokens) × (ts ≡ front ++ left_at h) × Begun front
+abbrev stands : (ts : Tokens) (h : Halt) → FirstFault ts h → (prefix : Tokens) × (ts ≡ prefix ++ left_at h) × Begun prefix
 stands ts (Unexpected rest) h = (h.0, h.1, h.2)
 stands ts (TooDeep []) h = absurd h
 stands ts (TooDeep (t ∷ rest)) h = (h.0, h.1, h.2)
@@ -167,7 +167,7 @@ module _ (f mid : Tokens) (t : Meaning × Place) (deep : GoesTooDeep f t) where
   open_deep ts (TooDeep []) fault e leaves cut = fault
   open_deep ts (TooDeep (u ∷ rest)) fault e leaves cut = cut u rest refl fault.3
 
-  -- where the token behind tells, it is not too deep
+  -- where the token after reports, it is not too deep
   none_next : (g : Tokens) (u : Meaning × Place) (rest : Tokens) → g ≡ f ++ t ∷ mid → NoneKeeps f t mid (u ∷ rest) → GoesTooDeep g u → ⊥
   none_next g u rest e none more =
       let is : g ++ u ∷ more.0 ≡ f ++ t ∷ (mid ++ u ∷ more.0) = ap (λ (l : Tokens). l ++ u ∷ more.0) e ∙ append_assoc f (t ∷ mid) (u ∷ more.0) in
@@ -180,14 +180,14 @@ module _ (f mid : Tokens) (t : Meaning × Place) (deep : GoesTooDeep f t) where
       let n : length (after ++ b.0) ≡ length after + length b.0 = length-append after b.0 in
       none (after ++ b.0) b.1 (derives_freer (subst (λ (l : Tokens). Derives (length b.0) l b.1) is b.2) (length seen + suc (length (after ++ b.0))) (omega arith))
 
-  behind_deep : (ts : Tokens) (k : Halt) → (fault : FirstFault ts k) → (stands ts k fault).0 ≡ f ++ t ∷ mid → NoneWithin f t (mid ++ left_at k) → ⊥
-  behind_deep ts k fault e w =
+  after_deep : (ts : Tokens) (k : Halt) → (fault : FirstFault ts k) → (stands ts k fault).0 ≡ f ++ t ∷ mid → NoneWithin f t (mid ++ left_at k) → ⊥
+  after_deep ts k fault e w =
       let g = (stands ts k fault).0 in
       by_place ⊥ (left_at k) w.1
       (λ l. let q = split mid (left_at k) w.0 w.1 w.2 l in
       let leaves : LeavesOpen t (mid ++ q.0 ∷ q.1) = subst (λ (l : Tokens). LeavesOpen t l) q.2 w.3 in
       open_deep ts k fault e (leaves_less t mid (q.0 ∷ q.1) leaves) (λ u rest is cut.
-      let same : q.0 ≡ u = heads q.0 u (q.1 ++ w.1) rest (sym q.3 ∙ is) in
+      let same : q.0 ≡ u = beginnings q.0 u (q.1 ++ w.1) rest (sym q.3 ∙ is) in
       none_inside f g mid t u e (inside_seen t mid q.1 u (subst (λ (a : Meaning × Place). LeavesOpen t (mid ++ a ∷ q.1)) same leaves)) cut))
       (λ l. let q = same_place mid (left_at k) w.0 w.1 w.2 l in
       open_deep ts k fault e (subst (λ (l : Tokens). LeavesOpen t l) (sym q.0) w.3) (λ u rest is cut.
@@ -205,8 +205,8 @@ later ts (TooDeep []) k h fault l = h
 later ts (TooDeep (t ∷ rest)) k h fault l =
     let p = stands ts k fault in
     let q = split h.0 (t ∷ rest) p.0 (left_at k) (sym h.1 ∙ p.1) l in
-    let e : t ≡ q.0 = heads t q.0 rest (q.1 ++ left_at k) q.3 in
-    behind_deep h.0 q.1 t h.3 ts k fault (q.2 ∙ ap (λ (a : Meaning × Place). h.0 ++ a ∷ q.1) (sym e)) (subst (NoneWithin h.0 t) (tails t q.0 rest (q.1 ++ left_at k) q.3) h.4)
+    let e : t ≡ q.0 = beginnings t q.0 rest (q.1 ++ left_at k) q.3 in
+    after_deep h.0 q.1 t h.3 ts k fault (q.2 ∙ ap (λ (a : Meaning × Place). h.0 ++ a ∷ q.1) (sym e)) (subst (NoneWithin h.0 t) (tails t q.0 rest (q.1 ++ left_at k) q.3) h.4)
 
 -- a token fits nowhere, or is too deep
 not_both : (f g r s : Tokens) (t : Meaning × Place) → f ≡ g → r ≡ t ∷ s → NoneGoesOn f r → GoesTooDeep g t → ⊥

@@ -13,7 +13,7 @@ use Rattle.ash_tree.specs.Statements.{IsFirst, no_first, first_vars, first_expr,
 use Rattle.ash_parse.specs.declared.statements.Leading.{Leading}
 use Rattle.ash_parse.specs.declared.statements.Leading.TheVariants as leads
 use Rattle.ash_parse.specs.Signs.{is_sign, same_sign}
-use Rattle.ash_parse.specs.Reading.{next_is, next_is_sign}
+use Rattle.ash_parse.specs.Readers.{next_is, next_is_sign}
 use Rattle.ash_parse.specs.ExpressionReader.{Below, begins, exprs_with, assign_with, below_at}
 use Rattle.ash_parse.specs.TypeReader.{is_array}
 use Rattle.ash_parse.specs.StatementReader.{Nested, is_name, is_vars, declared_with, first_with, test_with, result_with, leading, begins_by, begins_stmt, stmt_limit_at, is_end, ends_case, goes_on, case_goes_on, evaluate_with, is_else, else_with, if_with, while_with, while_at, do_with, for_with, number_at, case_value_at, label_at, stmts_with, case_with, cases_with, switch_with, local_with, locals_with, block_with, stmt_with, nested_at}
@@ -271,33 +271,33 @@ module _ (below : Below) (deeper : Nested) where
   no_else_again p c s [] h = refl
   no_else_again p c s ((m, o) ∷ ts) h = rw h refl
 
-  if_again : {free : ℕ} (p q r : Place) (from behind left : Tokens) (c : Expr) (s : Stmt) → Reads Expr free (below true from) (c, (sign signs.CloseParenthesis, r) ∷ behind) → Reads Stmt free (deeper behind) (s, left) → NoElse left → Reads Stmt free (stmt_with below deeper ((reserved words.If, p) ∷ (sign signs.OpenParenthesis, q) ∷ from)) (If p c s, left)
+  if_again : {free : ℕ} (p q r : Place) (from after left : Tokens) (c : Expr) (s : Stmt) → Reads Expr free (below true from) (c, (sign signs.CloseParenthesis, r) ∷ after) → Reads Stmt free (deeper after) (s, left) → NoElse left → Reads Stmt free (stmt_with below deeper ((reserved words.If, p) ∷ (sign signs.OpenParenthesis, q) ∷ from)) (If p c s, left)
   unfolding stmt_with leading if_with
-  if_again p q r from behind left c s h i n = then_reads _ (bracketed_again below q r from behind c h) (then_reads _ i (as_read (no_else_again p c s left n)))
+  if_again p q r from after left c s h i n = then_reads _ (bracketed_again below q r from after c h) (then_reads _ i (as_read (no_else_again p c s left n)))
 
-  if_else_again : {free : ℕ} (p q r o : Place) (from behind other left : Tokens) (c : Expr) (s t : Stmt) → Reads Expr free (below true from) (c, (sign signs.CloseParenthesis, r) ∷ behind) → Reads Stmt free (deeper behind) (s, (reserved words.Else, o) ∷ other) → Reads Stmt free (deeper other) (t, left) → Reads Stmt free (stmt_with below deeper ((reserved words.If, p) ∷ (sign signs.OpenParenthesis, q) ∷ from)) (IfElse p c s t, left)
+  if_else_again : {free : ℕ} (p q r o : Place) (from after other left : Tokens) (c : Expr) (s t : Stmt) → Reads Expr free (below true from) (c, (sign signs.CloseParenthesis, r) ∷ after) → Reads Stmt free (deeper after) (s, (reserved words.Else, o) ∷ other) → Reads Stmt free (deeper other) (t, left) → Reads Stmt free (stmt_with below deeper ((reserved words.If, p) ∷ (sign signs.OpenParenthesis, q) ∷ from)) (IfElse p c s t, left)
   unfolding stmt_with leading if_with else_with
-  if_else_again p q r o from behind other left c s t h i j = then_reads _ (bracketed_again below q r from behind c h) (then_reads _ i (then_reads _ j whole))
+  if_else_again p q r o from after other left c s t h i j = then_reads _ (bracketed_again below q r from after c h) (then_reads _ i (then_reads _ j whole))
 
-  while_again : {free : ℕ} (p q r : Place) (from behind left : Tokens) (c : Expr) (s : Stmt) → Reads Expr free (below true from) (c, (sign signs.CloseParenthesis, r) ∷ behind) → Reads Stmt free (deeper behind) (s, left) → Reads Stmt free (stmt_with below deeper ((reserved words.While, p) ∷ (sign signs.OpenParenthesis, q) ∷ from)) (While p c s, left)
+  while_again : {free : ℕ} (p q r : Place) (from after left : Tokens) (c : Expr) (s : Stmt) → Reads Expr free (below true from) (c, (sign signs.CloseParenthesis, r) ∷ after) → Reads Stmt free (deeper after) (s, left) → Reads Stmt free (stmt_with below deeper ((reserved words.While, p) ∷ (sign signs.OpenParenthesis, q) ∷ from)) (While p c s, left)
   unfolding stmt_with leading while_with
-  while_again p q r from behind left c s h i = then_reads _ (bracketed_again below q r from behind c h) (then_reads _ i whole)
+  while_again p q r from after left c s h i = then_reads _ (bracketed_again below q r from after c h) (then_reads _ i whole)
 
-  do_again : {free : ℕ} (p q r o w : Place) (from behind left : Tokens) (c : Expr) (s : Stmt) → Reads Stmt free (deeper from) (s, (reserved words.While, w) ∷ (sign signs.OpenParenthesis, q) ∷ behind) → Reads Expr free (below true behind) (c, (sign signs.CloseParenthesis, r) ∷ (sign signs.Semicolon, o) ∷ left) → Reads Stmt free (stmt_with below deeper ((reserved words.Do, p) ∷ from)) (DoWhile p s c, left)
+  do_again : {free : ℕ} (p q r o w : Place) (from after left : Tokens) (c : Expr) (s : Stmt) → Reads Stmt free (deeper from) (s, (reserved words.While, w) ∷ (sign signs.OpenParenthesis, q) ∷ after) → Reads Expr free (below true after) (c, (sign signs.CloseParenthesis, r) ∷ (sign signs.Semicolon, o) ∷ left) → Reads Stmt free (stmt_with below deeper ((reserved words.Do, p) ∷ from)) (DoWhile p s c, left)
   unfolding stmt_with leading do_with while_at
-  do_again p q r o w from behind left c s i h = then_reads _ i (then_reads _ (bracketed_again below q r behind ((sign signs.Semicolon, o) ∷ left) c h) (rw (expect_again signs.Semicolon o left) whole))
+  do_again p q r o w from after left c s i h = then_reads _ i (then_reads _ (bracketed_again below q r after ((sign signs.Semicolon, o) ∷ left) c h) (rw (expect_again signs.Semicolon o left) whole))
 
-  for_again : {free : ℕ} (p q r : Place) (from second third behind left : Tokens) (f s : Stmt) (c : Option Expr) (es : List Expr) → Reads Stmt free (first_with below from) (f, second) → Reads (Option Expr) free (test_with below second) (c, third) → Reads (List Expr) free (exprs_with below third) (es, (sign signs.CloseParenthesis, r) ∷ behind) → Reads Stmt free (deeper behind) (s, left) → Reads Stmt free (stmt_with below deeper ((reserved words.For, p) ∷ (sign signs.OpenParenthesis, q) ∷ from)) (For p f c es s, left)
+  for_again : {free : ℕ} (p q r : Place) (from second third after left : Tokens) (f s : Stmt) (c : Option Expr) (es : List Expr) → Reads Stmt free (first_with below from) (f, second) → Reads (Option Expr) free (test_with below second) (c, third) → Reads (List Expr) free (exprs_with below third) (es, (sign signs.CloseParenthesis, r) ∷ after) → Reads Stmt free (deeper after) (s, left) → Reads Stmt free (stmt_with below deeper ((reserved words.For, p) ∷ (sign signs.OpenParenthesis, q) ∷ from)) (For p f c es s, left)
   unfolding stmt_with leading for_with
-  for_again p q r from second third behind left f s c es h i j k = rw (expect_again signs.OpenParenthesis q from) (then_reads _ h (then_reads _ i (then_reads _ j (rw (expect_again signs.CloseParenthesis r behind) (then_reads _ k whole)))))
+  for_again p q r from second third after left f s c es h i j k = rw (expect_again signs.OpenParenthesis q from) (then_reads _ h (then_reads _ i (then_reads _ j (rw (expect_again signs.CloseParenthesis r after) (then_reads _ k whole)))))
 
-  case_again : {free : ℕ} (from first behind : Tokens) (p : Place) (l : Label) (ss : List Stmt) → label_at from ≡ Ok ((l, p), first) → ReadsAll free case_goes_on deeper first ss behind → Reads Case free (case_with deeper from) (labelled p l (stmts ss), behind)
+  case_again : {free : ℕ} (from first after : Tokens) (p : Place) (l : Label) (ss : List Stmt) → label_at from ≡ Ok ((l, p), first) → ReadsAll free case_goes_on deeper first ss after → Reads Case free (case_with deeper from) (labelled p l (stmts ss), after)
   unfolding case_with stmts_with
-  case_again from first behind p l ss h r = rw h (then_reads _ (r (length first) (omega arith)) whole)
+  case_again from first after p l ss h r = rw h (then_reads _ (r (length first) (omega arith)) whole)
 
-  switch_again : {free : ℕ} (p q r o w : Place) (from behind left : Tokens) (e : Expr) (cs : List Case) → Reads Expr free (below true from) (e, (sign signs.CloseParenthesis, r) ∷ (sign signs.OpenBrace, o) ∷ behind) → ReadsAll free goes_on (case_with deeper) behind cs ((sign signs.CloseBrace, w) ∷ left) → Reads Stmt free (stmt_with below deeper ((reserved words.Switch, p) ∷ (sign signs.OpenParenthesis, q) ∷ from)) (Switch p e (cases cs), left)
+  switch_again : {free : ℕ} (p q r o w : Place) (from after left : Tokens) (e : Expr) (cs : List Case) → Reads Expr free (below true from) (e, (sign signs.CloseParenthesis, r) ∷ (sign signs.OpenBrace, o) ∷ after) → ReadsAll free goes_on (case_with deeper) after cs ((sign signs.CloseBrace, w) ∷ left) → Reads Stmt free (stmt_with below deeper ((reserved words.Switch, p) ∷ (sign signs.OpenParenthesis, q) ∷ from)) (Switch p e (cases cs), left)
   unfolding stmt_with leading switch_with cases_with
-  switch_again p q r o w from behind left e cs h c = then_reads _ (bracketed_again below q r from ((sign signs.OpenBrace, o) ∷ behind) e h) (rw (expect_again signs.OpenBrace o behind) (then_reads _ (c (length behind) (omega arith)) (rw (expect_again signs.CloseBrace w left) whole)))
+  switch_again p q r o w from after left e cs h c = then_reads _ (bracketed_again below q r from ((sign signs.OpenBrace, o) ∷ after) e h) (rw (expect_again signs.OpenBrace o after) (then_reads _ (c (length after) (omega arith)) (rw (expect_again signs.CloseBrace w left) whole)))
 
   break_again : (p q : Place) (left : Tokens) → stmt_with below deeper ((reserved words.Break, p) ∷ (sign signs.Semicolon, q) ∷ left) ≡ Ok (Break p, left)
   unfolding stmt_with leading
@@ -334,11 +334,11 @@ mutual
 
   locals_read : {free depth : ℕ} {from left : Tokens} {ss : List Stmt} → AreLocals free depth from ss left → (room : ℕ) → depth + room ≡ DEPTH → goes_on left ≡ false → NoElse left → ReadsAll free goes_on (local_with (below_at room) (nested_at room)) from ss left
   locals_read (no_locals {left = left}) room d g n = none_again _ goes_on (local_with (below_at room) (nested_at room)) left g
-  locals_read (local_vars {p = p} {from = from} {behind = behind} {left = left} {v = v} {ss = ss} a b) room d g n =
+  locals_read (local_vars {p = p} {from = from} {after = after} {left = left} {v = v} {ss = ss} a b) room d g n =
       let l = vars_shorter a in
-      one_again _ goes_on (local_with (below_at room) (nested_at room)) from behind left (Declare (place_of_type v.of) v) ss (starts_further from (vars_begin a)).0 (local_vars_again (below_at room) (nested_at room) from behind v (vars_vars a) (declared_read p behind a room d)) (omega arith) (locals_read b room d g n)
-  locals_read (local_stmt {from = from} {behind = behind} {left = left} {s = s} {ss = ss} a b) room d g n =
-      one_again _ goes_on (local_with (below_at room) (nested_at room)) from behind left s ss (goes_further from (nested_begins a)).0 (local_stmt_again (below_at room) (nested_at room) from behind s (nested_no_vars a) (nested_read a room d (closes_where s behind (locals_no_else b n)))) (nested_shorter a) (locals_read b room d g n)
+      one_again _ goes_on (local_with (below_at room) (nested_at room)) from after left (Declare (place_of_type v.of) v) ss (starts_further from (vars_begin a)).0 (local_vars_again (below_at room) (nested_at room) from after v (vars_vars a) (declared_read p after a room d)) (omega arith) (locals_read b room d g n)
+  locals_read (local_stmt {from = from} {after = after} {left = left} {s = s} {ss = ss} a b) room d g n =
+      one_again _ goes_on (local_with (below_at room) (nested_at room)) from after left s ss (goes_further from (nested_begins a)).0 (local_stmt_again (below_at room) (nested_at room) from after s (nested_no_vars a) (nested_read a room d (closes_where s after (locals_no_else b n)))) (nested_shorter a) (locals_read b room d g n)
 
   pub block_read : {free depth : ℕ} {from left : Tokens} {ss : List Stmt} → IsBlock free depth from ss left → (room : ℕ) → depth + room ≡ DEPTH → Reads (List Stmt) free (block_with (below_at room) (nested_at room) from) (ss, left)
   block_read (block {p = p} {q = q} {from = from} {left = left} {ss = ss} a) room d =
@@ -349,31 +349,31 @@ mutual
   stmt_read (inner_block {p = p} {from = from} {left = left} {ss = ss} b) room d k = inner_block_again (below_at room) (nested_at room) p from left ss (block_read b room d)
   stmt_read empty room d k = whole
   stmt_read (evaluate {p = p} {from = from} {left = left} {e = e} a) room d k = rw (alone_again (below_at room) (nested_at room) from (assign_begins a)) (evaluate_again (below_at room) p from left e (assign_read a room d (semicolon_ends p left)))
-  stmt_read (if_only {p = p} {q = q} {r = r} {from = from} {behind = behind} {left = left} {c = c} {s = s} a b) room d k =
+  stmt_read (if_only {p = p} {q = q} {r = r} {from = from} {after = after} {left = left} {c = c} {s = s} a b) room d k =
       let n = only_true (next_is (λ m. is_else (leading m)) left) k in
-      if_again (below_at room) (nested_at room) p q r from behind left c s (inner_read a room d (close_ends r behind)) (nested_read b room d (closes_where s left n)) n
-  stmt_read (if_else {p = p} {q = q} {r = r} {o = o} {from = from} {behind = behind} {other = other} {left = left} {c = c} {s = s} {t = t} a b n f) room d k =
-      if_else_again (below_at room) (nested_at room) p q r o from behind other left c s t (inner_read a room d (close_ends r behind)) (nested_read b room d (λ e. n)) (nested_read f room d k)
-  stmt_read (while {p = p} {q = q} {r = r} {from = from} {behind = behind} {left = left} {c = c} {s = s} a b) room d k =
-      while_again (below_at room) (nested_at room) p q r from behind left c s (inner_read a room d (close_ends r behind)) (nested_read b room d k)
-  stmt_read (do_while {p = p} {q = q} {r = r} {o = o} {w = w} {from = from} {behind = behind} {left = left} {c = c} {s = s} a b) room d k =
-      do_again (below_at room) (nested_at room) p q r o w from behind left c s (nested_read a room d (closes_where s ((reserved words.While, w) ∷ (sign signs.OpenParenthesis, q) ∷ behind) (while_no_else w ((sign signs.OpenParenthesis, q) ∷ behind)))) (inner_read b room d (close_ends r ((sign signs.Semicolon, o) ∷ left)))
-  stmt_read (for {p = p} {q = q} {r = r} {from = from} {second = second} {third = third} {behind = behind} {left = left} {f = f} {s = s} {c = c} {es = es} i j l b) room d k =
-      for_again (below_at room) (nested_at room) p q r from second third behind left f s c es (first_read i room d) (test_read j room d) (exprs_read l room d (next_is_sign-again signs.CloseParenthesis r behind)) (nested_read b room d k)
-  stmt_read (switch {p = p} {q = q} {r = r} {o = o} {z = w} {from = from} {behind = behind} {left = left} {e = e} {cs = cs} a b) room d k =
+      if_again (below_at room) (nested_at room) p q r from after left c s (inner_read a room d (close_ends r after)) (nested_read b room d (closes_where s left n)) n
+  stmt_read (if_else {p = p} {q = q} {r = r} {o = o} {from = from} {after = after} {other = other} {left = left} {c = c} {s = s} {t = t} a b n f) room d k =
+      if_else_again (below_at room) (nested_at room) p q r o from after other left c s t (inner_read a room d (close_ends r after)) (nested_read b room d (λ e. n)) (nested_read f room d k)
+  stmt_read (while {p = p} {q = q} {r = r} {from = from} {after = after} {left = left} {c = c} {s = s} a b) room d k =
+      while_again (below_at room) (nested_at room) p q r from after left c s (inner_read a room d (close_ends r after)) (nested_read b room d k)
+  stmt_read (do_while {p = p} {q = q} {r = r} {o = o} {w = w} {from = from} {after = after} {left = left} {c = c} {s = s} a b) room d k =
+      do_again (below_at room) (nested_at room) p q r o w from after left c s (nested_read a room d (closes_where s ((reserved words.While, w) ∷ (sign signs.OpenParenthesis, q) ∷ after) (while_no_else w ((sign signs.OpenParenthesis, q) ∷ after)))) (inner_read b room d (close_ends r ((sign signs.Semicolon, o) ∷ left)))
+  stmt_read (for {p = p} {q = q} {r = r} {from = from} {second = second} {third = third} {after = after} {left = left} {f = f} {s = s} {c = c} {es = es} i j l b) room d k =
+      for_again (below_at room) (nested_at room) p q r from second third after left f s c es (first_read i room d) (test_read j room d) (exprs_read l room d (next_is_sign-again signs.CloseParenthesis r after)) (nested_read b room d k)
+  stmt_read (switch {p = p} {q = q} {r = r} {o = o} {z = w} {from = from} {after = after} {left = left} {e = e} {cs = cs} a b) room d k =
       let v = brace_rests w left in
-      switch_again (below_at room) (nested_at room) p q r o w from behind left e cs (inner_read a room d (close_ends r ((sign signs.OpenBrace, o) ∷ behind))) (cases_read b room d v.0 (v.1, v.2))
+      switch_again (below_at room) (nested_at room) p q r o w from after left e cs (inner_read a room d (close_ends r ((sign signs.OpenBrace, o) ∷ after))) (cases_read b room d v.0 (v.1, v.2))
   stmt_read (break {p = p} {q = q} {left = left}) room d k = as_read (break_again (below_at room) (nested_at room) p q left)
   stmt_read (continue {p = p} {q = q} {left = left}) room d k = as_read (continue_again (below_at room) (nested_at room) p q left)
   stmt_read (return {p = p} {from = from} {left = left} {c = c} a) room d k = return_again (below_at room) (nested_at room) p from left c (result_read a room d)
 
   cases_read : {free depth : ℕ} {from left : Tokens} {cs : List Case} → AreCases free depth from cs left → (room : ℕ) → depth + room ≡ DEPTH → goes_on left ≡ false → Rests left → ReadsAll free goes_on (case_with (nested_at room)) from cs left
   cases_read (no_cases {left = left}) room d g n = none_again _ goes_on (case_with (nested_at room)) left g
-  cases_read (more_cases {p = p} {from = from} {first = first} {behind = behind} {left = left} {l = l} {ss = ss} {cs = cs} i a b) room d g n =
+  cases_read (more_cases {p = p} {from = from} {first = first} {after = after} {left = left} {l = l} {ss = ss} {cs = cs} i a b) room d g n =
       let x = label_shorter i in let y = stmts_shorter a in
-      one_again _ goes_on (case_with (nested_at room)) from behind left (labelled p l (stmts ss)) cs (label_begins i).0 (case_again (below_at room) (nested_at room) from first behind p l ss (label_read i) (stmts_read a room d (cases_rest b n))) (omega arith) (cases_read b room d g n)
+      one_again _ goes_on (case_with (nested_at room)) from after left (labelled p l (stmts ss)) cs (label_begins i).0 (case_again (below_at room) (nested_at room) from first after p l ss (label_read i) (stmts_read a room d (cases_rest b n))) (omega arith) (cases_read b room d g n)
 
   stmts_read : {free depth : ℕ} {from left : Tokens} {ss : List Stmt} → AreStmts free depth from ss left → (room : ℕ) → depth + room ≡ DEPTH → Rests left → ReadsAll free case_goes_on (nested_at room) from ss left
   stmts_read (no_stmts {left = left}) room d n = none_again _ case_goes_on (nested_at room) left n.0
-  stmts_read (more_stmts {from = from} {behind = behind} {left = left} {s = s} {ss = ss} a b) room d n =
-      one_again _ case_goes_on (nested_at room) from behind left s ss (goes_further from (nested_begins a)).1 (nested_read a room d (closes_where s behind (stmts_no_else b n.1))) (nested_shorter a) (stmts_read b room d n)
+  stmts_read (more_stmts {from = from} {after = after} {left = left} {s = s} {ss = ss} a b) room d n =
+      one_again _ case_goes_on (nested_at room) from after left s ss (goes_further from (nested_begins a)).1 (nested_read a room d (closes_where s after (stmts_no_else b n.1))) (nested_shorter a) (stmts_read b room d n)

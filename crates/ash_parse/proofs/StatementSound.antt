@@ -12,19 +12,19 @@ use Rattle.ash_tree.specs.Expressions.{IsInner, AreExprs, IsAssign}
 use Rattle.ash_tree.specs.Statements.{IsDecl, bare, valued, made, AreMoreDecls, no_more_decls, more_decls, IsVars, vars, IsFirst, no_first, first_vars, first_expr, IsTest, no_test, test, IsResult, no_result, value, IsLabel, case, case_minus, default, is_open, IsNested, nested, AreLocals, no_locals, local_vars, local_stmt, IsBlock, block, IsStmt, inner_block, empty, evaluate, if_only, if_else, while, do_while, for, switch, break, continue, return, AreCases, no_cases, more_cases, AreStmts, no_stmts, more_stmts}
 use Rattle.ash_parse.specs.declared.statements.Leading.{Leading}
 use Rattle.ash_parse.specs.declared.statements.Leading.TheVariants as leads
-use Rattle.ash_parse.specs.Reading.{Unexpected, TooDeep, ◌>>=◌, put, next_is, next_is_sign, expect_at, name_at}
+use Rattle.ash_parse.specs.Readers.{Unexpected, TooDeep, ◌>>=◌, put, next_is, next_is_sign, expect_at, name_at}
 use Rattle.ash_parse.specs.ExpressionReader.{Below, arguments_with, bracketed_with, exprs_with, assign_with, below_at}
 use Rattle.ash_parse.specs.StatementReader.{Nested, type_at, is_vars, initializer_with, decl_with, next_decl_with, more_decls_with, decls_with, vars_with, declared_with, first_with, test_with, result_with, leading, begins_stmt, stmt_limit_at, goes_on, case_goes_on, evaluate_with, is_else, else_with, if_with, while_with, is_while, while_at, do_with, for_with, number_at, case_value_at, label_by, label_at, stmts_with, case_with, cases_with, switch_with, local_with, locals_with, block_with, stmt_by, stmt_with, nested_at}
 use Rattle.ash_parse.proofs.Readings.{no_err, bind_ok, at_pair, if_elim, put_ok, Finds, repeat_sound, expect_sound, name_sound}
 use Rattle.ash_parse.proofs.Types.{ends_in, type_sound}
 use Rattle.ash_parse.proofs.ExpressionSound.{IsPart, args_sound, bracketed_sound, exprs_sound, assign_sound, whole_sound, part_sound}
 
--- a statement in front of an `else` is not one that the `else` could belong to
+-- a statement before an `else` is not one that the `else` could belong to
 abbrev pub Closes : Stmt → Tokens → Type 0
 Closes s left = next_is (λ m. is_else (leading m)) left ≡ true → is_open s ≡ false
 
 module _ (free depth : ℕ) (below : Below) (whole : Finds (below true) (IsInner free depth)) (part : Finds (below false) (IsPart free depth)) where
-  -- a decl behind its name
+  -- a decl after its name
   Rest : Place → List ℕ → Tokens → Initializer → Tokens → Type 0
   Rest p t ts i left = IsDecl free depth ((name t, p) ∷ ts) (record { place = p; name = t; initializer = i }) left
 
@@ -49,11 +49,11 @@ module _ (free depth : ℕ) (below : Below) (whole : Finds (below true) (IsInner
       at_pair (λ y r. IsDecl free depth ts y r) (record { place = ((n.0).0).1; name = ((n.0).0).0; initializer = (i.0).0 }) (i.0).1 x rest i.2
       (name_sound ts (n.0).0 (n.0).1 (λ r. IsDecl free depth r (record { place = ((n.0).0).1; name = ((n.0).0).0; initializer = (i.0).0 }) (i.0).1) n.1 (initializer_sound ((n.0).0).1 ((n.0).0).0 (n.0).1 (i.0).0 (i.0).1 i.1))
 
-  pub grow_decls : (from behind left : Tokens) (x : Decl) (xs : List Decl) → next_decl_with below from ≡ Ok (x, behind) → AreMoreDecls free depth behind xs left → AreMoreDecls free depth from (x ∷ xs) left
+  pub grow_decls : (from after left : Tokens) (x : Decl) (xs : List Decl) → next_decl_with below from ≡ Ok (x, after) → AreMoreDecls free depth after xs left → AreMoreDecls free depth from (x ∷ xs) left
   unfolding next_decl_with
-  grow_decls from behind left x xs h more =
-      let c = bind_ok (expect_at signs.Comma from) (λ comma. decl_with below comma.1) (x, behind) h in
-      expect_sound signs.Comma from (c.0).0 (c.0).1 (λ r. AreMoreDecls free depth r (x ∷ xs) left) c.1 (more_decls (decl_sound (c.0).1 x behind c.2) more)
+  grow_decls from after left x xs h more =
+      let c = bind_ok (expect_at signs.Comma from) (λ comma. decl_with below comma.1) (x, after) h in
+      expect_sound signs.Comma from (c.0).0 (c.0).1 (λ r. AreMoreDecls free depth r (x ∷ xs) left) c.1 (more_decls (decl_sound (c.0).1 x after c.2) more)
 
   more_decls_sound : Finds (more_decls_with below) (AreMoreDecls free depth)
   unfolding more_decls_with
@@ -241,13 +241,13 @@ abbrev pub IsClosed : (ℕ → ℕ → Tokens → Stmt → Tokens → Type 0) �
 IsClosed P free depth from s left = P free depth from s left × Closes s left
 
 module _ (free depth : ℕ) (below : Below) (deeper : Nested) (whole : Finds (below true) (IsInner free depth)) (part : Finds (below false) (IsPart free depth)) (one : Finds deeper (IsClosed IsNested free depth)) where
-  pub local_sound : (from behind left : Tokens) (x : Stmt) (xs : List Stmt) → local_with below deeper from ≡ Ok (x, behind) → AreLocals free depth behind xs left → AreLocals free depth from (x ∷ xs) left
+  pub local_sound : (from after left : Tokens) (x : Stmt) (xs : List Stmt) → local_with below deeper from ≡ Ok (x, after) → AreLocals free depth after xs left → AreLocals free depth from (x ∷ xs) left
   unfolding local_with
-  local_sound from behind left x xs h more =
-      if_elim (is_vars from) (declared_with below from >>= λ v. Ok (Declare (place_of_type (v.0).of) v.0, v.1)) (deeper from) (Ok (x, behind)) (AreLocals free depth from (x ∷ xs) left) h
-      (λ b k. let v = bind_ok (declared_with below from) (λ v. Ok (Declare (place_of_type (v.0).of) v.0, v.1)) (x, behind) k in
-      at_pair (λ y r. AreLocals free depth r xs left → AreLocals free depth from (y ∷ xs) left) (Declare (place_of_type ((v.0).0).of) (v.0).0) (v.0).1 x behind v.2 (λ m. local_vars (declared_sound free depth below whole part from (v.0).0 (v.0).1 v.1).1 m) more)
-      (λ b k. local_stmt (one from x behind k).0 more)
+  local_sound from after left x xs h more =
+      if_elim (is_vars from) (declared_with below from >>= λ v. Ok (Declare (place_of_type (v.0).of) v.0, v.1)) (deeper from) (Ok (x, after)) (AreLocals free depth from (x ∷ xs) left) h
+      (λ b k. let v = bind_ok (declared_with below from) (λ v. Ok (Declare (place_of_type (v.0).of) v.0, v.1)) (x, after) k in
+      at_pair (λ y r. AreLocals free depth r xs left → AreLocals free depth from (y ∷ xs) left) (Declare (place_of_type ((v.0).0).of) (v.0).0) (v.0).1 x after v.2 (λ m. local_vars (declared_sound free depth below whole part from (v.0).0 (v.0).1 v.1).1 m) more)
+      (λ b k. local_stmt (one from x after k).0 more)
 
   pub locals_sound : Finds (locals_with below deeper) (AreLocals free depth)
   unfolding locals_with
@@ -265,16 +265,16 @@ module _ (free depth : ℕ) (below : Below) (deeper : Nested) (whole : Finds (be
 
   stmts_sound : Finds (stmts_with deeper) (AreStmts free depth)
   unfolding stmts_with
-  stmts_sound ts xs rest h = repeat_sound case_goes_on deeper (AreStmts free depth) (λ s. no_stmts) (λ from behind left x xs e m. more_stmts (one from x behind e).0 m) (length ts) ts xs rest h
+  stmts_sound ts xs rest h = repeat_sound case_goes_on deeper (AreStmts free depth) (λ s. no_stmts) (λ from after left x xs e m. more_stmts (one from x after e).0 m) (length ts) ts xs rest h
 
-  pub case_sound : (from behind left : Tokens) (x : Case) (xs : List Case) → case_with deeper from ≡ Ok (x, behind) → AreCases free depth behind xs left → AreCases free depth from (x ∷ xs) left
+  pub case_sound : (from after left : Tokens) (x : Case) (xs : List Case) → case_with deeper from ≡ Ok (x, after) → AreCases free depth after xs left → AreCases free depth from (x ∷ xs) left
   unfolding case_with
-  case_sound from behind left x xs h more =
-      let l = bind_ok (label_at from) (λ l. stmts_with deeper l.1 >>= λ ss. Ok (labelled (l.0).1 (l.0).0 (stmts ss.0), ss.1)) (x, behind) h in
-      let ss = bind_ok (stmts_with deeper (l.0).1) (λ ss. Ok (labelled ((l.0).0).1 ((l.0).0).0 (stmts ss.0), ss.1)) (x, behind) l.2 in
+  case_sound from after left x xs h more =
+      let l = bind_ok (label_at from) (λ l. stmts_with deeper l.1 >>= λ ss. Ok (labelled (l.0).1 (l.0).0 (stmts ss.0), ss.1)) (x, after) h in
+      let ss = bind_ok (stmts_with deeper (l.0).1) (λ ss. Ok (labelled ((l.0).0).1 ((l.0).0).0 (stmts ss.0), ss.1)) (x, after) l.2 in
       let d = label_sound from (l.0).0 (l.0).1 l.1 in
       let body = stmts_sound (l.0).1 (ss.0).0 (ss.0).1 ss.1 in
-      at_pair (λ y r. AreCases free depth r xs left → AreCases free depth from (y ∷ xs) left) (labelled ((l.0).0).1 ((l.0).0).0 (stmts (ss.0).0)) (ss.0).1 x behind ss.2
+      at_pair (λ y r. AreCases free depth r xs left → AreCases free depth from (y ∷ xs) left) (labelled ((l.0).0).1 ((l.0).0).0 (stmts (ss.0).0)) (ss.0).1 x after ss.2
       (λ m. more_cases d body m) more
 
   cases_sound : Finds (cases_with deeper) (AreCases free depth)
@@ -284,15 +284,15 @@ module _ (free depth : ℕ) (below : Below) (deeper : Nested) (whole : Finds (be
   S : Tokens → Stmt → Tokens → Type 0
   S ts x left = IsStmt free depth ts x left × Closes x left
 
-  else_sound : (p o q : Place) (r behind : Tokens) (c : Expr) (s : Stmt) (ts : Tokens) (x : Stmt) (rest : Tokens) → IsInner free depth r c ((sign signs.CloseParenthesis, q) ∷ behind) → IsNested free depth behind s ts → Closes s ts → else_with deeper p c s ts ≡ Ok (x, rest) → S ((reserved words.If, p) ∷ (sign signs.OpenParenthesis, o) ∷ r) x rest
+  else_sound : (p o q : Place) (r after : Tokens) (c : Expr) (s : Stmt) (ts : Tokens) (x : Stmt) (rest : Tokens) → IsInner free depth r c ((sign signs.CloseParenthesis, q) ∷ after) → IsNested free depth after s ts → Closes s ts → else_with deeper p c s ts ≡ Ok (x, rest) → S ((reserved words.If, p) ∷ (sign signs.OpenParenthesis, o) ∷ r) x rest
   unfolding else_with S
-  else_sound p o q r behind c s [] x rest i n d h = at_pair (λ y l. IsStmt free depth ((reserved words.If, p) ∷ (sign signs.OpenParenthesis, o) ∷ r) y l × Closes y l) (If p c s) [] x rest h (if_only i n, λ e. sym e)
-  else_sound p o q r behind c s ((m, a) ∷ ts) x rest i n d h =
+  else_sound p o q r after c s [] x rest i n d h = at_pair (λ y l. IsStmt free depth ((reserved words.If, p) ∷ (sign signs.OpenParenthesis, o) ∷ r) y l × Closes y l) (If p c s) [] x rest h (if_only i n, λ e. sym e)
+  else_sound p o q r after c s ((m, a) ∷ ts) x rest i n d h =
       if_elim (is_else (leading m)) (deeper ts >>= λ t. Ok (IfElse p c s t.0, t.1)) (Ok (If p c s, (m, a) ∷ ts)) (Ok (x, rest)) (IsStmt free depth ((reserved words.If, p) ∷ (sign signs.OpenParenthesis, o) ∷ r) x rest × Closes x rest) h
       (λ b k. let t = bind_ok (deeper ts) (λ t. Ok (IfElse p c s t.0, t.1)) (x, rest) k in
       let u = one ts (t.0).0 (t.0).1 t.1 in
       at_pair (λ y l. IsStmt free depth ((reserved words.If, p) ∷ (sign signs.OpenParenthesis, o) ∷ r) y l × Closes y l) (IfElse p c s (t.0).0) (t.0).1 x rest t.2
-      (if_else i (subst (λ w. IsNested free depth behind s ((w, a) ∷ ts)) (else_leads (leading m) m (leads_to m) b) n) (d b) u.0, u.1))
+      (if_else i (subst (λ w. IsNested free depth after s ((w, a) ∷ ts)) (else_leads (leading m) m (leads_to m) b) n) (d b) u.0, u.1))
       (λ b k. at_pair (λ y l. IsStmt free depth ((reserved words.If, p) ∷ (sign signs.OpenParenthesis, o) ∷ r) y l × Closes y l) (If p c s) ((m, a) ∷ ts) x rest k (if_only i n, λ e. sym e ∙ b))
 
   if_sound : (p : Place) (ts : Tokens) (x : Stmt) (rest : Tokens) → if_with below deeper p ts ≡ Ok (x, rest) → S ((reserved words.If, p) ∷ ts) x rest

@@ -10,7 +10,7 @@ use Rattle.ash_tree.specs.Tree.{Element, PrimElement, HandleElement, Named, Prim
 use Rattle.ash_tree.specs.Tokens.{Tokens}
 use Rattle.ash_tree.specs.Operators.{primitive}
 use Rattle.ash_tree.specs.Types.{IsElement, prim_element, handle_element, IsType, prim, object, handle, array, array_handle}
-use Rattle.ash_parse.specs.Reading.{Unexpected, ◌>>=◌, next_is_sign, expect_at, name_at}
+use Rattle.ash_parse.specs.Readers.{Unexpected, ◌>>=◌, next_is_sign, expect_at, name_at}
 use Rattle.ash_parse.specs.TypeReader.{elem_by, elem_at, element_at, target_at}
 use Rattle.ash_parse.specs.StatementReader.{handle_by, type_by, type_at}
 use Rattle.ash_parse.proofs.Readings.{no_err, bind_ok, at_pair, if_elim, Finds, expect_sound, name_sound}
@@ -19,24 +19,24 @@ use Rattle.ash_parse.proofs.Readings.{no_err, bind_ok, at_pair, if_elim, Finds, 
 pub ends_in : (s : Sign) (ts : Tokens) (p : Place) (rest : Tokens) (Q : Tokens → Type 0) → expect_at s ts ≡ Ok (p, rest) → Q ts → Q ((sign s, p) ∷ rest)
 ends_in s ts p rest Q h = expect_sound s ts p rest (λ r. Q r → Q ((sign s, p) ∷ rest)) h (λ d. d)
 
-elem_by_sound : (k : Option Primitive) (m : Meaning) (o p : Place) (ts : Tokens) (x : Element) (behind : Tokens) (z : Place) (rest : Tokens) → primitive m ≡ k → elem_by k m p ts ≡ Ok (x, behind) → expect_at signs.Greater behind ≡ Ok (z, rest) → IsElement ((sign signs.Less, o) ∷ (m, p) ∷ ts) x rest
-elem_by_sound (Some k) m o p ts x behind z rest g h =
-    at_pair (λ y l. expect_at signs.Greater l ≡ Ok (z, rest) → IsElement ((sign signs.Less, o) ∷ (m, p) ∷ ts) y rest) (PrimElement p k) ts x behind h
+elem_by_sound : (k : Option Primitive) (m : Meaning) (o p : Place) (ts : Tokens) (x : Element) (after : Tokens) (z : Place) (rest : Tokens) → primitive m ≡ k → elem_by k m p ts ≡ Ok (x, after) → expect_at signs.Greater after ≡ Ok (z, rest) → IsElement ((sign signs.Less, o) ∷ (m, p) ∷ ts) x rest
+elem_by_sound (Some k) m o p ts x after z rest g h =
+    at_pair (λ y l. expect_at signs.Greater l ≡ Ok (z, rest) → IsElement ((sign signs.Less, o) ∷ (m, p) ∷ ts) y rest) (PrimElement p k) ts x after h
     (λ e. expect_sound signs.Greater ts z rest (λ l. IsElement ((sign signs.Less, o) ∷ (m, p) ∷ l) (PrimElement p k) rest) e (prim_element g))
-elem_by_sound None (name t) o p ts x behind z rest g h =
-    let a = bind_ok (expect_at signs.Handle ts) (λ h. Ok (HandleElement p t, h.1)) (x, behind) h in
-    at_pair (λ y l. expect_at signs.Greater l ≡ Ok (z, rest) → IsElement ((sign signs.Less, o) ∷ (name t, p) ∷ ts) y rest) (HandleElement p t) (a.0).1 x behind a.2
+elem_by_sound None (name t) o p ts x after z rest g h =
+    let a = bind_ok (expect_at signs.Handle ts) (λ h. Ok (HandleElement p t, h.1)) (x, after) h in
+    at_pair (λ y l. expect_at signs.Greater l ≡ Ok (z, rest) → IsElement ((sign signs.Less, o) ∷ (name t, p) ∷ ts) y rest) (HandleElement p t) (a.0).1 x after a.2
     (λ e. expect_sound signs.Handle ts (a.0).0 (a.0).1 (λ l. IsElement ((sign signs.Less, o) ∷ (name t, p) ∷ l) (HandleElement p t) rest) a.1
     (expect_sound signs.Greater (a.0).1 z rest (λ l. IsElement ((sign signs.Less, o) ∷ (name t, p) ∷ (sign signs.Handle, (a.0).0) ∷ l) (HandleElement p t) rest) e handle_element))
-elem_by_sound None (number n) o p ts x behind z rest g h = absurd (no_err (Unexpected ((number n, p) ∷ ts)) (x, behind) h)
-elem_by_sound None (sign n) o p ts x behind z rest g h = absurd (no_err (Unexpected ((sign n, p) ∷ ts)) (x, behind) h)
-elem_by_sound None (reserved n) o p ts x behind z rest g h = absurd (no_err (Unexpected ((reserved n, p) ∷ ts)) (x, behind) h)
-elem_by_sound None (unsupported n) o p ts x behind z rest g h = absurd (no_err (Unexpected ((unsupported n, p) ∷ ts)) (x, behind) h)
+elem_by_sound None (number n) o p ts x after z rest g h = absurd (no_err (Unexpected ((number n, p) ∷ ts)) (x, after) h)
+elem_by_sound None (sign n) o p ts x after z rest g h = absurd (no_err (Unexpected ((sign n, p) ∷ ts)) (x, after) h)
+elem_by_sound None (reserved n) o p ts x after z rest g h = absurd (no_err (Unexpected ((reserved n, p) ∷ ts)) (x, after) h)
+elem_by_sound None (unsupported n) o p ts x after z rest g h = absurd (no_err (Unexpected ((unsupported n, p) ∷ ts)) (x, after) h)
 
-elem_sound : (o : Place) (ts : Tokens) (x : Element) (behind : Tokens) (z : Place) (rest : Tokens) → elem_at ts ≡ Ok (x, behind) → expect_at signs.Greater behind ≡ Ok (z, rest) → IsElement ((sign signs.Less, o) ∷ ts) x rest
+elem_sound : (o : Place) (ts : Tokens) (x : Element) (after : Tokens) (z : Place) (rest : Tokens) → elem_at ts ≡ Ok (x, after) → expect_at signs.Greater after ≡ Ok (z, rest) → IsElement ((sign signs.Less, o) ∷ ts) x rest
 unfolding elem_at
-elem_sound o [] x behind z rest h = absurd (no_err (Unexpected []) (x, behind) h)
-elem_sound o ((m, p) ∷ ts) x behind z rest h = elem_by_sound (primitive m) m o p ts x behind z rest refl h
+elem_sound o [] x after z rest h = absurd (no_err (Unexpected []) (x, after) h)
+elem_sound o ((m, p) ∷ ts) x after z rest h = elem_by_sound (primitive m) m o p ts x after z rest refl h
 
 pub element_sound : Finds element_at IsElement
 unfolding element_at

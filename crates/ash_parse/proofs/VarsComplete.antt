@@ -15,7 +15,7 @@ use Rattle.ash_tree.specs.Expressions.{DEPTH, IsInner, inner, args, IsAssign, no
 use Rattle.ash_tree.specs.Types.{IsType, prim, object, handle, array, array_handle}
 use Rattle.ash_tree.specs.Statements.{IsDecl, bare, valued, made, AreMoreDecls, no_more_decls, more_decls, IsVars, vars}
 use Rattle.ash_parse.specs.Signs.{is_sign, same_sign}
-use Rattle.ash_parse.specs.Reading.{next_is, next_is_sign}
+use Rattle.ash_parse.specs.Readers.{next_is, next_is_sign}
 use Rattle.ash_parse.specs.ExpressionReader.{Below, begins, arguments_with, assign_with, below_at}
 use Rattle.ash_parse.specs.TypeReader.{is_array}
 use Rattle.ash_parse.specs.StatementReader.{is_name, next_is_name, type_at, is_vars, initializer_with, decl_with, next_decl_with, more_decls_with, decls_with, vars_with, declared_with}
@@ -25,7 +25,7 @@ use Rattle.ash_parse.proofs.StatementShorter.{decl_shorter}
 use Rattle.ash_parse.proofs.Rereading.{no_some, no_true, Reads, whole, as_read, then_reads, put_reads, ReadsAll, none_again, one_again}
 use Rattle.ash_parse.proofs.ExpressionComplete.{ends_expr, Ends, primitive_begins, args_read, assign_read}
 
--- what stands in front is no type: neither a name nor a handle follows
+-- what stands in prefix is no type: neither a name nor a handle follows
 abbrev pub Follows : Tokens → Type 0
 Follows left = (next_is_name left ≡ false) × (next_is_sign signs.Handle left ≡ false)
 
@@ -131,7 +131,7 @@ type_begins handle = refl
 type_begins (array a) = refl
 type_begins (array_handle a) = refl
 
--- a type and a name behind it begin a declaration
+-- a type and a name after it begin a declaration
 pub type_vars : {from left : Tokens} {t : Named} → IsType from t left → next_is_name left ≡ true → is_vars from ≡ true
 unfolding is_vars is_name is_array primitive next_is_name next_is_sign is_sign same_sign
 type_vars (array a) s = rw (element_passed a, s) refl
@@ -152,7 +152,7 @@ vars_vars (vars t d ds) = type_vars t (decl_begins d).0
 pub vars_begin : {free depth : ℕ} {from left : Tokens} {v : Vars} → IsVars free depth from v left → next_is begins from ≡ true
 vars_begin (vars t d ds) = type_begins t
 
--- what stands behind one of several variables
+-- what stands after one of several variables
 unfoldable pub ends_decl : Meaning → Bool
 ends_decl (sign signs.Comma) = true
 ends_decl (sign signs.Semicolon) = true
@@ -203,13 +203,13 @@ module _ (below : Below) where
   unfolding decl_with initializer_with next_is_sign is_sign same_sign
   made_again p o text from left es h = rw (name_again text p ((sign signs.OpenParenthesis, o) ∷ from)) (then_reads _ (then_reads _ h whole) whole)
 
-  next_decl_again : {free : ℕ} (p : Place) (from behind : Tokens) (d : Decl) → Reads Decl free (decl_with below from) (d, behind) → Reads Decl free (next_decl_with below ((sign signs.Comma, p) ∷ from)) (d, behind)
+  next_decl_again : {free : ℕ} (p : Place) (from after : Tokens) (d : Decl) → Reads Decl free (decl_with below from) (d, after) → Reads Decl free (next_decl_with below ((sign signs.Comma, p) ∷ from)) (d, after)
   unfolding next_decl_with
-  next_decl_again p from behind d h = rw (expect_again signs.Comma p from) h
+  next_decl_again p from after d h = rw (expect_again signs.Comma p from) h
 
-  vars_again : {free : ℕ} (from first behind left : Tokens) (t : Named) (d : Decl) (ds : List Decl) → type_at from ≡ Ok (t, first) → Reads Decl free (decl_with below first) (d, behind) → ReadsAll free (next_is_sign signs.Comma) (next_decl_with below) behind ds left → Reads Vars free (vars_with below from) (record { of = t; decls = d ∷ ds }, left)
+  vars_again : {free : ℕ} (from first after left : Tokens) (t : Named) (d : Decl) (ds : List Decl) → type_at from ≡ Ok (t, first) → Reads Decl free (decl_with below first) (d, after) → ReadsAll free (next_is_sign signs.Comma) (next_decl_with below) after ds left → Reads Vars free (vars_with below from) (record { of = t; decls = d ∷ ds }, left)
   unfolding vars_with decls_with more_decls_with
-  vars_again from first behind left t d ds h i r = rw h (then_reads _ (then_reads _ i (put_reads d (r (length behind) (omega arith)))) whole)
+  vars_again from first after left t d ds h i r = rw h (then_reads _ (then_reads _ i (put_reads d (r (length after) (omega arith)))) whole)
 
   declared_again : {free : ℕ} (p : Place) (from left : Tokens) (v : Vars) → Reads Vars free (vars_with below from) (v, (sign signs.Semicolon, p) ∷ left) → Reads Vars free (declared_with below from) (v, left)
   unfolding declared_with
@@ -222,13 +222,13 @@ decl_read (made {p = p} {text = text} {left = left} {es = es} (args {p = o} {q =
 
 more_decls_read : {free depth : ℕ} {from left : Tokens} {ds : List Decl} → AreMoreDecls free depth from ds left → (room : ℕ) → depth + room ≡ DEPTH → Done left → ReadsAll free (next_is_sign signs.Comma) (next_decl_with (below_at room)) from ds left
 more_decls_read (no_more_decls {left = left}) room d s = none_again _ (next_is_sign signs.Comma) (next_decl_with (below_at room)) left (done_next left s).1
-more_decls_read (more_decls {p = p} {from = from} {behind = behind} {left = left} {d = x} {ds = xs} a b) room d s =
+more_decls_read (more_decls {p = p} {from = from} {after = after} {left = left} {d = x} {ds = xs} a b) room d s =
     let l = decl_shorter a in
-    one_again _ (next_is_sign signs.Comma) (next_decl_with (below_at room)) ((sign signs.Comma, p) ∷ from) behind left x xs (next_is_sign-again signs.Comma p from) (next_decl_again (below_at room) p from behind x (decl_read a room d (decls_next b s))) (omega arith) (more_decls_read b room d s)
+    one_again _ (next_is_sign signs.Comma) (next_decl_with (below_at room)) ((sign signs.Comma, p) ∷ from) after left x xs (next_is_sign-again signs.Comma p from) (next_decl_again (below_at room) p from after x (decl_read a room d (decls_next b s))) (omega arith) (more_decls_read b room d s)
 
 vars_read : {free depth : ℕ} {from left : Tokens} {v : Vars} → IsVars free depth from v left → (room : ℕ) → depth + room ≡ DEPTH → Done left → Reads Vars free (vars_with (below_at room) from) (v, left)
-vars_read (vars {from = from} {first = first} {behind = behind} {left = left} {t = t} {d = x} {ds = xs} a b c) room d s =
-    vars_again (below_at room) from first behind left t x xs (type_read a (decl_begins b).1) (decl_read b room d (decls_next c s)) (more_decls_read c room d s)
+vars_read (vars {from = from} {first = first} {after = after} {left = left} {t = t} {d = x} {ds = xs} a b c) room d s =
+    vars_again (below_at room) from first after left t x xs (type_read a (decl_begins b).1) (decl_read b room d (decls_next c s)) (more_decls_read c room d s)
 
 -- variables with their ";"
 pub declared_read : {free depth : ℕ} {from : Tokens} {v : Vars} (p : Place) (left : Tokens) → IsVars free depth from v ((sign signs.Semicolon, p) ∷ left) → (room : ℕ) → depth + room ≡ DEPTH → Reads Vars free (declared_with (below_at room) from) (v, left)

@@ -3,7 +3,7 @@ use Rattle.std.proofs.Common.{◌≡◌, ℕ, zero, suc, ◌≤◌, ◌<◌, Lis
 use Rattle.ash_tree.specs.Tree.{Item, Declaration}
 use Rattle.ash_tree.specs.Tokens.{Tokens}
 use Rattle.ash_tree.specs.Grammar.{Derives, Declares}
-use Rattle.ash_parse.specs.Reading.{Unexpected, Reading, ◌>>=◌, put, repeat}
+use Rattle.ash_parse.specs.Readers.{Unexpected, ParseResult, ◌>>=◌, put, repeat}
 use Rattle.ash_parse.specs.ItemReader.{entry_at, is_left, strip, entries_at, module_at, declaration_at}
 use Rattle.ash_parse.specs.Faults.{whole_declaration_at}
 use Rattle.ash_parse.proofs.Readings.{no_err, ok_is, bind_ok, at_pair, put_ok}
@@ -14,7 +14,7 @@ no_tokens : (s : Tokens) → length s ≤ 0 → s ≡ []
 no_tokens [] h = refl
 no_tokens (t ∷ ts) h = absurd (omega arith)
 
-round_ends : (n : ℕ) (s : Tokens) (xs : List Item) (rest : Tokens) (b : Bool) (o : Reading Item) → (b ≡ false → s ≡ []) → ((x : Item) (left : Tokens) → o ≡ Ok (x, left) → (ys : List Item) (end : Tokens) → repeat is_left entry_at n left ≡ Ok (ys, end) → end ≡ []) → cond b (o >>= λ x. put x.0 (repeat is_left entry_at n x.1)) (Ok ([], s)) ≡ Ok (xs, rest) → rest ≡ []
+round_ends : (n : ℕ) (s : Tokens) (xs : List Item) (rest : Tokens) (b : Bool) (o : ParseResult Item) → (b ≡ false → s ≡ []) → ((x : Item) (left : Tokens) → o ≡ Ok (x, left) → (ys : List Item) (end : Tokens) → repeat is_left entry_at n left ≡ Ok (ys, end) → end ≡ []) → cond b (o >>= λ x. put x.0 (repeat is_left entry_at n x.1)) (Ok ([], s)) ≡ Ok (xs, rest) → rest ≡ []
 round_ends n s xs rest false o none more h = at_pair (λ (ys : List Item) (left : Tokens). left ≡ []) [] s xs rest h (none refl)
 round_ends n s xs rest true (Err e) none more h = absurd (no_err e (xs, rest) h)
 round_ends n s xs rest true (Ok x) none more h = put_ok x.0 (repeat is_left entry_at n x.1) xs rest (λ (ys : List Item) (left : Tokens). left ≡ []) h (λ ys left r. more x.0 x.1 refl ys left r)
@@ -35,9 +35,9 @@ module_ends ts xs rest h = repeat_ends (length (strip ts)) (strip ts) xs rest (o
 pub module_derived : (ts : Tokens) (xs : List Item) (rest : Tokens) → module_at ts ≡ Ok (xs, rest) → Derives 0 ts xs
 module_derived ts xs rest h = module_sound ts xs rest h (module_ends ts xs rest h)
 
-behind_nothing : (ts : Tokens) (x : Declaration × Tokens) (d : Declaration) (rest : Tokens) (b : Bool) → declaration_at ts ≡ Ok x → is_left x.1 ≡ b → ◌≡◌ {A = Reading Declaration} (cond b (Err (Unexpected x.1)) (Ok x)) (Ok (d, rest)) → Declares ts d
-behind_nothing ts x d rest true e f h = absurd (no_err (Unexpected x.1) (d, rest) h)
-behind_nothing ts x d rest false e f h =
+after_nothing : (ts : Tokens) (x : Declaration × Tokens) (d : Declaration) (rest : Tokens) (b : Bool) → declaration_at ts ≡ Ok x → is_left x.1 ≡ b → ◌≡◌ {A = ParseResult Declaration} (cond b (Err (Unexpected x.1)) (Ok x)) (Ok (d, rest)) → Declares ts d
+after_nothing ts x d rest true e f h = absurd (no_err (Unexpected x.1) (d, rest) h)
+after_nothing ts x d rest false e f h =
     let same = ok_is x (d, rest) h in
     subst (λ (y : Declaration × Tokens). Declares ts y.0) same (declaration_sound ts x.0 x.1 e (left_is_none x.1 f))
 
@@ -46,4 +46,4 @@ pub declaration_derived : (ts : Tokens) (d : Declaration) (rest : Tokens) → wh
 unfolding whole_declaration_at
 declaration_derived ts d rest h =
     let r = bind_ok (declaration_at ts) (λ x. cond (is_left x.1) (Err (Unexpected x.1)) (Ok x)) (d, rest) h in
-    behind_nothing ts r.0 d rest (is_left (r.0).1) r.1 refl r.2
+    after_nothing ts r.0 d rest (is_left (r.0).1) r.1 refl r.2

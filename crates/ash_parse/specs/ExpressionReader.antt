@@ -1,5 +1,5 @@
--- Reading an expression, one function for each phrase. `below` reads what stands one deeper: a whole expression where it
--- is told `true`, and the operand of a unary operator where it is told `false`.
+-- ParseResult an expression, one function for each phrase. `below` reads what stands one deeper: a whole expression where it
+-- is reported `true`, and the operand of a unary operator where it is reported `false`.
 use Rattle.std.specs.Prelude.{ℕ, zero, suc, List, [], ◌∷◌, ◌==◌, Bool, true, false, Option, Some, None, is_some, Ok, Err, if◌then◌else◌}
 use Rattle.ash_lex.specs.Tokens.{Meaning, name, number, sign, reserved}
 use Rattle.ash_lex.specs.declared.signs.Sign.TheVariants as signs
@@ -13,11 +13,11 @@ use Rattle.ash_tree.specs.Tree.{Expr, Number, Truth, Null, This, Name, Call, Bra
 use Rattle.ash_tree.specs.Tokens.{Tokens}
 use Rattle.ash_tree.specs.Operators.{primitive, unary_operator, binary_operator, level, LEVELS, assign_operator}
 use Rattle.ash_parse.specs.Signs.{is_sign}
-use Rattle.ash_parse.specs.Reading.{Reading, Unexpected, TooDeep, ◌>>=◌, put, loop, next_is, next_is_sign, expect_at, name_at}
+use Rattle.ash_parse.specs.Readers.{ParseResult, Unexpected, TooDeep, ◌>>=◌, put, loop, next_is, next_is_sign, expect_at, name_at}
 use Rattle.ash_parse.specs.TypeReader.{element_at, target_at}
 
 abbrev pub Below : Type 0
-Below = Bool → Tokens → Reading Expr
+Below = Bool → Tokens → ParseResult Expr
 
 -- the token begins an expression
 unfoldable pub begins : Meaning → Bool
@@ -33,24 +33,24 @@ begins (reserved words.Cast) = true
 begins m = if is_some (primitive m) then true else is_some (unary_operator m)
 
 -- where no deeper phrase may begin
-unfoldable pub limit_at : Tokens → Reading Expr
+unfoldable pub limit_at : Tokens → ParseResult Expr
 limit_at ts = if next_is begins ts then Err (TooDeep ts) else Err (Unexpected ts)
 
 -- "," assign
-unfoldable pub next_expr_with : Below → Tokens → Reading Expr
+unfoldable pub next_expr_with : Below → Tokens → ParseResult Expr
 next_expr_with below ts = do
   comma ← expect_at signs.Comma ts
   below true comma.1
 
-unfoldable pub more_exprs_with : Below → Tokens → Reading (List Expr)
+unfoldable pub more_exprs_with : Below → Tokens → ParseResult (List Expr)
 more_exprs_with below ts = loop (next_is_sign signs.Comma) (next_expr_with below) ts
 
--- [ assign { "," assign } ] in front of a ")"
-unfoldable pub exprs_with : Below → Tokens → Reading (List Expr)
+-- [ assign { "," assign } ] before a ")"
+unfoldable pub exprs_with : Below → Tokens → ParseResult (List Expr)
 exprs_with below ts =
     if next_is_sign signs.CloseParenthesis ts then Ok ([], ts) else (below true ts >>= λ first. put first.0 (more_exprs_with below first.1))
 
-unfoldable pub arguments_with : Below → Tokens → Reading (List Expr)
+unfoldable pub arguments_with : Below → Tokens → ParseResult (List Expr)
 arguments_with below ts = do
   opened ← expect_at signs.OpenParenthesis ts
   es ← exprs_with below opened.1
@@ -58,33 +58,33 @@ arguments_with below ts = do
   Ok (es.0, closed.1)
 
 -- "(" assign ")"
-unfoldable pub bracketed_with : Below → Tokens → Reading Expr
+unfoldable pub bracketed_with : Below → Tokens → ParseResult Expr
 bracketed_with below ts = do
   opened ← expect_at signs.OpenParenthesis ts
   e ← below true opened.1
   closed ← expect_at signs.CloseParenthesis e.1
   Ok (e.0, closed.1)
 
--- NAME [args], behind the name
-unfoldable pub named_with : Below → Place → List ℕ → Tokens → Reading Expr
+-- NAME [args], after the name
+unfoldable pub named_with : Below → Place → List ℕ → Tokens → ParseResult Expr
 named_with below p text ts =
     if next_is_sign signs.OpenParenthesis ts then (arguments_with below ts >>= λ es. Ok (Call p text (exprs es.0), es.1)) else Ok (Name p text, ts)
 
--- "<" elem ">" args, behind the word `array`
-unfoldable pub new_array_with : Below → Place → Tokens → Reading Expr
+-- "<" elem ">" args, after the word `array`
+unfoldable pub new_array_with : Below → Place → Tokens → ParseResult Expr
 new_array_with below p ts = do
   of ← element_at ts
   es ← arguments_with below of.1
   Ok (NewArray p of.0 (exprs es.0), es.1)
 
--- "<" NAME ">" "(" assign ")", behind the word `cast`
-unfoldable pub cast_with : Below → Place → Tokens → Reading Expr
+-- "<" NAME ">" "(" assign ")", after the word `cast`
+unfoldable pub cast_with : Below → Place → Tokens → ParseResult Expr
 cast_with below p ts = do
   t ← target_at ts
   e ← bracketed_with below t.1
   Ok (Cast p t.0 e.0, e.1)
 
-abbrev pub primary_by : Below → Option Primitive → Meaning → Place → Tokens → Reading Expr
+abbrev pub primary_by : Below → Option Primitive → Meaning → Place → Tokens → ParseResult Expr
 primary_by below (Some k) m p ts = bracketed_with below ts >>= λ e. Ok (Convert p k e.0, e.1)
 primary_by below None (name text) p ts = named_with below p text ts
 primary_by below None (number n) p ts = Ok (Number p n, ts)
@@ -97,7 +97,7 @@ primary_by below None (reserved words.Array) p ts = new_array_with below p ts
 primary_by below None (reserved words.Cast) p ts = cast_with below p ts
 primary_by below None m p ts = Err (Unexpected ((m, p) ∷ ts))
 
-unfoldable pub primary_with : Below → Tokens → Reading Expr
+unfoldable pub primary_with : Below → Tokens → ParseResult Expr
 primary_with below [] = Err (Unexpected [])
 primary_with below ((m, p) ∷ ts) = primary_by below (primitive m) m p ts
 
@@ -111,19 +111,19 @@ begins_suffix _ = false
 unfoldable pub is_suffix : Tokens → Bool
 is_suffix ts = next_is begins_suffix ts
 
--- NAME [args], behind the "."
-unfoldable pub member_with : Below → Tokens → Reading Suffix
+-- NAME [args], after the "."
+unfoldable pub member_with : Below → Tokens → ParseResult Suffix
 member_with below ts =
     name_at ts >>= λ n. if next_is_sign signs.OpenParenthesis n.1 then (arguments_with below n.1 >>= λ es. Ok (Method (n.0).1 (n.0).0 (exprs es.0), es.1)) else Ok (Field (n.0).1 (n.0).0, n.1)
 
--- assign "]", behind the "["
-unfoldable pub index_with : Below → Tokens → Reading Suffix
+-- assign "]", after the "["
+unfoldable pub index_with : Below → Tokens → ParseResult Suffix
 index_with below ts = do
   e ← below true ts
   closed ← expect_at signs.CloseBracket e.1
   Ok (Index e.0, closed.1)
 
-unfoldable pub suffix_with : Below → Tokens → Reading Suffix
+unfoldable pub suffix_with : Below → Tokens → ParseResult Suffix
 suffix_with below [] = Err (Unexpected [])
 suffix_with below ((sign signs.Dot, p) ∷ ts) = member_with below ts
 suffix_with below ((sign signs.OpenBracket, p) ∷ ts) = index_with below ts
@@ -131,20 +131,20 @@ suffix_with below ((sign signs.Increment, p) ∷ ts) = Ok (Increment, ts)
 suffix_with below ((sign signs.Decrement, p) ∷ ts) = Ok (Decrement, ts)
 suffix_with below ((m, p) ∷ ts) = Err (Unexpected ((m, p) ∷ ts))
 
-unfoldable pub suffixes_with : Below → Tokens → Reading (List Suffix)
+unfoldable pub suffixes_with : Below → Tokens → ParseResult (List Suffix)
 suffixes_with below ts = loop is_suffix (suffix_with below) ts
 
-unfoldable pub postfix_with : Below → Tokens → Reading Expr
+unfoldable pub postfix_with : Below → Tokens → ParseResult Expr
 postfix_with below ts = do
   e ← primary_with below ts
   more ← suffixes_with below e.1
   Ok (suffixed e.0 more.0, more.1)
 
-abbrev pub unary_by : Below → Option UnaryOp → Meaning → Place → Tokens → Reading Expr
+abbrev pub unary_by : Below → Option UnaryOp → Meaning → Place → Tokens → ParseResult Expr
 unary_by below None m p ts = postfix_with below ((m, p) ∷ ts)
 unary_by below (Some operator) m p ts = below false ts >>= λ e. Ok (Unary p operator e.0, e.1)
 
-unfoldable pub unary_with : Below → Tokens → Reading Expr
+unfoldable pub unary_with : Below → Tokens → ParseResult Expr
 unary_with below [] = Err (Unexpected [])
 unary_with below ((m, p) ∷ ts) = unary_by below (unary_operator m) m p ts
 
@@ -169,53 +169,53 @@ next_level ((m, p) ∷ ts) = level_by (binary_operator m)
 unfoldable pub is_link : ℕ → Tokens → Bool
 is_link n ts = is_some (operator_at n ts)
 
-abbrev pub link_from : (Tokens → Reading Expr) → Option (BinaryOp × Tokens) → Tokens → Reading Operation
+abbrev pub link_from : (Tokens → ParseResult Expr) → Option (BinaryOp × Tokens) → Tokens → ParseResult Operation
 link_from operand None ts = Err (Unexpected ts)
 link_from operand (Some o) ts = operand o.1 >>= λ e. Ok (record { operator = o.0; operand = e.0 }, e.1)
 
 -- an operator of this level with its right operand
-unfoldable pub link_by : ℕ → (Tokens → Reading Expr) → Tokens → Reading Operation
+unfoldable pub link_by : ℕ → (Tokens → ParseResult Expr) → Tokens → ParseResult Operation
 link_by n operand ts = link_from operand (operator_at n ts) ts
 
-unfoldable pub links_by : ℕ → (Tokens → Reading Expr) → Tokens → Reading (List Operation)
+unfoldable pub links_by : ℕ → (Tokens → ParseResult Expr) → Tokens → ParseResult (List Operation)
 links_by n operand ts = loop (is_link n) (link_by n operand) ts
 
-unfoldable pub chain_by : ℕ → (Tokens → Reading Expr) → Tokens → Reading Expr
+unfoldable pub chain_by : ℕ → (Tokens → ParseResult Expr) → Tokens → ParseResult Expr
 chain_by n operand ts = do
   first ← operand ts
   more ← links_by n operand first.1
   Ok (chained first.0 more.0, more.1)
 
 -- what operators up to this level join
-unfoldable pub binary_with : Below → ℕ → Tokens → Reading Expr
+unfoldable pub binary_with : Below → ℕ → Tokens → ParseResult Expr
 binary_with below zero ts = unary_with below ts
 binary_with below (suc n) ts = chain_by n (binary_with below n) ts
 
--- ":" assign, behind the first branch
-unfoldable pub other_branch_with : Below → Place → Expr → Expr → Tokens → Reading Expr
+-- ":" assign, after the first branch
+unfoldable pub other_branch_with : Below → Place → Expr → Expr → Tokens → ParseResult Expr
 other_branch_with below p c a ts = do
   colon ← expect_at signs.Colon ts
   b ← below true colon.1
   Ok (Conditional p c a b.0, b.1)
 
--- "?" assign ":" assign, behind the "?"
-unfoldable pub branches_with : Below → Expr → Tokens → Reading Expr
+-- "?" assign ":" assign, after the "?"
+unfoldable pub branches_with : Below → Expr → Tokens → ParseResult Expr
 branches_with below c ts = do
   a ← below true ts
   colon ← expect_at signs.Colon a.1
   b ← below true colon.1
   Ok (Conditional (place_of c) c a.0 b.0, b.1)
 
-abbrev pub assign_by : Below → Expr → Option AssignOp → Meaning → Place → Tokens → Reading Expr
+abbrev pub assign_by : Below → Expr → Option AssignOp → Meaning → Place → Tokens → ParseResult Expr
 assign_by below e None m p ts = Ok (e, (m, p) ∷ ts)
 assign_by below e (Some operator) m p ts = below true ts >>= λ v. Ok (Assign (place_of e) e operator v.0, v.1)
 
--- what stands behind the first operand of an `assign`
-unfoldable pub assign_from : Below → Expr → Tokens → Reading Expr
+-- what stands after the first operand of an `assign`
+unfoldable pub assign_from : Below → Expr → Tokens → ParseResult Expr
 assign_from below e [] = Ok (e, [])
 assign_from below e ((m, p) ∷ ts) = if is_sign signs.Question m then branches_with below e ts else assign_by below e (assign_operator m) m p ts
 
-unfoldable pub assign_with : Below → Tokens → Reading Expr
+unfoldable pub assign_with : Below → Tokens → ParseResult Expr
 assign_with below ts = binary_with below LEVELS ts >>= λ e. assign_from below e.0 e.1
 
 -- with room for so many deeper phrases, one in the other

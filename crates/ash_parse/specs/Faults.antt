@@ -1,4 +1,4 @@
--- What is told where reading stops.
+-- What is reported where reading stops.
 use Rattle.std.specs.Prelude.{◌≡◌, ℕ, List, [], ◌∷◌, Option, Some, None, Ok, Err, ◌-◌, length, codes, if◌then◌else◌}
 use Rattle.std.specs.List.{slice_get}
 use Rattle.ash_lex.specs.Tokens.{Meaning, sign, unsupported}
@@ -7,16 +7,16 @@ use Rattle.ash_lex.specs.declared.signs.Sign.TheVariants as signs
 use Rattle.ash_lex.specs.declared.tokens.Token.{Token}
 use Rattle.ash_tree.specs.Tree.{Declaration}
 use Rattle.ash_tree.specs.Tokens.{Tokens, tokens_of}
-use Rattle.ash_parse.specs.declared.stop.Stop.{Stop}
-use Rattle.ash_parse.specs.declared.stop.Stop.TheVariants as stops
+use Rattle.ash_parse.specs.declared.error.ParseError.{ParseError}
+use Rattle.ash_parse.specs.declared.error.ParseError.TheVariants as stops
 use Rattle.ash_parse.specs.declared.faults.UnsupportedPart.{UnsupportedPart}
 use Rattle.ash_parse.specs.declared.faults.UnsupportedPart.TheVariants as parts
 use Rattle.ash_parse.specs.declared.faults.ParseFault.{ParseFault}
 use Rattle.ash_parse.specs.declared.faults.ParseFault.TheVariants as faults
-use Rattle.ash_parse.specs.Reading.{Halt, Unexpected, TooDeep, Reading, ◌>>=◌}
+use Rattle.ash_parse.specs.Readers.{Halt, Unexpected, TooDeep, ParseResult, ◌>>=◌}
 use Rattle.ash_parse.specs.ItemReader.{is_left, declaration_at}
 
--- the word or sign by which a part that the profile doesn't have is told
+-- the word or sign by which a part that the profile doesn't have is reported
 abbrev pub part_text : UnsupportedPart → List ℕ
 part_text (parts.Word w) = unsupported_text w
 part_text parts.Power = codes "**"
@@ -57,21 +57,21 @@ abbrev pub fault_of : ℕ → Halt → ParseFault
 fault_of end (Unexpected rest) = fault_before end rest
 fault_of end (TooDeep rest) = faults.TooDeep (start end rest)
 
--- what is told, of why reading stops
-abbrev pub Tells : List Token → ParseFault → Halt → Type 0
-Tells all fault halt = fault ≡ fault_of (end_of all) halt
+-- what is reported, of why reading stops
+abbrev pub Reports : List Token → ParseFault → Halt → Type 0
+Reports all fault halt = fault ≡ fault_of (end_of all) halt
 
-abbrev pub IsTold : List Token → ParseFault → Stop → Type 0
-IsTold all fault (stops.Unexpected rest) = Tells all fault (Unexpected (tokens_of rest.now))
-IsTold all fault (stops.TooDeep rest) = Tells all fault (TooDeep (tokens_of rest.now))
-IsTold all fault stops.NoMemory = fault ≡ faults.NoMemory
+abbrev pub IsReported : List Token → ParseFault → ParseError → Type 0
+IsReported all fault (stops.Unexpected rest) = Reports all fault (Unexpected (tokens_of rest.now))
+IsReported all fault (stops.TooDeep rest) = Reports all fault (TooDeep (tokens_of rest.now))
+IsReported all fault stops.NoMemory = fault ≡ faults.NoMemory
 
 -- the fault is what reading stops at, or memory ran out
-abbrev pub IsFault : {A : Type 0} → List Token → ParseFault → Reading A → Type 0
+abbrev pub IsFault : {A : Type 0} → List Token → ParseFault → ParseResult A → Type 0
 IsFault all faults.NoMemory read = Unit {0}
 IsFault all fault (Ok x) = ⊥
-IsFault all fault (Err e) = Tells all fault e
+IsFault all fault (Err e) = Reports all fault e
 
--- a declaration, with nothing behind it
-unfoldable pub whole_declaration_at : Tokens → Reading Declaration
+-- a declaration, with nothing after it
+unfoldable pub whole_declaration_at : Tokens → ParseResult Declaration
 whole_declaration_at ts = declaration_at ts >>= λ d. if is_left d.1 then Err (Unexpected d.1) else Ok d

@@ -1,4 +1,4 @@
--- Reading modules and registered declarations, one function for each phrase.
+-- ParseResult modules and registered declarations, one function for each phrase.
 use Rattle.std.specs.Prelude.{ℕ, List, [], ◌∷◌, Bool, true, false, Option, Some, None, Ok, Err, if◌then◌else◌}
 use Rattle.ash_lex.specs.Tokens.{Meaning, reserved}
 use Rattle.ash_lex.specs.declared.signs.Sign.TheVariants as signs
@@ -8,8 +8,8 @@ use Rattle.ash_tree.specs.Tree.{Named, TypeName, Vars, Stmt, Parameter, Function
 use Rattle.ash_tree.specs.Tokens.{Tokens}
 use Rattle.ash_tree.specs.Expressions.{DEPTH}
 use Rattle.ash_parse.specs.Signs.{is_sign}
-use Rattle.ash_parse.specs.Reading.{Reading, Unexpected, ◌>>=◌, put, loop, next_is_sign, expect_at, name_at}
-use Rattle.ash_parse.specs.TypeReader.{is_array, behind_element}
+use Rattle.ash_parse.specs.Readers.{ParseResult, Unexpected, ◌>>=◌, put, loop, next_is_sign, expect_at, name_at}
+use Rattle.ash_parse.specs.TypeReader.{is_array, after_element}
 use Rattle.ash_parse.specs.ExpressionReader.{below_at}
 use Rattle.ash_parse.specs.StatementReader.{next_is_name, type_at, is_vars, declared_with, goes_on, block_with, nested_at}
 
@@ -26,30 +26,30 @@ is_interface (reserved words.Interface) = true
 is_interface _ = false
 
 -- rtype
-unfoldable pub result_type_at : Tokens → Reading (Option Named)
+unfoldable pub result_type_at : Tokens → ParseResult (Option Named)
 result_type_at [] = Err (Unexpected [])
 result_type_at ((m, p) ∷ ts) = if is_void m then Ok (None, ts) else (type_at ((m, p) ∷ ts) >>= λ t. Ok (Some t.0, t.1))
 
 -- type NAME
-unfoldable pub parameter_at : Tokens → Reading Parameter
+unfoldable pub parameter_at : Tokens → ParseResult Parameter
 parameter_at ts = do
   t ← type_at ts
   n ← name_at t.1
   Ok (record { of = t.0; place = (n.0).1; name = (n.0).0 }, n.1)
 
-unfoldable pub next_parameter_at : Tokens → Reading Parameter
+unfoldable pub next_parameter_at : Tokens → ParseResult Parameter
 next_parameter_at ts = do
   comma ← expect_at signs.Comma ts
   parameter_at comma.1
 
-unfoldable pub more_parameters_at : Tokens → Reading (List Parameter)
+unfoldable pub more_parameters_at : Tokens → ParseResult (List Parameter)
 more_parameters_at ts = loop (next_is_sign signs.Comma) next_parameter_at ts
 
--- [ type NAME { "," type NAME } ] in front of a ")"
-unfoldable pub parameter_list_at : Tokens → Reading (List Parameter)
+-- [ type NAME { "," type NAME } ] before a ")"
+unfoldable pub parameter_list_at : Tokens → ParseResult (List Parameter)
 parameter_list_at ts = if next_is_sign signs.CloseParenthesis ts then Ok ([], ts) else (parameter_at ts >>= λ x. put x.0 (more_parameters_at x.1))
 
-unfoldable pub parameters_at : Tokens → Reading (List Parameter)
+unfoldable pub parameters_at : Tokens → ParseResult (List Parameter)
 parameters_at ts = do
   o ← expect_at signs.OpenParenthesis ts
   xs ← parameter_list_at o.1
@@ -57,10 +57,10 @@ parameters_at ts = do
   Ok (xs.0, z.1)
 
 -- the body of a function
-unfoldable pub body_at : Tokens → Reading (List Stmt)
+unfoldable pub body_at : Tokens → ParseResult (List Stmt)
 body_at ts = block_with (below_at DEPTH) (nested_at DEPTH) ts
 
-unfoldable pub function_at : Tokens → Reading Function
+unfoldable pub function_at : Tokens → ParseResult Function
 function_at ts = do
   r ← result_type_at ts
   n ← name_at r.1
@@ -69,15 +69,15 @@ function_at ts = do
   Ok (record { place = (n.0).1; result = r.0; name = (n.0).0; parameters = xs.0; body = b.0 }, b.1)
 
 -- vars ";" outside functions
-unfoldable pub globals_at : Tokens → Reading Vars
+unfoldable pub globals_at : Tokens → ParseResult Vars
 globals_at ts = declared_with (below_at DEPTH) ts
 
 -- all but the first token
-unfoldable pub behind : Tokens → Tokens
-behind [] = []
-behind (t ∷ ts) = ts
+unfoldable pub after : Tokens → Tokens
+after [] = []
+after (t ∷ ts) = ts
 
--- behind the "(" of a function's parameters, and not of arguments
+-- after the "(" of a function's parameters, and not of arguments
 unfoldable pub opens_body : Tokens → Bool
 opens_body [] = false
 opens_body ((m, p) ∷ ts) = if is_sign signs.CloseParenthesis m then next_is_sign signs.OpenBrace ts else false
@@ -85,11 +85,11 @@ opens_body ((m, p) ∷ ts) = if is_sign signs.CloseParenthesis m then next_is_si
 -- NAME "(" and what begins parameters
 unfoldable pub names_function : Tokens → Bool
 names_function ts =
-    if next_is_name ts then (if next_is_sign signs.OpenParenthesis (behind ts) then (if is_vars (behind (behind ts)) then true else opens_body (behind (behind ts))) else false) else false
+    if next_is_name ts then (if next_is_sign signs.OpenParenthesis (after ts) then (if is_vars (after (after ts)) then true else opens_body (after (after ts))) else false) else false
 
--- ["@"], and behind it NAME "(" and what begins parameters
+-- ["@"], and after it NAME "(" and what begins parameters
 unfoldable pub handle_names_function : Tokens → Bool
-handle_names_function ts = if next_is_sign signs.Handle ts then names_function (behind ts) else names_function ts
+handle_names_function ts = if next_is_sign signs.Handle ts then names_function (after ts) else names_function ts
 
 abbrev pub array_names_function : Option Tokens → Bool
 array_names_function None = false
@@ -98,46 +98,46 @@ array_names_function (Some ts) = handle_names_function ts
 -- the tokens begin a function, and no declaration of variables
 unfoldable pub is_function : Tokens → Bool
 is_function [] = false
-is_function ((m, p) ∷ ts) = if is_void m then true else (if is_array m then array_names_function (behind_element ts) else handle_names_function ts)
+is_function ((m, p) ∷ ts) = if is_void m then true else (if is_array m then array_names_function (after_element ts) else handle_names_function ts)
 
 unfoldable pub is_constructor : Tokens → Bool
-is_constructor ts = if next_is_name ts then next_is_sign signs.OpenParenthesis (behind ts) else false
+is_constructor ts = if next_is_name ts then next_is_sign signs.OpenParenthesis (after ts) else false
 
-unfoldable pub constructor_at : Tokens → Reading Constructor
+unfoldable pub constructor_at : Tokens → ParseResult Constructor
 constructor_at ts = do
   n ← name_at ts
   xs ← parameters_at n.1
   b ← body_at xs.1
   Ok (record { place = (n.0).1; name = (n.0).0; parameters = xs.0; body = b.0 }, b.1)
 
-unfoldable pub member_at : Tokens → Reading Member
+unfoldable pub member_at : Tokens → ParseResult Member
 member_at ts =
     if is_constructor ts then (constructor_at ts >>= λ f. Ok (AConstructor f.0, f.1))
     else (if is_function ts then (function_at ts >>= λ f. Ok (AMethod f.0, f.1)) else (globals_at ts >>= λ v. Ok (AField v.0, v.1)))
 
-unfoldable pub members_at : Tokens → Reading (List Member)
+unfoldable pub members_at : Tokens → ParseResult (List Member)
 members_at ts = loop goes_on member_at ts
 
 -- "," NAME
-unfoldable pub next_interface_at : Tokens → Reading TypeName
+unfoldable pub next_interface_at : Tokens → ParseResult TypeName
 next_interface_at ts = do
   comma ← expect_at signs.Comma ts
   n ← name_at comma.1
   Ok (record { place = (n.0).1; name = (n.0).0 }, n.1)
 
-unfoldable pub more_interfaces_at : Tokens → Reading (List TypeName)
+unfoldable pub more_interfaces_at : Tokens → ParseResult (List TypeName)
 more_interfaces_at ts = loop (next_is_sign signs.Comma) next_interface_at ts
 
 -- NAME { "," NAME }
-unfoldable pub listed_interfaces_at : Tokens → Reading (List TypeName)
+unfoldable pub listed_interfaces_at : Tokens → ParseResult (List TypeName)
 listed_interfaces_at ts = name_at ts >>= λ n. put (record { place = (n.0).1; name = (n.0).0 }) (more_interfaces_at n.1)
 
 -- [ ":" NAME { "," NAME } ]
-unfoldable pub interfaces_at : Tokens → Reading (List TypeName)
+unfoldable pub interfaces_at : Tokens → ParseResult (List TypeName)
 interfaces_at ts = if next_is_sign signs.Colon ts then (expect_at signs.Colon ts >>= λ c. listed_interfaces_at c.1) else Ok ([], ts)
 
--- a class behind the word `class`
-unfoldable pub class_at : Tokens → Reading Class
+-- a class after the word `class`
+unfoldable pub class_at : Tokens → ParseResult Class
 class_at ts = do
   n ← name_at ts
   is ← interfaces_at n.1
@@ -147,7 +147,7 @@ class_at ts = do
   Ok (record { place = (n.0).1; name = (n.0).0; interfaces = is.0; members = xs.0 }, z.1)
 
 -- rtype NAME params ";"
-unfoldable pub interface_method_at : Tokens → Reading InterfaceMethod
+unfoldable pub interface_method_at : Tokens → ParseResult InterfaceMethod
 interface_method_at ts = do
   r ← result_type_at ts
   n ← name_at r.1
@@ -155,11 +155,11 @@ interface_method_at ts = do
   z ← expect_at signs.Semicolon xs.1
   Ok (record { place = (n.0).1; result = r.0; name = (n.0).0; parameters = xs.0 }, z.1)
 
-unfoldable pub interface_methods_at : Tokens → Reading (List InterfaceMethod)
+unfoldable pub interface_methods_at : Tokens → ParseResult (List InterfaceMethod)
 interface_methods_at ts = loop goes_on interface_method_at ts
 
--- an interface behind the word `interface`
-unfoldable pub interface_at : Tokens → Reading Interface
+-- an interface after the word `interface`
+unfoldable pub interface_at : Tokens → ParseResult Interface
 interface_at ts = do
   n ← name_at ts
   o ← expect_at signs.OpenBrace n.1
@@ -168,52 +168,52 @@ interface_at ts = do
   Ok (record { place = (n.0).1; name = (n.0).0; methods = xs.0 }, z.1)
 
 -- a function or variables, whichever the tokens begin
-abbrev pub other_item_at : Tokens → Reading Item
+abbrev pub other_item_at : Tokens → ParseResult Item
 other_item_at ts = if is_function ts then (function_at ts >>= λ f. Ok (AFunction f.0, f.1)) else (globals_at ts >>= λ v. Ok (AGlobal v.0, v.1))
 
-unfoldable pub item_at : Tokens → Reading Item
+unfoldable pub item_at : Tokens → ParseResult Item
 item_at [] = Err (Unexpected [])
 item_at ((m, p) ∷ ts) =
     if is_class m then (class_at ts >>= λ c. Ok (AClass c.0, c.1))
     else (if is_interface m then (interface_at ts >>= λ i. Ok (AnInterface i.0, i.1)) else other_item_at ((m, p) ∷ ts))
 
--- behind each ";" in front
+-- after each ";" in prefix
 unfoldable pub strip : Tokens → Tokens
 strip [] = []
 strip ((m, p) ∷ ts) = if is_sign signs.Semicolon m then strip ts else (m, p) ∷ ts
 
--- an item, and each ";" behind it
-unfoldable pub entry_at : Tokens → Reading Item
+-- an item, and each ";" after it
+unfoldable pub entry_at : Tokens → ParseResult Item
 entry_at ts = item_at ts >>= λ x. Ok (x.0, strip x.1)
 
 unfoldable pub is_left : Tokens → Bool
 is_left [] = false
 is_left (t ∷ ts) = true
 
-unfoldable pub entries_at : Tokens → Reading (List Item)
+unfoldable pub entries_at : Tokens → ParseResult (List Item)
 entries_at ts = loop is_left entry_at ts
 
 -- a module
-unfoldable pub module_at : Tokens → Reading (List Item)
+unfoldable pub module_at : Tokens → ParseResult (List Item)
 module_at ts = entries_at (strip ts)
 
 -- type [NAME]
-unfoldable pub unnamed_at : Tokens → Reading Named
-unnamed_at ts = type_at ts >>= λ t. Ok (t.0, if next_is_name t.1 then behind t.1 else t.1)
+unfoldable pub unnamed_at : Tokens → ParseResult Named
+unnamed_at ts = type_at ts >>= λ t. Ok (t.0, if next_is_name t.1 then after t.1 else t.1)
 
-unfoldable pub next_unnamed_at : Tokens → Reading Named
+unfoldable pub next_unnamed_at : Tokens → ParseResult Named
 next_unnamed_at ts = do
   comma ← expect_at signs.Comma ts
   unnamed_at comma.1
 
-unfoldable pub more_unnamed_at : Tokens → Reading (List Named)
+unfoldable pub more_unnamed_at : Tokens → ParseResult (List Named)
 more_unnamed_at ts = loop (next_is_sign signs.Comma) next_unnamed_at ts
 
-unfoldable pub unnamed_list_at : Tokens → Reading (List Named)
+unfoldable pub unnamed_list_at : Tokens → ParseResult (List Named)
 unnamed_list_at ts = if next_is_sign signs.CloseParenthesis ts then Ok ([], ts) else (unnamed_at ts >>= λ x. put x.0 (more_unnamed_at x.1))
 
 -- "(" [ type [NAME] { "," type [NAME] } ] ")"
-unfoldable pub unnamed_parameters_at : Tokens → Reading (List Named)
+unfoldable pub unnamed_parameters_at : Tokens → ParseResult (List Named)
 unnamed_parameters_at ts = do
   o ← expect_at signs.OpenParenthesis ts
   xs ← unnamed_list_at o.1
@@ -221,17 +221,17 @@ unnamed_parameters_at ts = do
   Ok (xs.0, z.1)
 
 -- what is registered is a property, if it has a type
-abbrev pub property_by : Option Named → Place → List ℕ → Tokens → Reading Declaration
+abbrev pub property_by : Option Named → Place → List ℕ → Tokens → ParseResult Declaration
 property_by (Some t) p text ts = Ok (AProperty (record { place = p; of = t; name = text }), ts)
 property_by None p text ts = Err (Unexpected ts)
 
--- what stands behind the name of a declaration
-unfoldable pub declaration_behind : Option Named → Place → List ℕ → Tokens → Reading Declaration
-declaration_behind r p text ts =
+-- what stands after the name of a declaration
+unfoldable pub declaration_after : Option Named → Place → List ℕ → Tokens → ParseResult Declaration
+declaration_after r p text ts =
     if next_is_sign signs.OpenParenthesis ts then (unnamed_parameters_at ts >>= λ xs. Ok (ASignature (record { place = p; result = r; name = text; parameters = xs.0 }), xs.1)) else property_by r p text ts
 
-unfoldable pub declaration_at : Tokens → Reading Declaration
+unfoldable pub declaration_at : Tokens → ParseResult Declaration
 declaration_at ts = do
   r ← result_type_at ts
   n ← name_at r.1
-  declaration_behind r.0 (n.0).1 (n.0).0 n.1
+  declaration_after r.0 (n.0).1 (n.0).0 n.1

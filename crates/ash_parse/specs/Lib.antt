@@ -1,5 +1,5 @@
 pub mod Signs
-pub mod Reading
+pub mod Readers
 pub mod TypeReader
 pub mod ExpressionReader
 pub mod StatementReader

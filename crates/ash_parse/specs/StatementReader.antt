@@ -1,4 +1,4 @@
--- Reading types, declarations of variables and statements, one function for each phrase. `below` reads an expression one
+-- ParseResult types, declarations of variables and statements, one function for each phrase. `below` reads an expression one
 -- deeper, and `nested` a statement one deeper.
 use Rattle.std.specs.Prelude.{ℕ, zero, suc, List, [], ◌∷◌, Bool, true, false, not, Option, Some, None, is_some, Ok, Err, if◌then◌else◌}
 use Rattle.ash_lex.specs.Tokens.{Meaning, name, number, sign, reserved}
@@ -13,8 +13,8 @@ use Rattle.ash_tree.specs.Tokens.{Tokens}
 use Rattle.ash_tree.specs.Operators.{primitive}
 use Rattle.ash_parse.specs.declared.statements.Leading.{Leading}
 use Rattle.ash_parse.specs.declared.statements.Leading.TheVariants as leads
-use Rattle.ash_parse.specs.Reading.{Reading, Unexpected, TooDeep, ◌>>=◌, put, loop, next_is, next_is_sign, expect_at, name_at}
-use Rattle.ash_parse.specs.TypeReader.{is_array, element_at, behind_element}
+use Rattle.ash_parse.specs.Readers.{ParseResult, Unexpected, TooDeep, ◌>>=◌, put, loop, next_is, next_is_sign, expect_at, name_at}
+use Rattle.ash_parse.specs.TypeReader.{is_array, element_at, after_element}
 use Rattle.ash_parse.specs.ExpressionReader.{Below, begins, exprs_with, arguments_with, bracketed_with, assign_with, below_at}
 
 unfoldable pub is_name : Meaning → Bool
@@ -24,21 +24,21 @@ is_name _ = false
 unfoldable pub next_is_name : Tokens → Bool
 next_is_name ts = next_is is_name ts
 
--- ["@"] behind what is then a handle
-abbrev pub handle_by : Named → Named → Tokens → Reading Named
+-- ["@"] after what is then a handle
+abbrev pub handle_by : Named → Named → Tokens → ParseResult Named
 handle_by plain handle ts = if next_is_sign signs.Handle ts then (expect_at signs.Handle ts >>= λ h. Ok (handle, h.1)) else Ok (plain, ts)
 
-abbrev pub type_by : Option Primitive → Meaning → Place → Tokens → Reading Named
+abbrev pub type_by : Option Primitive → Meaning → Place → Tokens → ParseResult Named
 type_by (Some k) m p ts = Ok (Prim p k, ts)
 type_by None (name t) p ts = handle_by (Object p t) (Handle p t) ts
 type_by None (reserved words.Array) p ts = element_at ts >>= λ e. handle_by (Array p e.0) (ArrayHandle p e.0) e.1
 type_by None m p ts = Err (Unexpected ((m, p) ∷ ts))
 
-unfoldable pub type_at : Tokens → Reading Named
+unfoldable pub type_at : Tokens → ParseResult Named
 type_at [] = Err (Unexpected [])
 type_at ((m, p) ∷ ts) = type_by (primitive m) m p ts
 
--- behind the name of an object type: what a declaration goes on with, and no expression
+-- after the name of an object type: what a declaration goes on with, and no expression
 abbrev pub names_vars : Tokens → Bool
 names_vars ts = if next_is_name ts then true else next_is_sign signs.Handle ts
 
@@ -46,63 +46,63 @@ abbrev pub array_names_vars : Option Tokens → Bool
 array_names_vars None = false
 array_names_vars (Some ts) = names_vars ts
 
--- the tokens begin a declaration of variables or a parameter, by the first two of them, or by what is behind the word
+-- the tokens begin a declaration of variables or a parameter, by the first two of them, or by what is after the word
 -- `array` with its `"<" elem ">"`
 unfoldable pub is_vars : Tokens → Bool
 is_vars [] = false
 is_vars ((m, p) ∷ ts) =
-    if is_some (primitive m) then next_is_name ts else (if is_name m then names_vars ts else (if is_array m then array_names_vars (behind_element ts) else false))
+    if is_some (primitive m) then next_is_name ts else (if is_name m then names_vars ts else (if is_array m then array_names_vars (after_element ts) else false))
 
-unfoldable pub initializer_with : Below → Tokens → Reading Initializer
+unfoldable pub initializer_with : Below → Tokens → ParseResult Initializer
 initializer_with below ts =
     if next_is_sign signs.Assign ts then (expect_at signs.Assign ts >>= λ a. assign_with below a.1 >>= λ e. Ok (Value e.0, e.1))
     else (if next_is_sign signs.OpenParenthesis ts then (arguments_with below ts >>= λ es. Ok (Arguments es.0, es.1)) else Ok (Default, ts))
 
-unfoldable pub decl_with : Below → Tokens → Reading Decl
+unfoldable pub decl_with : Below → Tokens → ParseResult Decl
 decl_with below ts = do
   n ← name_at ts
   i ← initializer_with below n.1
   Ok (record { place = (n.0).1; name = (n.0).0; initializer = i.0 }, i.1)
 
-unfoldable pub next_decl_with : Below → Tokens → Reading Decl
+unfoldable pub next_decl_with : Below → Tokens → ParseResult Decl
 next_decl_with below ts = do
   comma ← expect_at signs.Comma ts
   decl_with below comma.1
 
-unfoldable pub more_decls_with : Below → Tokens → Reading (List Decl)
+unfoldable pub more_decls_with : Below → Tokens → ParseResult (List Decl)
 more_decls_with below ts = loop (next_is_sign signs.Comma) (next_decl_with below) ts
 
-unfoldable pub decls_with : Below → Tokens → Reading (List Decl)
+unfoldable pub decls_with : Below → Tokens → ParseResult (List Decl)
 decls_with below ts = decl_with below ts >>= λ d. put d.0 (more_decls_with below d.1)
 
-unfoldable pub vars_with : Below → Tokens → Reading Vars
+unfoldable pub vars_with : Below → Tokens → ParseResult Vars
 vars_with below ts = do
   t ← type_at ts
   ds ← decls_with below t.1
   Ok (record { of = t.0; decls = ds.0 }, ds.1)
 
 -- vars ";"
-unfoldable pub declared_with : Below → Tokens → Reading Vars
+unfoldable pub declared_with : Below → Tokens → ParseResult Vars
 declared_with below ts = do
   v ← vars_with below ts
   s ← expect_at signs.Semicolon v.1
   Ok (v.0, s.1)
 
 -- the first part of the head of a `for`, with its ";"
-unfoldable pub first_with : Below → Tokens → Reading Stmt
+unfoldable pub first_with : Below → Tokens → ParseResult Stmt
 first_with below ts =
     if next_is_sign signs.Semicolon ts then (expect_at signs.Semicolon ts >>= λ s. Ok (Empty s.0, s.1))
     else (if is_vars ts then (declared_with below ts >>= λ v. Ok (Declare (place_of_type (v.0).of) v.0, v.1))
     else (below true ts >>= λ e. expect_at signs.Semicolon e.1 >>= λ s. Ok (Evaluate (place_of e.0) e.0, s.1)))
 
 -- the second part of the head of a `for`, with its ";"
-unfoldable pub test_with : Below → Tokens → Reading (Option Expr)
+unfoldable pub test_with : Below → Tokens → ParseResult (Option Expr)
 test_with below ts =
     if next_is_sign signs.Semicolon ts then (expect_at signs.Semicolon ts >>= λ s. Ok (None, s.1))
     else (below true ts >>= λ e. expect_at signs.Semicolon e.1 >>= λ s. Ok (Some e.0, s.1))
 
--- what stands behind `return`, with its ";"
-unfoldable pub result_with : Below → Tokens → Reading (Option Expr)
+-- what stands after `return`, with its ";"
+unfoldable pub result_with : Below → Tokens → ParseResult (Option Expr)
 result_with below ts =
     if next_is_sign signs.Semicolon ts then (expect_at signs.Semicolon ts >>= λ s. Ok (None, s.1))
     else (assign_with below ts >>= λ e. expect_at signs.Semicolon e.1 >>= λ s. Ok (Some e.0, s.1))
@@ -137,7 +137,7 @@ begins_by _ b = true
 unfoldable pub begins_stmt : Meaning → Bool
 begins_stmt m = begins_by (leading m) (begins m)
 
-unfoldable pub stmt_limit_at : Tokens → Reading Stmt
+unfoldable pub stmt_limit_at : Tokens → ParseResult Stmt
 stmt_limit_at ts = if next_is begins_stmt ts then Err (TooDeep ts) else Err (Unexpected ts)
 
 abbrev pub is_end : Leading → Bool
@@ -154,15 +154,15 @@ ends_case _ = false
 unfoldable pub goes_on : Tokens → Bool
 goes_on ts = next_is (λ m. not (is_end (leading m))) ts
 
--- the statements behind a label go on
+-- the statements after a label go on
 unfoldable pub case_goes_on : Tokens → Bool
 case_goes_on ts = next_is (λ m. not (ends_case (leading m))) ts
 
 abbrev pub Nested : Type 0
-Nested = Tokens → Reading Stmt
+Nested = Tokens → ParseResult Stmt
 
 -- assign ";"
-unfoldable pub evaluate_with : Below → Tokens → Reading Stmt
+unfoldable pub evaluate_with : Below → Tokens → ParseResult Stmt
 evaluate_with below ts = do
   e ← assign_with below ts
   s ← expect_at signs.Semicolon e.1
@@ -172,18 +172,18 @@ abbrev pub is_else : Leading → Bool
 is_else leads.Else = true
 is_else _ = false
 
--- behind the first branch of an `if`
-unfoldable pub else_with : Nested → Place → Expr → Stmt → Tokens → Reading Stmt
+-- after the first branch of an `if`
+unfoldable pub else_with : Nested → Place → Expr → Stmt → Tokens → ParseResult Stmt
 else_with nested p c s [] = Ok (If p c s, [])
 else_with nested p c s ((m, o) ∷ ts) = if is_else (leading m) then (nested ts >>= λ t. Ok (IfElse p c s t.0, t.1)) else Ok (If p c s, (m, o) ∷ ts)
 
-unfoldable pub if_with : Below → Nested → Place → Tokens → Reading Stmt
+unfoldable pub if_with : Below → Nested → Place → Tokens → ParseResult Stmt
 if_with below nested p ts = do
   c ← bracketed_with below ts
   s ← nested c.1
   else_with nested p c.0 s.0 s.1
 
-unfoldable pub while_with : Below → Nested → Place → Tokens → Reading Stmt
+unfoldable pub while_with : Below → Nested → Place → Tokens → ParseResult Stmt
 while_with below nested p ts = do
   c ← bracketed_with below ts
   s ← nested c.1
@@ -194,19 +194,19 @@ is_while leads.While = true
 is_while _ = false
 
 -- the word `while`
-unfoldable pub while_at : Tokens → Reading Place
+unfoldable pub while_at : Tokens → ParseResult Place
 while_at [] = Err (Unexpected [])
 while_at ((m, p) ∷ ts) = if is_while (leading m) then Ok (p, ts) else Err (Unexpected ((m, p) ∷ ts))
 
--- "while" "(" assign ")" ";" behind the body of a `do`
-unfoldable pub do_end_with : Below → Place → Stmt → Tokens → Reading Stmt
+-- "while" "(" assign ")" ";" after the body of a `do`
+unfoldable pub do_end_with : Below → Place → Stmt → Tokens → ParseResult Stmt
 do_end_with below p s ts = do
   w ← while_at ts
   c ← bracketed_with below w.1
   o ← expect_at signs.Semicolon c.1
   Ok (DoWhile p s c.0, o.1)
 
-unfoldable pub do_with : Below → Nested → Place → Tokens → Reading Stmt
+unfoldable pub do_with : Below → Nested → Place → Tokens → ParseResult Stmt
 do_with below nested p ts = do
   s ← nested ts
   w ← while_at s.1
@@ -214,7 +214,7 @@ do_with below nested p ts = do
   o ← expect_at signs.Semicolon c.1
   Ok (DoWhile p s.0 c.0, o.1)
 
-unfoldable pub for_with : Below → Nested → Place → Tokens → Reading Stmt
+unfoldable pub for_with : Below → Nested → Place → Tokens → ParseResult Stmt
 for_with below nested p ts = do
   o ← expect_at signs.OpenParenthesis ts
   f ← first_with below o.1
@@ -224,43 +224,43 @@ for_with below nested p ts = do
   s ← nested z.1
   Ok (For p f.0 c.0 es.0 s.0, s.1)
 
-unfoldable pub number_at : Tokens → Reading (ℕ × Place)
+unfoldable pub number_at : Tokens → ParseResult (ℕ × Place)
 number_at [] = Err (Unexpected [])
 number_at ((number n, p) ∷ ts) = Ok ((n, p), ts)
 number_at ((m, p) ∷ ts) = Err (Unexpected ((m, p) ∷ ts))
 
 -- ["-"] NUMBER ":"
-unfoldable pub case_value_at : Tokens → Reading (Label × Place)
+unfoldable pub case_value_at : Tokens → ParseResult (Label × Place)
 case_value_at ts =
     if next_is_sign signs.Minus ts then (expect_at signs.Minus ts >>= λ o. number_at o.1 >>= λ n. expect_at signs.Colon n.1 >>= λ c. Ok ((labels.CaseMinus (n.0).0, o.0), c.1))
     else (number_at ts >>= λ n. expect_at signs.Colon n.1 >>= λ c. Ok ((labels.Case (n.0).0, (n.0).1), c.1))
 
-abbrev pub label_by : Leading → Meaning → Place → Tokens → Reading (Label × Place)
+abbrev pub label_by : Leading → Meaning → Place → Tokens → ParseResult (Label × Place)
 label_by leads.Case m p ts = case_value_at ts
 label_by leads.Default m p ts = expect_at signs.Colon ts >>= λ c. Ok ((labels.Default, p), c.1)
 label_by _ m p ts = Err (Unexpected ((m, p) ∷ ts))
 
-unfoldable pub label_at : Tokens → Reading (Label × Place)
+unfoldable pub label_at : Tokens → ParseResult (Label × Place)
 label_at [] = Err (Unexpected [])
 label_at ((m, p) ∷ ts) = label_by (leading m) m p ts
 
-unfoldable pub stmts_with : Nested → Tokens → Reading (List Stmt)
+unfoldable pub stmts_with : Nested → Tokens → ParseResult (List Stmt)
 stmts_with nested ts = loop case_goes_on nested ts
 
-unfoldable pub case_with : Nested → Tokens → Reading Case
+unfoldable pub case_with : Nested → Tokens → ParseResult Case
 case_with nested ts = do
   l ← label_at ts
   ss ← stmts_with nested l.1
   Ok (labelled (l.0).1 (l.0).0 (stmts ss.0), ss.1)
 
-unfoldable pub cases_with : Nested → Tokens → Reading (List Case)
+unfoldable pub cases_with : Nested → Tokens → ParseResult (List Case)
 cases_with nested ts = loop goes_on (case_with nested) ts
 
--- behind the cases of a `switch`
-unfoldable pub switch_end_with : Place → Expr → List Case → Tokens → Reading Stmt
+-- after the cases of a `switch`
+unfoldable pub switch_end_with : Place → Expr → List Case → Tokens → ParseResult Stmt
 switch_end_with p e cs ts = expect_at signs.CloseBrace ts >>= λ z. Ok (Switch p e (cases cs), z.1)
 
-unfoldable pub switch_with : Below → Nested → Place → Tokens → Reading Stmt
+unfoldable pub switch_with : Below → Nested → Place → Tokens → ParseResult Stmt
 switch_with below nested p ts = do
   e ← bracketed_with below ts
   o ← expect_at signs.OpenBrace e.1
@@ -269,20 +269,20 @@ switch_with below nested p ts = do
   Ok (Switch p e.0 (cases cs.0), z.1)
 
 -- vars ";" | stmt
-unfoldable pub local_with : Below → Nested → Tokens → Reading Stmt
+unfoldable pub local_with : Below → Nested → Tokens → ParseResult Stmt
 local_with below nested ts = if is_vars ts then (declared_with below ts >>= λ v. Ok (Declare (place_of_type (v.0).of) v.0, v.1)) else nested ts
 
-unfoldable pub locals_with : Below → Nested → Tokens → Reading (List Stmt)
+unfoldable pub locals_with : Below → Nested → Tokens → ParseResult (List Stmt)
 locals_with below nested ts = loop goes_on (local_with below nested) ts
 
-unfoldable pub block_with : Below → Nested → Tokens → Reading (List Stmt)
+unfoldable pub block_with : Below → Nested → Tokens → ParseResult (List Stmt)
 block_with below nested ts = do
   o ← expect_at signs.OpenBrace ts
   ss ← locals_with below nested o.1
   z ← expect_at signs.CloseBrace ss.1
   Ok (ss.0, z.1)
 
-abbrev pub stmt_by : Leading → Below → Nested → Meaning → Place → Tokens → Reading Stmt
+abbrev pub stmt_by : Leading → Below → Nested → Meaning → Place → Tokens → ParseResult Stmt
 stmt_by leads.Block below nested m p ts = block_with below nested ((m, p) ∷ ts) >>= λ b. Ok (Block p (stmts b.0), b.1)
 stmt_by leads.Empty below nested m p ts = Ok (Empty p, ts)
 stmt_by leads.If below nested m p ts = if_with below nested p ts
@@ -296,7 +296,7 @@ stmt_by leads.Return below nested m p ts = result_with below ts >>= λ e. Ok (Re
 stmt_by leads.Other below nested m p ts = evaluate_with below ((m, p) ∷ ts)
 stmt_by _ below nested m p ts = Err (Unexpected ((m, p) ∷ ts))
 
-unfoldable pub stmt_with : Below → Nested → Tokens → Reading Stmt
+unfoldable pub stmt_with : Below → Nested → Tokens → ParseResult Stmt
 stmt_with below nested [] = Err (Unexpected [])
 stmt_with below nested ((m, p) ∷ ts) = stmt_by (leading m) below nested m p ts
 

@@ -3,7 +3,7 @@ use Rattle.std.specs.Prelude.{◌≡◌, ◌⊎◌, List}
 use Rattle.ash_tree.specs.Tree.{Item, Declaration}
 use Rattle.ash_tree.specs.Tokens.{Tokens}
 use Rattle.ash_tree.specs.Grammar.{Derives, Declares}
-use Rattle.ash_parse.specs.Reading.{Halt}
+use Rattle.ash_parse.specs.Readers.{Halt}
 use Rattle.ash_parse.specs.FirstFault.{FirstFault, FirstDeclarationFault}
 
 -- two lists of items that these tokens derive are one

@@ -1,4 +1,4 @@
-//! Reading types.
+//! ParseResult types.
 //!
 //! Each function reads the phrase that stands above it.
 
@@ -7,13 +7,13 @@ ghost use Rattle.ash_lex.specs.Tokens.{meaning_of};
 ghost use Rattle.ash_tree.specs.Tree.{Object, Handle, Array, ArrayHandle};
 ghost use Rattle.ash_tree.specs.Tokens.{tokens_of};
 ghost use Rattle.ash_tree.specs.Views.{element_of, type_of, type_name_of};
-ghost use Rattle.ash_parse.specs.Reading.{Gives};
+ghost use Rattle.ash_parse.specs.Readers.{ParsesAs};
 ghost use Rattle.ash_parse.specs.TypeReader as types;
 ghost use Rattle.ash_parse.specs.StatementReader as reader;
 
 use crate::cursor::{expect, is_sign, name, next_is_sign, place};
 use crate::operators::primitive;
-use crate::stop::{Reading, Stop};
+use crate::error::{ParseResult, ParseError};
 use ash_lex::{ReservedWord, Sign, Token, TokenKind};
 use ash_tree::{Element, ElementKind, Place, Type, TypeKind, TypeName};
 use std::alloc::Global;
@@ -27,11 +27,11 @@ pub fn is_array(kind: &TokenKind) -> bool
 
 /// `prim | NAME "@"`
 #[tactic(auto, unfolding(crate::specs::TypeReader::elem_at))]
-fn elem(alloc: Global, tokens: &[Token]) -> Reading<'_, Element>
-    ensures { Gives (λ x. (element_of x.0, tokens_of x.1.now)) result (types.elem_at (tokens_of tokens.now)) }
+fn elem(alloc: Global, tokens: &[Token]) -> ParseResult<'_, Element>
+    ensures { ParsesAs (λ x. (element_of x.0, tokens_of x.1.now)) result (types.elem_at (tokens_of tokens.now)) }
 {
     let Some((next, rest)) = tokens.split_first() else {
-        return Err(Stop::Unexpected(tokens));
+        return Err(ParseError::Unexpected(tokens));
     };
     let place = place(next);
     if let Some(primitive) = primitive(&next.kind) {
@@ -39,7 +39,7 @@ fn elem(alloc: Global, tokens: &[Token]) -> Reading<'_, Element>
         return Ok((Element { place, kind }, rest));
     }
     let TokenKind::Name(text) = &next.kind else {
-        return Err(Stop::Unexpected(tokens));
+        return Err(ParseError::Unexpected(tokens));
     };
     let text = String::from_str(alloc, text.as_str())?;
     let (_, rest) = expect(Sign::Handle, rest)?;
@@ -49,8 +49,8 @@ fn elem(alloc: Global, tokens: &[Token]) -> Reading<'_, Element>
 
 /// `"<" elem ">"`
 #[tactic(auto, unfolding(crate::specs::TypeReader::element_at))]
-pub fn element(alloc: Global, tokens: &[Token]) -> Reading<'_, Element>
-    ensures { Gives (λ x. (element_of x.0, tokens_of x.1.now)) result (types.element_at (tokens_of tokens.now)) }
+pub fn element(alloc: Global, tokens: &[Token]) -> ParseResult<'_, Element>
+    ensures { ParsesAs (λ x. (element_of x.0, tokens_of x.1.now)) result (types.element_at (tokens_of tokens.now)) }
 {
     let (_, rest) = expect(Sign::Less, tokens)?;
     let (element, rest) = elem(alloc, rest)?;
@@ -60,8 +60,8 @@ pub fn element(alloc: Global, tokens: &[Token]) -> Reading<'_, Element>
 
 /// `"<" NAME ">"`
 #[tactic(auto, unfolding(crate::specs::TypeReader::target_at))]
-pub fn target(alloc: Global, tokens: &[Token]) -> Reading<'_, TypeName>
-    ensures { Gives (λ x. (type_name_of x.0, tokens_of x.1.now)) result (types.target_at (tokens_of tokens.now)) }
+pub fn target(alloc: Global, tokens: &[Token]) -> ParseResult<'_, TypeName>
+    ensures { ParsesAs (λ x. (type_name_of x.0, tokens_of x.1.now)) result (types.target_at (tokens_of tokens.now)) }
 {
     let (_, rest) = expect(Sign::Less, tokens)?;
     let ((name, place), rest) = name(alloc, rest)?;
@@ -69,10 +69,10 @@ pub fn target(alloc: Global, tokens: &[Token]) -> Reading<'_, TypeName>
     Ok((TypeName { place, name }, rest))
 }
 
-/// What is behind this sign, where it stands.
-#[tactic(auto, unfolding(crate::specs::TypeReader::behind_sign))]
-fn behind_sign(sign: Sign, tokens: &[Token]) -> Option<&[Token]>
-    ensures { option_map (λ x. tokens_of x.now) result ≡ types.behind_sign sign (tokens_of tokens.now) }
+/// What is after this sign, where it stands.
+#[tactic(auto, unfolding(crate::specs::TypeReader::after_sign))]
+fn after_sign(sign: Sign, tokens: &[Token]) -> Option<&[Token]>
+    ensures { option_map (λ x. tokens_of x.now) result ≡ types.after_sign sign (tokens_of tokens.now) }
 {
     let (next, rest) = tokens.split_first()?;
     if is_sign(sign, next) {
@@ -82,29 +82,29 @@ fn behind_sign(sign: Sign, tokens: &[Token]) -> Option<&[Token]>
     }
 }
 
-/// What is behind an `elem`, where one stands.
-#[tactic(auto, unfolding(crate::specs::TypeReader::behind_elem))]
-fn behind_elem(tokens: &[Token]) -> Option<&[Token]>
-    ensures { option_map (λ x. tokens_of x.now) result ≡ types.behind_elem (tokens_of tokens.now) }
+/// What is after an `elem`, where one stands.
+#[tactic(auto, unfolding(crate::specs::TypeReader::after_elem))]
+fn after_elem(tokens: &[Token]) -> Option<&[Token]>
+    ensures { option_map (λ x. tokens_of x.now) result ≡ types.after_elem (tokens_of tokens.now) }
 {
     let (next, rest) = tokens.split_first()?;
     if primitive(&next.kind).is_some() {
         return Some(rest);
     }
     match &next.kind {
-        TokenKind::Name(_) => behind_sign(Sign::Handle, rest),
+        TokenKind::Name(_) => after_sign(Sign::Handle, rest),
         _ => None,
     }
 }
 
-/// What is behind `"<" elem ">"`, where it stands.
-#[tactic(auto, unfolding(crate::specs::TypeReader::behind_element))]
-pub fn behind_element(tokens: &[Token]) -> Option<&[Token]>
-    ensures { option_map (λ x. tokens_of x.now) result ≡ types.behind_element (tokens_of tokens.now) }
+/// What is after `"<" elem ">"`, where it stands.
+#[tactic(auto, unfolding(crate::specs::TypeReader::after_element))]
+pub fn after_element(tokens: &[Token]) -> Option<&[Token]>
+    ensures { option_map (λ x. tokens_of x.now) result ≡ types.after_element (tokens_of tokens.now) }
 {
-    let rest = behind_sign(Sign::Less, tokens)?;
-    let rest = behind_elem(rest)?;
-    behind_sign(Sign::Greater, rest)
+    let rest = after_sign(Sign::Less, tokens)?;
+    let rest = after_elem(rest)?;
+    after_sign(Sign::Greater, rest)
 }
 
 #[tactic(auto, unfolding(crate::specs::StatementReader::is_name))]
@@ -124,14 +124,14 @@ pub fn next_is_name(tokens: &[Token]) -> bool
     is_name(&next.kind)
 }
 
-/// Whether a declaration goes on so behind the name of an object type, and no expression.
+/// Whether a declaration goes on so after the name of an object type, and no expression.
 fn names_vars(tokens: &[Token]) -> bool
     ensures { result ≡ reader.names_vars (tokens_of tokens.now) }
 {
     next_is_name(tokens) || next_is_sign(Sign::Handle, tokens)
 }
 
-/// Whether the tokens begin a declaration of variables, or a parameter. The first two decide, or what is behind the word
+/// Whether the tokens begin a declaration of variables, or a parameter. The first two decide, or what is after the word
 /// `array` with its `"<" elem ">"`.
 #[tactic(auto, unfolding(crate::specs::StatementReader::is_vars))]
 pub fn is_vars(tokens: &[Token]) -> bool
@@ -149,15 +149,15 @@ pub fn is_vars(tokens: &[Token]) -> bool
     if !is_array(&next.kind) {
         return false;
     }
-    match behind_element(rest) {
-        Some(behind) => names_vars(behind),
+    match after_element(rest) {
+        Some(after) => names_vars(after),
         None => false,
     }
 }
 
-/// `["@"]` behind an array's type
-fn array_type<'a>(place: Place, element: Element, tokens: &'a [Token]) -> Reading<'a, Type>
-    ensures { Gives (λ x. (type_of x.0, tokens_of x.1.now)) result (reader.handle_by (Array place (element_of element)) (ArrayHandle place (element_of element)) (tokens_of tokens.now)) }
+/// `["@"]` after an array's type
+fn array_type<'a>(place: Place, element: Element, tokens: &'a [Token]) -> ParseResult<'a, Type>
+    ensures { ParsesAs (λ x. (type_of x.0, tokens_of x.1.now)) result (reader.handle_by (Array place (element_of element)) (ArrayHandle place (element_of element)) (tokens_of tokens.now)) }
 {
     if !next_is_sign(Sign::Handle, tokens) {
         let kind = TypeKind::Array(element);
@@ -170,11 +170,11 @@ fn array_type<'a>(place: Place, element: Element, tokens: &'a [Token]) -> Readin
 
 /// `prim | NAME ["@"] | "array" "<" elem ">" ["@"]`
 #[tactic(auto, unfolding(crate::specs::StatementReader::type_at))]
-pub fn type_name(alloc: Global, tokens: &[Token]) -> Reading<'_, Type>
-    ensures { Gives (λ x. (type_of x.0, tokens_of x.1.now)) result (reader.type_at (tokens_of tokens.now)) }
+pub fn type_name(alloc: Global, tokens: &[Token]) -> ParseResult<'_, Type>
+    ensures { ParsesAs (λ x. (type_of x.0, tokens_of x.1.now)) result (reader.type_at (tokens_of tokens.now)) }
 {
     let Some((next, rest)) = tokens.split_first() else {
-        return Err(Stop::Unexpected(tokens));
+        return Err(ParseError::Unexpected(tokens));
     };
     let place = place(next);
     if let Some(primitive) = primitive(&next.kind) {
@@ -187,18 +187,18 @@ pub fn type_name(alloc: Global, tokens: &[Token]) -> Reading<'_, Type>
             let (element, rest) = element(alloc, rest)?;
             array_type(place, element, rest)
         }
-        _ => Err(Stop::Unexpected(tokens)),
+        _ => Err(ParseError::Unexpected(tokens)),
     }
 }
 
-/// `["@"]` behind the name of an object type
+/// `["@"]` after the name of an object type
 fn object_type<'a>(
     alloc: Global,
     place: Place,
     text: &str,
     tokens: &'a [Token],
-) -> Reading<'a, Type>
-    ensures { Gives (λ x. (type_of x.0, tokens_of x.1.now)) result (reader.handle_by (Object place text.now) (Handle place text.now) (tokens_of tokens.now)) }
+) -> ParseResult<'a, Type>
+    ensures { ParsesAs (λ x. (type_of x.0, tokens_of x.1.now)) result (reader.handle_by (Object place text.now) (Handle place text.now) (tokens_of tokens.now)) }
 {
     let text = String::from_str(alloc, text)?;
     if !next_is_sign(Sign::Handle, tokens) {

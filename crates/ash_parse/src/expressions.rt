@@ -1,4 +1,4 @@
-//! Reading an expression.
+//! ParseResult an expression.
 //!
 //! Each function reads the phrase that stands above it. `room` is how many phrases that count for the depth may still
 //! begin, one in the other.
@@ -7,7 +7,7 @@ ghost use Rattle.std.specs.Prelude.{◌≡◌, ◌<◌, ◌≤◌, map, string_b
 ghost use Rattle.ash_tree.specs.Tokens.{tokens_of, place_of_token};
 ghost use Rattle.ash_tree.specs.Tree.{Conditional};
 ghost use Rattle.ash_tree.specs.Views.{expr_of, suffix_of, operation_of};
-ghost use Rattle.ash_parse.specs.Reading.{Gives, Fails, put};
+ghost use Rattle.ash_parse.specs.Readers.{ParsesAs, Fails, put};
 ghost use Rattle.ash_parse.specs.ExpressionReader as reader;
 
 use crate::cursor::{expect, is_sign, name, next_is_sign, place};
@@ -15,7 +15,7 @@ use crate::data_types::{element, target};
 use crate::operators::{
     assign_operator, begins_expression, binary_operator, level, primitive, unary_operator,
 };
-use crate::stop::{Reading, Stop};
+use crate::error::{ParseResult, ParseError};
 use ash_lex::{ReservedWord, Sign, Token, TokenKind};
 use ash_tree::{BinaryOp, Expr, ExprKind, Link, Place, Suffix, nodes};
 use std::alloc::{AllocError, Global};
@@ -28,24 +28,24 @@ const LEVELS: u32 = 10;
 
 /// Why a phrase can't begin where no deeper one may.
 #[tactic(auto, unfolding(crate::specs::ExpressionReader::limit_at))]
-fn limit(tokens: &[Token]) -> Stop<'_>
+fn limit(tokens: &[Token]) -> ParseError<'_>
     ensures { Fails result (reader.limit_at (tokens_of tokens.now)) }
 {
     let Some((next, _)) = tokens.split_first() else {
-        return Stop::Unexpected(tokens);
+        return ParseError::Unexpected(tokens);
     };
     if begins_expression(&next.kind) {
-        Stop::TooDeep(tokens)
+        ParseError::TooDeep(tokens)
     } else {
-        Stop::Unexpected(tokens)
+        ParseError::Unexpected(tokens)
     }
 }
 
 /// What stands one deeper: an `assign`, or else a `unary`.
 #[cycle(expressions)]
-pub fn below<'a>(alloc: Global, whole: bool, room: u32, tokens: &'a [Token]) -> Reading<'a, Expr>
+pub fn below<'a>(alloc: Global, whole: bool, room: u32, tokens: &'a [Token]) -> ParseResult<'a, Expr>
     requires { room ≤ DEPTH }
-    ensures { Gives (λ x. (expr_of x.0, tokens_of x.1.now)) result (reader.below_at room whole (tokens_of tokens.now)) }
+    ensures { ParsesAs (λ x. (expr_of x.0, tokens_of x.1.now)) result (reader.below_at room whole (tokens_of tokens.now)) }
 {
     if room == 0 {
         return Err(limit(tokens));
@@ -60,30 +60,30 @@ pub fn below<'a>(alloc: Global, whole: bool, room: u32, tokens: &'a [Token]) -> 
 /// `cond [ aop assign ]`, where `cond` is `binary [ "?" assign ":" assign ]`
 #[cycle(expressions)]
 #[tactic(auto, unfolding(crate::specs::ExpressionReader::assign_with, crate::specs::ExpressionReader::assign_from))]
-pub fn assign(alloc: Global, room: u32, tokens: &[Token]) -> Reading<'_, Expr>
+pub fn assign(alloc: Global, room: u32, tokens: &[Token]) -> ParseResult<'_, Expr>
     requires { room ≤ DEPTH }
-    ensures { Gives (λ x. (expr_of x.0, tokens_of x.1.now)) result (reader.assign_with (reader.below_at room) (tokens_of tokens.now)) }
+    ensures { ParsesAs (λ x. (expr_of x.0, tokens_of x.1.now)) result (reader.assign_with (reader.below_at room) (tokens_of tokens.now)) }
 {
     let (target, rest) = binary(alloc, LEVELS, room, tokens)?;
-    let Some((next, behind)) = rest.split_first() else {
+    let Some((next, after)) = rest.split_first() else {
         return Ok((target, rest));
     };
     if is_sign(Sign::Question, next) {
-        return branches(alloc, room, target, behind);
+        return branches(alloc, room, target, after);
     }
     let Some(operator) = assign_operator(&next.kind) else {
         return Ok((target, rest));
     };
-    let (value, rest) = below(alloc, true, room, behind)?;
+    let (value, rest) = below(alloc, true, room, after)?;
     Ok((nodes::assign(alloc, target, operator, value)?, rest))
 }
 
-/// `assign ":" assign`, behind the `?`
+/// `assign ":" assign`, after the `?`
 #[cycle(expressions)]
 #[tactic(auto, unfolding(crate::specs::ExpressionReader::branches_with, crate::specs::ExpressionReader::other_branch_with), using(ash_tree::proofs::Rows::place_is))]
-fn branches<'a>(alloc: Global, room: u32, condition: Expr, tokens: &'a [Token]) -> Reading<'a, Expr>
+fn branches<'a>(alloc: Global, room: u32, condition: Expr, tokens: &'a [Token]) -> ParseResult<'a, Expr>
     requires { room ≤ DEPTH }
-    ensures { Gives (λ x. (expr_of x.0, tokens_of x.1.now)) result (reader.branches_with (reader.below_at room) (expr_of condition) (tokens_of tokens.now)) }
+    ensures { ParsesAs (λ x. (expr_of x.0, tokens_of x.1.now)) result (reader.branches_with (reader.below_at room) (expr_of condition) (tokens_of tokens.now)) }
 {
     let place = condition.place;
     let condition = boxed(alloc, condition)?;
@@ -92,7 +92,7 @@ fn branches<'a>(alloc: Global, room: u32, condition: Expr, tokens: &'a [Token]) 
     other_branch(alloc, room, place, condition, then, rest)
 }
 
-/// `":" assign`, behind the first branch
+/// `":" assign`, after the first branch
 #[cycle(expressions)]
 #[tactic(auto, unfolding(crate::specs::ExpressionReader::other_branch_with))]
 fn other_branch<'a>(
@@ -102,9 +102,9 @@ fn other_branch<'a>(
     condition: Box<Expr>,
     then: Box<Expr>,
     tokens: &'a [Token],
-) -> Reading<'a, Expr>
+) -> ParseResult<'a, Expr>
     requires { room ≤ DEPTH }
-    ensures { Gives (λ x. (expr_of x.0, tokens_of x.1.now)) result (reader.other_branch_with (reader.below_at room) place (expr_of condition.value) (expr_of then.value) (tokens_of tokens.now)) }
+    ensures { ParsesAs (λ x. (expr_of x.0, tokens_of x.1.now)) result (reader.other_branch_with (reader.below_at room) place (expr_of condition.value) (expr_of then.value) (tokens_of tokens.now)) }
 {
     let (_, rest) = expect(Sign::Colon, tokens)?;
     let (otherwise, rest) = below(alloc, true, room, rest)?;
@@ -134,18 +134,18 @@ fn boxed(alloc: Global, operand: Expr) -> Result<Box<Expr>, AllocError>
 
 /// What operators up to this level join, from the tightest level on; without a level a `unary`.
 #[cycle(expressions)]
-fn binary(alloc: Global, level: u32, room: u32, tokens: &[Token]) -> Reading<'_, Expr>
+fn binary(alloc: Global, level: u32, room: u32, tokens: &[Token]) -> ParseResult<'_, Expr>
     requires loosest { level ≤ LEVELS }
     requires room { room ≤ DEPTH }
-    ensures { Gives (λ x. (expr_of x.0, tokens_of x.1.now)) result (reader.binary_with (reader.below_at room) level (tokens_of tokens.now)) }
+    ensures { ParsesAs (λ x. (expr_of x.0, tokens_of x.1.now)) result (reader.binary_with (reader.below_at room) level (tokens_of tokens.now)) }
 {
     let (mut joined, mut rest) = unary(alloc, room, tokens)?;
     let mut reached = 0;
     let mut next = next_level(rest);
     'climb: while reached < next && next <= level {
-        let (links, behind) = links(alloc, next - 1, room, rest)?;
+        let (links, after) = links(alloc, next - 1, room, rest)?;
         joined = nodes::binary(alloc, joined, links)?;
-        rest = behind;
+        rest = after;
         reached = next;
         next = next_level(rest);
     }
@@ -154,30 +154,30 @@ fn binary(alloc: Global, level: u32, room: u32, tokens: &[Token]) -> Reading<'_,
 
 /// The operators that join operands of this level, each with its right operand: mostly one stands alone.
 #[cycle(expressions)]
-fn links(alloc: Global, level: u32, room: u32, tokens: &[Token]) -> Reading<'_, Vec<Link>>
+fn links(alloc: Global, level: u32, room: u32, tokens: &[Token]) -> ParseResult<'_, Vec<Link>>
     requires loosest { level < LEVELS }
     requires room { room ≤ DEPTH }
-    ensures { Gives (λ x. (map operation_of x.0.items, tokens_of x.1.now)) result (reader.links_by level (reader.binary_with (reader.below_at room) level) (tokens_of tokens.now)) }
+    ensures { ParsesAs (λ x. (map operation_of x.0.items, tokens_of x.1.now)) result (reader.links_by level (reader.binary_with (reader.below_at room) level) (tokens_of tokens.now)) }
 {
     let mut links = Vec::with_capacity(alloc, 1)?;
     let mut rest = tokens;
     'more: while begins_link(level, rest) {
-        let (next, behind) = link(alloc, level, room, rest)?;
+        let (next, after) = link(alloc, level, room, rest)?;
         links.push(next)?;
-        rest = behind;
+        rest = after;
     }
     Ok((links, rest))
 }
 
 #[cycle(expressions)]
 #[tactic(auto, unfolding(crate::specs::ExpressionReader::link_by))]
-fn link(alloc: Global, level: u32, room: u32, tokens: &[Token]) -> Reading<'_, Link>
+fn link(alloc: Global, level: u32, room: u32, tokens: &[Token]) -> ParseResult<'_, Link>
     requires loosest { level < LEVELS }
     requires room { room ≤ DEPTH }
-    ensures { Gives (λ x. (operation_of x.0, tokens_of x.1.now)) result (reader.link_by level (reader.binary_with (reader.below_at room) level) (tokens_of tokens.now)) }
+    ensures { ParsesAs (λ x. (operation_of x.0, tokens_of x.1.now)) result (reader.link_by level (reader.binary_with (reader.below_at room) level) (tokens_of tokens.now)) }
 {
     let Some((operator, rest)) = operator(level, tokens) else {
-        return Err(Stop::Unexpected(tokens));
+        return Err(ParseError::Unexpected(tokens));
     };
     let (operand, rest) = binary(alloc, level, room, rest)?;
     Ok((Link { operator, operand }, rest))
@@ -223,12 +223,12 @@ fn begins_link(level: u32, tokens: &[Token]) -> bool
 /// `( + - ! ~ ++ -- @ ) unary | postfix`
 #[cycle(expressions)]
 #[tactic(auto, unfolding(crate::specs::ExpressionReader::unary_with))]
-fn unary(alloc: Global, room: u32, tokens: &[Token]) -> Reading<'_, Expr>
+fn unary(alloc: Global, room: u32, tokens: &[Token]) -> ParseResult<'_, Expr>
     requires { room ≤ DEPTH }
-    ensures { Gives (λ x. (expr_of x.0, tokens_of x.1.now)) result (reader.unary_with (reader.below_at room) (tokens_of tokens.now)) }
+    ensures { ParsesAs (λ x. (expr_of x.0, tokens_of x.1.now)) result (reader.unary_with (reader.below_at room) (tokens_of tokens.now)) }
 {
     let Some((next, rest)) = tokens.split_first() else {
-        return Err(Stop::Unexpected(tokens));
+        return Err(ParseError::Unexpected(tokens));
     };
     let Some(operator) = unary_operator(&next.kind) else {
         return postfix(alloc, room, tokens);
@@ -241,9 +241,9 @@ fn unary(alloc: Global, room: u32, tokens: &[Token]) -> Reading<'_, Expr>
 /// `primary { suffix }`
 #[cycle(expressions)]
 #[tactic(auto, unfolding(crate::specs::ExpressionReader::postfix_with))]
-fn postfix(alloc: Global, room: u32, tokens: &[Token]) -> Reading<'_, Expr>
+fn postfix(alloc: Global, room: u32, tokens: &[Token]) -> ParseResult<'_, Expr>
     requires { room ≤ DEPTH }
-    ensures { Gives (λ x. (expr_of x.0, tokens_of x.1.now)) result (reader.postfix_with (reader.below_at room) (tokens_of tokens.now)) }
+    ensures { ParsesAs (λ x. (expr_of x.0, tokens_of x.1.now)) result (reader.postfix_with (reader.below_at room) (tokens_of tokens.now)) }
 {
     let (operand, rest) = primary(alloc, room, tokens)?;
     if !begins_suffix(rest) {
@@ -268,16 +268,16 @@ fn begins_suffix(tokens: &[Token]) -> bool
 
 /// `suffix { suffix }`: mostly one stands alone.
 #[cycle(expressions)]
-fn suffixes(alloc: Global, room: u32, tokens: &[Token]) -> Reading<'_, Vec<Suffix>>
+fn suffixes(alloc: Global, room: u32, tokens: &[Token]) -> ParseResult<'_, Vec<Suffix>>
     requires { room ≤ DEPTH }
-    ensures { Gives (λ x. (map suffix_of x.0.items, tokens_of x.1.now)) result (reader.suffixes_with (reader.below_at room) (tokens_of tokens.now)) }
+    ensures { ParsesAs (λ x. (map suffix_of x.0.items, tokens_of x.1.now)) result (reader.suffixes_with (reader.below_at room) (tokens_of tokens.now)) }
 {
     let mut suffixes = Vec::with_capacity(alloc, 1)?;
     let mut rest = tokens;
     'more: while begins_suffix(rest) {
-        let (next, behind) = suffix(alloc, room, rest)?;
+        let (next, after) = suffix(alloc, room, rest)?;
         suffixes.push(next)?;
-        rest = behind;
+        rest = after;
     }
     Ok((suffixes, rest))
 }
@@ -285,28 +285,28 @@ fn suffixes(alloc: Global, room: u32, tokens: &[Token]) -> Reading<'_, Vec<Suffi
 /// `"." NAME [args] | "[" assign "]" | "++" | "--"`
 #[cycle(expressions)]
 #[tactic(auto, unfolding(crate::specs::ExpressionReader::suffix_with))]
-fn suffix(alloc: Global, room: u32, tokens: &[Token]) -> Reading<'_, Suffix>
+fn suffix(alloc: Global, room: u32, tokens: &[Token]) -> ParseResult<'_, Suffix>
     requires { room ≤ DEPTH }
-    ensures { Gives (λ x. (suffix_of x.0, tokens_of x.1.now)) result (reader.suffix_with (reader.below_at room) (tokens_of tokens.now)) }
+    ensures { ParsesAs (λ x. (suffix_of x.0, tokens_of x.1.now)) result (reader.suffix_with (reader.below_at room) (tokens_of tokens.now)) }
 {
     let Some((next, rest)) = tokens.split_first() else {
-        return Err(Stop::Unexpected(tokens));
+        return Err(ParseError::Unexpected(tokens));
     };
     match &next.kind {
         TokenKind::Sign(Sign::Dot) => member(alloc, room, rest),
         TokenKind::Sign(Sign::OpenBracket) => index(alloc, room, rest),
         TokenKind::Sign(Sign::Increment) => Ok((Suffix::Increment, rest)),
         TokenKind::Sign(Sign::Decrement) => Ok((Suffix::Decrement, rest)),
-        _ => Err(Stop::Unexpected(tokens)),
+        _ => Err(ParseError::Unexpected(tokens)),
     }
 }
 
-/// `NAME [args]`, behind the `.`
+/// `NAME [args]`, after the `.`
 #[cycle(expressions)]
 #[tactic(auto, unfolding(crate::specs::ExpressionReader::member_with))]
-fn member(alloc: Global, room: u32, tokens: &[Token]) -> Reading<'_, Suffix>
+fn member(alloc: Global, room: u32, tokens: &[Token]) -> ParseResult<'_, Suffix>
     requires { room ≤ DEPTH }
-    ensures { Gives (λ x. (suffix_of x.0, tokens_of x.1.now)) result (reader.member_with (reader.below_at room) (tokens_of tokens.now)) }
+    ensures { ParsesAs (λ x. (suffix_of x.0, tokens_of x.1.now)) result (reader.member_with (reader.below_at room) (tokens_of tokens.now)) }
 {
     let ((name, place), rest) = name(alloc, tokens)?;
     if !next_is_sign(Sign::OpenParenthesis, rest) {
@@ -316,12 +316,12 @@ fn member(alloc: Global, room: u32, tokens: &[Token]) -> Reading<'_, Suffix>
     Ok((nodes::method(place, name, arguments), rest))
 }
 
-/// `assign "]"`, behind the `[`
+/// `assign "]"`, after the `[`
 #[cycle(expressions)]
 #[tactic(auto, unfolding(crate::specs::ExpressionReader::index_with))]
-fn index(alloc: Global, room: u32, tokens: &[Token]) -> Reading<'_, Suffix>
+fn index(alloc: Global, room: u32, tokens: &[Token]) -> ParseResult<'_, Suffix>
     requires { room ≤ DEPTH }
-    ensures { Gives (λ x. (suffix_of x.0, tokens_of x.1.now)) result (reader.index_with (reader.below_at room) (tokens_of tokens.now)) }
+    ensures { ParsesAs (λ x. (suffix_of x.0, tokens_of x.1.now)) result (reader.index_with (reader.below_at room) (tokens_of tokens.now)) }
 {
     let (value, rest) = below(alloc, true, room, tokens)?;
     let (_, rest) = expect(Sign::CloseBracket, rest)?;
@@ -332,12 +332,12 @@ fn index(alloc: Global, room: u32, tokens: &[Token]) -> Reading<'_, Suffix>
 /// `"array" "<" elem ">" args | "cast" "<" NAME ">" "(" assign ")"`
 #[cycle(expressions)]
 #[tactic(auto, unfolding(crate::specs::ExpressionReader::primary_with))]
-fn primary(alloc: Global, room: u32, tokens: &[Token]) -> Reading<'_, Expr>
+fn primary(alloc: Global, room: u32, tokens: &[Token]) -> ParseResult<'_, Expr>
     requires { room ≤ DEPTH }
-    ensures { Gives (λ x. (expr_of x.0, tokens_of x.1.now)) result (reader.primary_with (reader.below_at room) (tokens_of tokens.now)) }
+    ensures { ParsesAs (λ x. (expr_of x.0, tokens_of x.1.now)) result (reader.primary_with (reader.below_at room) (tokens_of tokens.now)) }
 {
     let Some((next, rest)) = tokens.split_first() else {
-        return Err(Stop::Unexpected(tokens));
+        return Err(ParseError::Unexpected(tokens));
     };
     let place = place(next);
     if let Some(to) = primitive(&next.kind) {
@@ -357,36 +357,36 @@ fn primary(alloc: Global, room: u32, tokens: &[Token]) -> Reading<'_, Expr>
         TokenKind::Reserved(ReservedWord::False) => ExprKind::Bool(false),
         TokenKind::Reserved(ReservedWord::Null) => ExprKind::Null,
         TokenKind::Reserved(ReservedWord::This) => ExprKind::This,
-        _ => return Err(Stop::Unexpected(tokens)),
+        _ => return Err(ParseError::Unexpected(tokens)),
     };
     Ok((Expr { place, kind }, rest))
 }
 
-/// `"<" elem ">" args`, behind the word `array`
+/// `"<" elem ">" args`, after the word `array`
 #[cycle(expressions)]
 #[tactic(auto, unfolding(crate::specs::ExpressionReader::new_array_with))]
-fn new_array(alloc: Global, room: u32, place: Place, tokens: &[Token]) -> Reading<'_, Expr>
+fn new_array(alloc: Global, room: u32, place: Place, tokens: &[Token]) -> ParseResult<'_, Expr>
     requires { room ≤ DEPTH }
-    ensures { Gives (λ x. (expr_of x.0, tokens_of x.1.now)) result (reader.new_array_with (reader.below_at room) place (tokens_of tokens.now)) }
+    ensures { ParsesAs (λ x. (expr_of x.0, tokens_of x.1.now)) result (reader.new_array_with (reader.below_at room) place (tokens_of tokens.now)) }
 {
     let (of, rest) = element(alloc, tokens)?;
     let (arguments, rest) = arguments(alloc, room, rest)?;
     Ok((nodes::new_array(alloc, place, of, arguments)?, rest))
 }
 
-/// `"<" NAME ">" "(" assign ")"`, behind the word `cast`
+/// `"<" NAME ">" "(" assign ")"`, after the word `cast`
 #[cycle(expressions)]
 #[tactic(auto, unfolding(crate::specs::ExpressionReader::cast_with))]
-fn cast(alloc: Global, room: u32, place: Place, tokens: &[Token]) -> Reading<'_, Expr>
+fn cast(alloc: Global, room: u32, place: Place, tokens: &[Token]) -> ParseResult<'_, Expr>
     requires { room ≤ DEPTH }
-    ensures { Gives (λ x. (expr_of x.0, tokens_of x.1.now)) result (reader.cast_with (reader.below_at room) place (tokens_of tokens.now)) }
+    ensures { ParsesAs (λ x. (expr_of x.0, tokens_of x.1.now)) result (reader.cast_with (reader.below_at room) place (tokens_of tokens.now)) }
 {
     let (to, rest) = target(alloc, tokens)?;
     let (value, rest) = bracketed(alloc, room, rest)?;
     Ok((nodes::cast(alloc, place, to, value)?, rest))
 }
 
-/// `NAME [args]`, behind the name
+/// `NAME [args]`, after the name
 #[cycle(expressions)]
 #[tactic(auto, unfolding(crate::specs::ExpressionReader::named_with))]
 fn named<'a>(
@@ -395,9 +395,9 @@ fn named<'a>(
     place: Place,
     text: &str,
     tokens: &'a [Token],
-) -> Reading<'a, Expr>
+) -> ParseResult<'a, Expr>
     requires { room ≤ DEPTH }
-    ensures { Gives (λ x. (expr_of x.0, tokens_of x.1.now)) result (reader.named_with (reader.below_at room) place text.now (tokens_of tokens.now)) }
+    ensures { ParsesAs (λ x. (expr_of x.0, tokens_of x.1.now)) result (reader.named_with (reader.below_at room) place text.now (tokens_of tokens.now)) }
 {
     let name = String::from_str(alloc, text)?;
     if !next_is_sign(Sign::OpenParenthesis, tokens) {
@@ -411,9 +411,9 @@ fn named<'a>(
 /// `"(" assign ")"`
 #[cycle(expressions)]
 #[tactic(auto, unfolding(crate::specs::ExpressionReader::bracketed_with))]
-pub fn bracketed(alloc: Global, room: u32, tokens: &[Token]) -> Reading<'_, Expr>
+pub fn bracketed(alloc: Global, room: u32, tokens: &[Token]) -> ParseResult<'_, Expr>
     requires { room ≤ DEPTH }
-    ensures { Gives (λ x. (expr_of x.0, tokens_of x.1.now)) result (reader.bracketed_with (reader.below_at room) (tokens_of tokens.now)) }
+    ensures { ParsesAs (λ x. (expr_of x.0, tokens_of x.1.now)) result (reader.bracketed_with (reader.below_at room) (tokens_of tokens.now)) }
 {
     let (_, rest) = expect(Sign::OpenParenthesis, tokens)?;
     let (inner, rest) = below(alloc, true, room, rest)?;
@@ -424,9 +424,9 @@ pub fn bracketed(alloc: Global, room: u32, tokens: &[Token]) -> Reading<'_, Expr
 /// `"(" [ assign { "," assign } ] ")"`
 #[cycle(expressions)]
 #[tactic(auto, unfolding(crate::specs::ExpressionReader::arguments_with))]
-pub fn arguments(alloc: Global, room: u32, tokens: &[Token]) -> Reading<'_, Vec<Expr>>
+pub fn arguments(alloc: Global, room: u32, tokens: &[Token]) -> ParseResult<'_, Vec<Expr>>
     requires { room ≤ DEPTH }
-    ensures { Gives (λ x. (map expr_of x.0.items, tokens_of x.1.now)) result (reader.arguments_with (reader.below_at room) (tokens_of tokens.now)) }
+    ensures { ParsesAs (λ x. (map expr_of x.0.items, tokens_of x.1.now)) result (reader.arguments_with (reader.below_at room) (tokens_of tokens.now)) }
 {
     let (_, rest) = expect(Sign::OpenParenthesis, tokens)?;
     let (arguments, rest) = expressions(alloc, room, rest)?;
@@ -434,12 +434,12 @@ pub fn arguments(alloc: Global, room: u32, tokens: &[Token]) -> Reading<'_, Vec<
     Ok((arguments, rest))
 }
 
-/// `[ assign { "," assign } ]`, in front of a `)`
+/// `[ assign { "," assign } ]`, before a `)`
 #[cycle(expressions)]
 #[tactic(auto, unfolding(crate::specs::ExpressionReader::exprs_with))]
-pub fn expressions(alloc: Global, room: u32, tokens: &[Token]) -> Reading<'_, Vec<Expr>>
+pub fn expressions(alloc: Global, room: u32, tokens: &[Token]) -> ParseResult<'_, Vec<Expr>>
     requires { room ≤ DEPTH }
-    ensures { Gives (λ x. (map expr_of x.0.items, tokens_of x.1.now)) result (reader.exprs_with (reader.below_at room) (tokens_of tokens.now)) }
+    ensures { ParsesAs (λ x. (map expr_of x.0.items, tokens_of x.1.now)) result (reader.exprs_with (reader.below_at room) (tokens_of tokens.now)) }
 {
     if next_is_sign(Sign::CloseParenthesis, tokens) {
         return Ok((Vec::new(alloc), tokens));
@@ -448,24 +448,24 @@ pub fn expressions(alloc: Global, room: u32, tokens: &[Token]) -> Reading<'_, Ve
     more_expressions(alloc, room, first, rest)
 }
 
-/// `{ "," assign }`, behind the first
+/// `{ "," assign }`, after the first
 #[cycle(expressions)]
 fn more_expressions<'a>(
     alloc: Global,
     room: u32,
     first: Expr,
     tokens: &'a [Token],
-) -> Reading<'a, Vec<Expr>>
+) -> ParseResult<'a, Vec<Expr>>
     requires { room ≤ DEPTH }
-    ensures { Gives (λ x. (map expr_of x.0.items, tokens_of x.1.now)) result (put (expr_of first) (reader.more_exprs_with (reader.below_at room) (tokens_of tokens.now))) }
+    ensures { ParsesAs (λ x. (map expr_of x.0.items, tokens_of x.1.now)) result (put (expr_of first) (reader.more_exprs_with (reader.below_at room) (tokens_of tokens.now))) }
 {
     let mut all = Vec::with_capacity(alloc, 1)?;
     all.push(first)?;
     let mut rest = tokens;
     'more: while next_is_sign(Sign::Comma, rest) {
-        let (next, behind) = next_expression(alloc, room, rest)?;
+        let (next, after) = next_expression(alloc, room, rest)?;
         all.push(next)?;
-        rest = behind;
+        rest = after;
     }
     Ok((all, rest))
 }
@@ -473,9 +473,9 @@ fn more_expressions<'a>(
 /// `"," assign`
 #[cycle(expressions)]
 #[tactic(auto, unfolding(crate::specs::ExpressionReader::next_expr_with))]
-fn next_expression(alloc: Global, room: u32, tokens: &[Token]) -> Reading<'_, Expr>
+fn next_expression(alloc: Global, room: u32, tokens: &[Token]) -> ParseResult<'_, Expr>
     requires { room ≤ DEPTH }
-    ensures { Gives (λ x. (expr_of x.0, tokens_of x.1.now)) result (reader.next_expr_with (reader.below_at room) (tokens_of tokens.now)) }
+    ensures { ParsesAs (λ x. (expr_of x.0, tokens_of x.1.now)) result (reader.next_expr_with (reader.below_at room) (tokens_of tokens.now)) }
 {
     let (_, rest) = expect(Sign::Comma, tokens)?;
     below(alloc, true, room, rest)

@@ -19,7 +19,7 @@ pub enum UnsupportedPart {
 }
 
 impl UnsupportedPart {
-    /// The word or sign by which it is told.
+    /// The word or sign by which it is reported.
     pub fn as_str(self) -> &'static str
         ensures { result.now ≡ part_text self }
     {

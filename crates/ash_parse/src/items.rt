@@ -1,4 +1,4 @@
-//! Reading modules and registered declarations.
+//! ParseResult modules and registered declarations.
 //!
 //! Each function reads the phrase that stands above it.
 
@@ -6,14 +6,14 @@ ghost use Rattle.std.specs.Prelude.{◌≡◌, [], map, string_bytes, option_map
 ghost use Rattle.ash_lex.specs.Tokens.{meaning_of};
 ghost use Rattle.ash_tree.specs.Tokens.{tokens_of};
 ghost use Rattle.ash_tree.specs.Views.{type_of, vars_of, stmt_of, parameter_of, function_of, constructor_of, member_of, type_name_of, class_of, interface_method_of, interface_of, item_of, declaration_of};
-ghost use Rattle.ash_parse.specs.Reading.{Gives, put};
+ghost use Rattle.ash_parse.specs.Readers.{ParsesAs, put};
 ghost use Rattle.ash_parse.specs.ItemReader as reader;
 
 use crate::cursor::{expect, is_sign, name, next_is_sign};
-use crate::data_types::{behind_element, is_array, is_vars, next_is_name, type_name};
+use crate::data_types::{after_element, is_array, is_vars, next_is_name, type_name};
 use crate::expressions::DEPTH;
 use crate::statements::{block, declared, goes_on};
-use crate::stop::{Reading, Stop};
+use crate::error::{ParseResult, ParseError};
 use ash_lex::{ReservedWord, Sign, Token, TokenKind};
 use ash_tree::{
     Class, Constructor, Declaration, Function, Interface, InterfaceMethod, Item, Member, Parameter,
@@ -44,11 +44,11 @@ fn is_interface(kind: &TokenKind) -> bool
 
 /// `"void" | type`
 #[tactic(auto, unfolding(crate::specs::ItemReader::result_type_at))]
-fn result_type(alloc: Global, tokens: &[Token]) -> Reading<'_, Option<Type>>
-    ensures { Gives (λ x. (option_map type_of x.0, tokens_of x.1.now)) result (reader.result_type_at (tokens_of tokens.now)) }
+fn result_type(alloc: Global, tokens: &[Token]) -> ParseResult<'_, Option<Type>>
+    ensures { ParsesAs (λ x. (option_map type_of x.0, tokens_of x.1.now)) result (reader.result_type_at (tokens_of tokens.now)) }
 {
     let Some((next, rest)) = tokens.split_first() else {
-        return Err(Stop::Unexpected(tokens));
+        return Err(ParseError::Unexpected(tokens));
     };
     if is_void(&next.kind) {
         return Ok((None, rest));
@@ -59,8 +59,8 @@ fn result_type(alloc: Global, tokens: &[Token]) -> Reading<'_, Option<Type>>
 
 /// `type NAME`
 #[tactic(auto, unfolding(crate::specs::ItemReader::parameter_at))]
-fn parameter(alloc: Global, tokens: &[Token]) -> Reading<'_, Parameter>
-    ensures { Gives (λ x. (parameter_of x.0, tokens_of x.1.now)) result (reader.parameter_at (tokens_of tokens.now)) }
+fn parameter(alloc: Global, tokens: &[Token]) -> ParseResult<'_, Parameter>
+    ensures { ParsesAs (λ x. (parameter_of x.0, tokens_of x.1.now)) result (reader.parameter_at (tokens_of tokens.now)) }
 {
     let (of, rest) = type_name(alloc, tokens)?;
     let ((name, place), rest) = name(alloc, rest)?;
@@ -69,36 +69,36 @@ fn parameter(alloc: Global, tokens: &[Token]) -> Reading<'_, Parameter>
 
 /// `"," type NAME`
 #[tactic(auto, unfolding(crate::specs::ItemReader::next_parameter_at))]
-fn next_parameter(alloc: Global, tokens: &[Token]) -> Reading<'_, Parameter>
-    ensures { Gives (λ x. (parameter_of x.0, tokens_of x.1.now)) result (reader.next_parameter_at (tokens_of tokens.now)) }
+fn next_parameter(alloc: Global, tokens: &[Token]) -> ParseResult<'_, Parameter>
+    ensures { ParsesAs (λ x. (parameter_of x.0, tokens_of x.1.now)) result (reader.next_parameter_at (tokens_of tokens.now)) }
 {
     let (_, rest) = expect(Sign::Comma, tokens)?;
     parameter(alloc, rest)
 }
 
-/// `{ "," type NAME }`, behind the first
+/// `{ "," type NAME }`, after the first
 fn more_parameters<'a>(
     alloc: Global,
     first: Parameter,
     tokens: &'a [Token],
-) -> Reading<'a, Vec<Parameter>>
-    ensures { Gives (λ x. (map parameter_of x.0.items, tokens_of x.1.now)) result (put (parameter_of first) (reader.more_parameters_at (tokens_of tokens.now))) }
+) -> ParseResult<'a, Vec<Parameter>>
+    ensures { ParsesAs (λ x. (map parameter_of x.0.items, tokens_of x.1.now)) result (put (parameter_of first) (reader.more_parameters_at (tokens_of tokens.now))) }
 {
     let mut all = Vec::new(alloc);
     all.push(first)?;
     let mut rest = tokens;
     'more: while next_is_sign(Sign::Comma, rest) {
-        let (next, behind) = next_parameter(alloc, rest)?;
+        let (next, after) = next_parameter(alloc, rest)?;
         all.push(next)?;
-        rest = behind;
+        rest = after;
     }
     Ok((all, rest))
 }
 
-/// `[ type NAME { "," type NAME } ]`, in front of a `)`
+/// `[ type NAME { "," type NAME } ]`, before a `)`
 #[tactic(auto, unfolding(crate::specs::ItemReader::parameter_list_at))]
-fn parameter_list(alloc: Global, tokens: &[Token]) -> Reading<'_, Vec<Parameter>>
-    ensures { Gives (λ x. (map parameter_of x.0.items, tokens_of x.1.now)) result (reader.parameter_list_at (tokens_of tokens.now)) }
+fn parameter_list(alloc: Global, tokens: &[Token]) -> ParseResult<'_, Vec<Parameter>>
+    ensures { ParsesAs (λ x. (map parameter_of x.0.items, tokens_of x.1.now)) result (reader.parameter_list_at (tokens_of tokens.now)) }
 {
     if next_is_sign(Sign::CloseParenthesis, tokens) {
         return Ok((Vec::new(alloc), tokens));
@@ -109,8 +109,8 @@ fn parameter_list(alloc: Global, tokens: &[Token]) -> Reading<'_, Vec<Parameter>
 
 /// `"(" [ type NAME { "," type NAME } ] ")"`
 #[tactic(auto, unfolding(crate::specs::ItemReader::parameters_at))]
-fn parameters(alloc: Global, tokens: &[Token]) -> Reading<'_, Vec<Parameter>>
-    ensures { Gives (λ x. (map parameter_of x.0.items, tokens_of x.1.now)) result (reader.parameters_at (tokens_of tokens.now)) }
+fn parameters(alloc: Global, tokens: &[Token]) -> ParseResult<'_, Vec<Parameter>>
+    ensures { ParsesAs (λ x. (map parameter_of x.0.items, tokens_of x.1.now)) result (reader.parameters_at (tokens_of tokens.now)) }
 {
     let (_, rest) = expect(Sign::OpenParenthesis, tokens)?;
     let (parameters, rest) = parameter_list(alloc, rest)?;
@@ -120,16 +120,16 @@ fn parameters(alloc: Global, tokens: &[Token]) -> Reading<'_, Vec<Parameter>>
 
 /// The body of a function.
 #[tactic(auto, unfolding(crate::specs::ItemReader::body_at))]
-fn body(alloc: Global, tokens: &[Token]) -> Reading<'_, Vec<Stmt>>
-    ensures { Gives (λ x. (map stmt_of x.0.items, tokens_of x.1.now)) result (reader.body_at (tokens_of tokens.now)) }
+fn body(alloc: Global, tokens: &[Token]) -> ParseResult<'_, Vec<Stmt>>
+    ensures { ParsesAs (λ x. (map stmt_of x.0.items, tokens_of x.1.now)) result (reader.body_at (tokens_of tokens.now)) }
 {
     block(alloc, DEPTH, tokens)
 }
 
 /// `rtype NAME params block`
 #[tactic(auto, unfolding(crate::specs::ItemReader::function_at))]
-fn function(alloc: Global, tokens: &[Token]) -> Reading<'_, Function>
-    ensures { Gives (λ x. (function_of x.0, tokens_of x.1.now)) result (reader.function_at (tokens_of tokens.now)) }
+fn function(alloc: Global, tokens: &[Token]) -> ParseResult<'_, Function>
+    ensures { ParsesAs (λ x. (function_of x.0, tokens_of x.1.now)) result (reader.function_at (tokens_of tokens.now)) }
 {
     let (of, rest) = result_type(alloc, tokens)?;
     let ((name, place), rest) = name(alloc, rest)?;
@@ -147,16 +147,16 @@ fn function(alloc: Global, tokens: &[Token]) -> Reading<'_, Function>
 
 /// `vars ";"`, outside functions
 #[tactic(auto, unfolding(crate::specs::ItemReader::globals_at))]
-fn globals(alloc: Global, tokens: &[Token]) -> Reading<'_, Vars>
-    ensures { Gives (λ x. (vars_of x.0, tokens_of x.1.now)) result (reader.globals_at (tokens_of tokens.now)) }
+fn globals(alloc: Global, tokens: &[Token]) -> ParseResult<'_, Vars>
+    ensures { ParsesAs (λ x. (vars_of x.0, tokens_of x.1.now)) result (reader.globals_at (tokens_of tokens.now)) }
 {
     declared(alloc, DEPTH, tokens)
 }
 
 /// All but the first token.
-#[tactic(auto, unfolding(crate::specs::ItemReader::behind))]
-fn behind(tokens: &[Token]) -> &[Token]
-    ensures { tokens_of result.now ≡ reader.behind (tokens_of tokens.now) }
+#[tactic(auto, unfolding(crate::specs::ItemReader::after))]
+fn after(tokens: &[Token]) -> &[Token]
+    ensures { tokens_of result.now ≡ reader.after (tokens_of tokens.now) }
 {
     match tokens.split_first() {
         Some((_, rest)) => rest,
@@ -164,7 +164,7 @@ fn behind(tokens: &[Token]) -> &[Token]
     }
 }
 
-/// Whether a function without parameters goes on behind its `(`.
+/// Whether a function without parameters goes on after its `(`.
 #[tactic(auto, unfolding(crate::specs::ItemReader::opens_body))]
 fn opens_body(tokens: &[Token]) -> bool
     ensures { result ≡ reader.opens_body (tokens_of tokens.now) }
@@ -175,7 +175,7 @@ fn opens_body(tokens: &[Token]) -> bool
     is_sign(Sign::CloseParenthesis, next) && next_is_sign(Sign::OpenBrace, rest)
 }
 
-/// Whether `NAME "("` stands here, and parameters behind it and no arguments.
+/// Whether `NAME "("` stands here, and parameters after it and no arguments.
 #[tactic(auto, unfolding(crate::specs::ItemReader::names_function))]
 fn names_function(tokens: &[Token]) -> bool
     ensures { result ≡ reader.names_function (tokens_of tokens.now) }
@@ -183,21 +183,21 @@ fn names_function(tokens: &[Token]) -> bool
     if !next_is_name(tokens) {
         return false;
     }
-    let opened = behind(tokens);
+    let opened = after(tokens);
     if !next_is_sign(Sign::OpenParenthesis, opened) {
         return false;
     }
-    let inner = behind(opened);
+    let inner = after(opened);
     is_vars(inner) || opens_body(inner)
 }
 
-/// Whether `NAME "("` stands here or behind an `@`, and parameters behind it and no arguments.
+/// Whether `NAME "("` stands here or after an `@`, and parameters after it and no arguments.
 #[tactic(auto, unfolding(crate::specs::ItemReader::handle_names_function))]
 fn handle_names_function(tokens: &[Token]) -> bool
     ensures { result ≡ reader.handle_names_function (tokens_of tokens.now) }
 {
     if next_is_sign(Sign::Handle, tokens) {
-        return names_function(behind(tokens));
+        return names_function(after(tokens));
     }
     names_function(tokens)
 }
@@ -216,7 +216,7 @@ fn is_function(tokens: &[Token]) -> bool
     if !is_array(&next.kind) {
         return handle_names_function(rest);
     }
-    let Some(rest) = behind_element(rest) else {
+    let Some(rest) = after_element(rest) else {
         return false;
     };
     handle_names_function(rest)
@@ -226,13 +226,13 @@ fn is_function(tokens: &[Token]) -> bool
 fn is_constructor(tokens: &[Token]) -> bool
     ensures { result ≡ reader.is_constructor (tokens_of tokens.now) }
 {
-    next_is_name(tokens) && next_is_sign(Sign::OpenParenthesis, behind(tokens))
+    next_is_name(tokens) && next_is_sign(Sign::OpenParenthesis, after(tokens))
 }
 
 /// `NAME params block`
 #[tactic(auto, unfolding(crate::specs::ItemReader::constructor_at))]
-fn constructor(alloc: Global, tokens: &[Token]) -> Reading<'_, Constructor>
-    ensures { Gives (λ x. (constructor_of x.0, tokens_of x.1.now)) result (reader.constructor_at (tokens_of tokens.now)) }
+fn constructor(alloc: Global, tokens: &[Token]) -> ParseResult<'_, Constructor>
+    ensures { ParsesAs (λ x. (constructor_of x.0, tokens_of x.1.now)) result (reader.constructor_at (tokens_of tokens.now)) }
 {
     let ((name, place), rest) = name(alloc, tokens)?;
     let (parameters, rest) = parameters(alloc, rest)?;
@@ -248,8 +248,8 @@ fn constructor(alloc: Global, tokens: &[Token]) -> Reading<'_, Constructor>
 
 /// `function | vars ";" | NAME params block`
 #[tactic(auto, unfolding(crate::specs::ItemReader::member_at))]
-fn member(alloc: Global, tokens: &[Token]) -> Reading<'_, Member>
-    ensures { Gives (λ x. (member_of x.0, tokens_of x.1.now)) result (reader.member_at (tokens_of tokens.now)) }
+fn member(alloc: Global, tokens: &[Token]) -> ParseResult<'_, Member>
+    ensures { ParsesAs (λ x. (member_of x.0, tokens_of x.1.now)) result (reader.member_at (tokens_of tokens.now)) }
 {
     if is_constructor(tokens) {
         let (constructor, rest) = constructor(alloc, tokens)?;
@@ -264,52 +264,52 @@ fn member(alloc: Global, tokens: &[Token]) -> Reading<'_, Member>
 }
 
 /// `{ member }`
-fn members(alloc: Global, tokens: &[Token]) -> Reading<'_, Vec<Member>>
-    ensures { Gives (λ x. (map member_of x.0.items, tokens_of x.1.now)) result (reader.members_at (tokens_of tokens.now)) }
+fn members(alloc: Global, tokens: &[Token]) -> ParseResult<'_, Vec<Member>>
+    ensures { ParsesAs (λ x. (map member_of x.0.items, tokens_of x.1.now)) result (reader.members_at (tokens_of tokens.now)) }
 {
     let mut all = Vec::new(alloc);
     let mut rest = tokens;
     'more: while goes_on(rest) {
-        let (next, behind) = member(alloc, rest)?;
+        let (next, after) = member(alloc, rest)?;
         all.push(next)?;
-        rest = behind;
+        rest = after;
     }
     Ok((all, rest))
 }
 
 /// `"," NAME`
 #[tactic(auto, unfolding(crate::specs::ItemReader::next_interface_at))]
-fn next_interface(alloc: Global, tokens: &[Token]) -> Reading<'_, TypeName>
-    ensures { Gives (λ x. (type_name_of x.0, tokens_of x.1.now)) result (reader.next_interface_at (tokens_of tokens.now)) }
+fn next_interface(alloc: Global, tokens: &[Token]) -> ParseResult<'_, TypeName>
+    ensures { ParsesAs (λ x. (type_name_of x.0, tokens_of x.1.now)) result (reader.next_interface_at (tokens_of tokens.now)) }
 {
     let (_, rest) = expect(Sign::Comma, tokens)?;
     let ((name, place), rest) = name(alloc, rest)?;
     Ok((TypeName { place, name }, rest))
 }
 
-/// `{ "," NAME }`, behind the first
+/// `{ "," NAME }`, after the first
 fn more_interfaces<'a>(
     alloc: Global,
     first: TypeName,
     tokens: &'a [Token],
-) -> Reading<'a, Vec<TypeName>>
-    ensures { Gives (λ x. (map type_name_of x.0.items, tokens_of x.1.now)) result (put (type_name_of first) (reader.more_interfaces_at (tokens_of tokens.now))) }
+) -> ParseResult<'a, Vec<TypeName>>
+    ensures { ParsesAs (λ x. (map type_name_of x.0.items, tokens_of x.1.now)) result (put (type_name_of first) (reader.more_interfaces_at (tokens_of tokens.now))) }
 {
     let mut all = Vec::new(alloc);
     all.push(first)?;
     let mut rest = tokens;
     'more: while next_is_sign(Sign::Comma, rest) {
-        let (next, behind) = next_interface(alloc, rest)?;
+        let (next, after) = next_interface(alloc, rest)?;
         all.push(next)?;
-        rest = behind;
+        rest = after;
     }
     Ok((all, rest))
 }
 
 /// `NAME { "," NAME }`
 #[tactic(auto, unfolding(crate::specs::ItemReader::listed_interfaces_at))]
-fn listed_interfaces(alloc: Global, tokens: &[Token]) -> Reading<'_, Vec<TypeName>>
-    ensures { Gives (λ x. (map type_name_of x.0.items, tokens_of x.1.now)) result (reader.listed_interfaces_at (tokens_of tokens.now)) }
+fn listed_interfaces(alloc: Global, tokens: &[Token]) -> ParseResult<'_, Vec<TypeName>>
+    ensures { ParsesAs (λ x. (map type_name_of x.0.items, tokens_of x.1.now)) result (reader.listed_interfaces_at (tokens_of tokens.now)) }
 {
     let ((name, place), rest) = name(alloc, tokens)?;
     more_interfaces(alloc, TypeName { place, name }, rest)
@@ -317,8 +317,8 @@ fn listed_interfaces(alloc: Global, tokens: &[Token]) -> Reading<'_, Vec<TypeNam
 
 /// `[ ":" NAME { "," NAME } ]`
 #[tactic(auto, unfolding(crate::specs::ItemReader::interfaces_at))]
-fn interfaces(alloc: Global, tokens: &[Token]) -> Reading<'_, Vec<TypeName>>
-    ensures { Gives (λ x. (map type_name_of x.0.items, tokens_of x.1.now)) result (reader.interfaces_at (tokens_of tokens.now)) }
+fn interfaces(alloc: Global, tokens: &[Token]) -> ParseResult<'_, Vec<TypeName>>
+    ensures { ParsesAs (λ x. (map type_name_of x.0.items, tokens_of x.1.now)) result (reader.interfaces_at (tokens_of tokens.now)) }
 {
     if !next_is_sign(Sign::Colon, tokens) {
         return Ok((Vec::new(alloc), tokens));
@@ -327,10 +327,10 @@ fn interfaces(alloc: Global, tokens: &[Token]) -> Reading<'_, Vec<TypeName>>
     listed_interfaces(alloc, rest)
 }
 
-/// `NAME [ ":" NAME { "," NAME } ] "{" { member } "}"`, behind the word `class`
+/// `NAME [ ":" NAME { "," NAME } ] "{" { member } "}"`, after the word `class`
 #[tactic(auto, unfolding(crate::specs::ItemReader::class_at))]
-fn class(alloc: Global, tokens: &[Token]) -> Reading<'_, Class>
-    ensures { Gives (λ x. (class_of x.0, tokens_of x.1.now)) result (reader.class_at (tokens_of tokens.now)) }
+fn class(alloc: Global, tokens: &[Token]) -> ParseResult<'_, Class>
+    ensures { ParsesAs (λ x. (class_of x.0, tokens_of x.1.now)) result (reader.class_at (tokens_of tokens.now)) }
 {
     let ((name, place), rest) = name(alloc, tokens)?;
     let (interfaces, rest) = interfaces(alloc, rest)?;
@@ -348,8 +348,8 @@ fn class(alloc: Global, tokens: &[Token]) -> Reading<'_, Class>
 
 /// `rtype NAME params ";"`
 #[tactic(auto, unfolding(crate::specs::ItemReader::interface_method_at))]
-fn interface_method(alloc: Global, tokens: &[Token]) -> Reading<'_, InterfaceMethod>
-    ensures { Gives (λ x. (interface_method_of x.0, tokens_of x.1.now)) result (reader.interface_method_at (tokens_of tokens.now)) }
+fn interface_method(alloc: Global, tokens: &[Token]) -> ParseResult<'_, InterfaceMethod>
+    ensures { ParsesAs (λ x. (interface_method_of x.0, tokens_of x.1.now)) result (reader.interface_method_at (tokens_of tokens.now)) }
 {
     let (of, rest) = result_type(alloc, tokens)?;
     let ((name, place), rest) = name(alloc, rest)?;
@@ -365,23 +365,23 @@ fn interface_method(alloc: Global, tokens: &[Token]) -> Reading<'_, InterfaceMet
 }
 
 /// `{ rtype NAME params ";" }`
-fn interface_methods(alloc: Global, tokens: &[Token]) -> Reading<'_, Vec<InterfaceMethod>>
-    ensures { Gives (λ x. (map interface_method_of x.0.items, tokens_of x.1.now)) result (reader.interface_methods_at (tokens_of tokens.now)) }
+fn interface_methods(alloc: Global, tokens: &[Token]) -> ParseResult<'_, Vec<InterfaceMethod>>
+    ensures { ParsesAs (λ x. (map interface_method_of x.0.items, tokens_of x.1.now)) result (reader.interface_methods_at (tokens_of tokens.now)) }
 {
     let mut all = Vec::new(alloc);
     let mut rest = tokens;
     'more: while goes_on(rest) {
-        let (next, behind) = interface_method(alloc, rest)?;
+        let (next, after) = interface_method(alloc, rest)?;
         all.push(next)?;
-        rest = behind;
+        rest = after;
     }
     Ok((all, rest))
 }
 
-/// `NAME "{" { rtype NAME params ";" } "}"`, behind the word `interface`
+/// `NAME "{" { rtype NAME params ";" } "}"`, after the word `interface`
 #[tactic(auto, unfolding(crate::specs::ItemReader::interface_at))]
-fn interface(alloc: Global, tokens: &[Token]) -> Reading<'_, Interface>
-    ensures { Gives (λ x. (interface_of x.0, tokens_of x.1.now)) result (reader.interface_at (tokens_of tokens.now)) }
+fn interface(alloc: Global, tokens: &[Token]) -> ParseResult<'_, Interface>
+    ensures { ParsesAs (λ x. (interface_of x.0, tokens_of x.1.now)) result (reader.interface_at (tokens_of tokens.now)) }
 {
     let ((name, place), rest) = name(alloc, tokens)?;
     let (_, rest) = expect(Sign::OpenBrace, rest)?;
@@ -397,11 +397,11 @@ fn interface(alloc: Global, tokens: &[Token]) -> Reading<'_, Interface>
 
 /// `class | interface | function | vars ";"`
 #[tactic(auto, unfolding(crate::specs::ItemReader::item_at))]
-fn item(alloc: Global, tokens: &[Token]) -> Reading<'_, Item>
-    ensures { Gives (λ x. (item_of x.0, tokens_of x.1.now)) result (reader.item_at (tokens_of tokens.now)) }
+fn item(alloc: Global, tokens: &[Token]) -> ParseResult<'_, Item>
+    ensures { ParsesAs (λ x. (item_of x.0, tokens_of x.1.now)) result (reader.item_at (tokens_of tokens.now)) }
 {
     let Some((next, rest)) = tokens.split_first() else {
-        return Err(Stop::Unexpected(tokens));
+        return Err(ParseError::Unexpected(tokens));
     };
     if is_class(&next.kind) {
         let (class, rest) = class(alloc, rest)?;
@@ -419,21 +419,21 @@ fn item(alloc: Global, tokens: &[Token]) -> Reading<'_, Item>
     Ok((Item::Vars(vars), rest))
 }
 
-/// Behind each `;` in front.
+/// Behind each `;` in prefix.
 fn strip(tokens: &[Token]) -> &[Token]
     ensures { tokens_of result.now ≡ reader.strip (tokens_of tokens.now) }
 {
     let mut rest = tokens;
     'more: while next_is_sign(Sign::Semicolon, rest) {
-        rest = behind(rest);
+        rest = after(rest);
     }
     rest
 }
 
-/// An item, and each `;` behind it.
+/// An item, and each `;` after it.
 #[tactic(auto, unfolding(crate::specs::ItemReader::entry_at))]
-fn entry(alloc: Global, tokens: &[Token]) -> Reading<'_, Item>
-    ensures { Gives (λ x. (item_of x.0, tokens_of x.1.now)) result (reader.entry_at (tokens_of tokens.now)) }
+fn entry(alloc: Global, tokens: &[Token]) -> ParseResult<'_, Item>
+    ensures { ParsesAs (λ x. (item_of x.0, tokens_of x.1.now)) result (reader.entry_at (tokens_of tokens.now)) }
 {
     let (item, rest) = item(alloc, tokens)?;
     Ok((item, strip(rest)))
@@ -446,24 +446,24 @@ pub fn is_left(tokens: &[Token]) -> bool
     tokens.split_first().is_some()
 }
 
-fn entries(alloc: Global, tokens: &[Token]) -> Reading<'_, Vec<Item>>
-    ensures read { Gives (λ x. (map item_of x.0.items, tokens_of x.1.now)) result (reader.entries_at (tokens_of tokens.now)) }
+fn entries(alloc: Global, tokens: &[Token]) -> ParseResult<'_, Vec<Item>>
+    ensures read { ParsesAs (λ x. (map item_of x.0.items, tokens_of x.1.now)) result (reader.entries_at (tokens_of tokens.now)) }
     ensures all { IfOk result (λ x. tokens_of x.1.now ≡ []) }
 {
     let mut all = Vec::new(alloc);
     let mut rest = tokens;
     'more: while is_left(rest) {
-        let (next, behind) = entry(alloc, rest)?;
+        let (next, after) = entry(alloc, rest)?;
         all.push(next)?;
-        rest = behind;
+        rest = after;
     }
     Ok((all, rest))
 }
 
 /// `{ ";" | class | interface | function | vars ";" }`
 #[tactic(auto, unfolding(crate::specs::ItemReader::module_at))]
-pub fn items(alloc: Global, tokens: &[Token]) -> Reading<'_, Vec<Item>>
-    ensures read { Gives (λ x. (map item_of x.0.items, tokens_of x.1.now)) result (reader.module_at (tokens_of tokens.now)) }
+pub fn items(alloc: Global, tokens: &[Token]) -> ParseResult<'_, Vec<Item>>
+    ensures read { ParsesAs (λ x. (map item_of x.0.items, tokens_of x.1.now)) result (reader.module_at (tokens_of tokens.now)) }
     ensures all { IfOk result (λ x. tokens_of x.1.now ≡ []) }
 {
     entries(alloc, strip(tokens))
@@ -471,44 +471,44 @@ pub fn items(alloc: Global, tokens: &[Token]) -> Reading<'_, Vec<Item>>
 
 /// `type [NAME]`
 #[tactic(auto, unfolding(crate::specs::ItemReader::unnamed_at))]
-fn unnamed(alloc: Global, tokens: &[Token]) -> Reading<'_, Type>
-    ensures { Gives (λ x. (type_of x.0, tokens_of x.1.now)) result (reader.unnamed_at (tokens_of tokens.now)) }
+fn unnamed(alloc: Global, tokens: &[Token]) -> ParseResult<'_, Type>
+    ensures { ParsesAs (λ x. (type_of x.0, tokens_of x.1.now)) result (reader.unnamed_at (tokens_of tokens.now)) }
 {
     let (of, rest) = type_name(alloc, tokens)?;
     if next_is_name(rest) {
-        return Ok((of, behind(rest)));
+        return Ok((of, after(rest)));
     }
     Ok((of, rest))
 }
 
 /// `"," type [NAME]`
 #[tactic(auto, unfolding(crate::specs::ItemReader::next_unnamed_at))]
-fn next_unnamed(alloc: Global, tokens: &[Token]) -> Reading<'_, Type>
-    ensures { Gives (λ x. (type_of x.0, tokens_of x.1.now)) result (reader.next_unnamed_at (tokens_of tokens.now)) }
+fn next_unnamed(alloc: Global, tokens: &[Token]) -> ParseResult<'_, Type>
+    ensures { ParsesAs (λ x. (type_of x.0, tokens_of x.1.now)) result (reader.next_unnamed_at (tokens_of tokens.now)) }
 {
     let (_, rest) = expect(Sign::Comma, tokens)?;
     unnamed(alloc, rest)
 }
 
-/// `{ "," type [NAME] }`, behind the first
-fn more_unnamed<'a>(alloc: Global, first: Type, tokens: &'a [Token]) -> Reading<'a, Vec<Type>>
-    ensures { Gives (λ x. (map type_of x.0.items, tokens_of x.1.now)) result (put (type_of first) (reader.more_unnamed_at (tokens_of tokens.now))) }
+/// `{ "," type [NAME] }`, after the first
+fn more_unnamed<'a>(alloc: Global, first: Type, tokens: &'a [Token]) -> ParseResult<'a, Vec<Type>>
+    ensures { ParsesAs (λ x. (map type_of x.0.items, tokens_of x.1.now)) result (put (type_of first) (reader.more_unnamed_at (tokens_of tokens.now))) }
 {
     let mut all = Vec::new(alloc);
     all.push(first)?;
     let mut rest = tokens;
     'more: while next_is_sign(Sign::Comma, rest) {
-        let (next, behind) = next_unnamed(alloc, rest)?;
+        let (next, after) = next_unnamed(alloc, rest)?;
         all.push(next)?;
-        rest = behind;
+        rest = after;
     }
     Ok((all, rest))
 }
 
-/// `[ type [NAME] { "," type [NAME] } ]`, in front of a `)`
+/// `[ type [NAME] { "," type [NAME] } ]`, before a `)`
 #[tactic(auto, unfolding(crate::specs::ItemReader::unnamed_list_at))]
-fn unnamed_list(alloc: Global, tokens: &[Token]) -> Reading<'_, Vec<Type>>
-    ensures { Gives (λ x. (map type_of x.0.items, tokens_of x.1.now)) result (reader.unnamed_list_at (tokens_of tokens.now)) }
+fn unnamed_list(alloc: Global, tokens: &[Token]) -> ParseResult<'_, Vec<Type>>
+    ensures { ParsesAs (λ x. (map type_of x.0.items, tokens_of x.1.now)) result (reader.unnamed_list_at (tokens_of tokens.now)) }
 {
     if next_is_sign(Sign::CloseParenthesis, tokens) {
         return Ok((Vec::new(alloc), tokens));
@@ -519,8 +519,8 @@ fn unnamed_list(alloc: Global, tokens: &[Token]) -> Reading<'_, Vec<Type>>
 
 /// `"(" [ type [NAME] { "," type [NAME] } ] ")"`
 #[tactic(auto, unfolding(crate::specs::ItemReader::unnamed_parameters_at))]
-fn unnamed_parameters(alloc: Global, tokens: &[Token]) -> Reading<'_, Vec<Type>>
-    ensures { Gives (λ x. (map type_of x.0.items, tokens_of x.1.now)) result (reader.unnamed_parameters_at (tokens_of tokens.now)) }
+fn unnamed_parameters(alloc: Global, tokens: &[Token]) -> ParseResult<'_, Vec<Type>>
+    ensures { ParsesAs (λ x. (map type_of x.0.items, tokens_of x.1.now)) result (reader.unnamed_parameters_at (tokens_of tokens.now)) }
 {
     let (_, rest) = expect(Sign::OpenParenthesis, tokens)?;
     let (parameters, rest) = unnamed_list(alloc, rest)?;
@@ -528,16 +528,16 @@ fn unnamed_parameters(alloc: Global, tokens: &[Token]) -> Reading<'_, Vec<Type>>
     Ok((parameters, rest))
 }
 
-/// What stands behind the name of a declaration.
-#[tactic(auto, unfolding(crate::specs::ItemReader::declaration_behind))]
-fn declaration_behind<'a>(
+/// What stands after the name of a declaration.
+#[tactic(auto, unfolding(crate::specs::ItemReader::declaration_after))]
+fn declaration_after<'a>(
     alloc: Global,
     of: Option<Type>,
     place: Place,
     name: String,
     tokens: &'a [Token],
-) -> Reading<'a, Declaration>
-    ensures { Gives (λ x. (declaration_of x.0, tokens_of x.1.now)) result (reader.declaration_behind (option_map type_of of) place (string_bytes name) (tokens_of tokens.now)) }
+) -> ParseResult<'a, Declaration>
+    ensures { ParsesAs (λ x. (declaration_of x.0, tokens_of x.1.now)) result (reader.declaration_after (option_map type_of of) place (string_bytes name) (tokens_of tokens.now)) }
 {
     if next_is_sign(Sign::OpenParenthesis, tokens) {
         let (parameters, rest) = unnamed_parameters(alloc, tokens)?;
@@ -550,7 +550,7 @@ fn declaration_behind<'a>(
         return Ok((Declaration::Function(signature), rest));
     }
     let Some(of) = of else {
-        return Err(Stop::Unexpected(tokens));
+        return Err(ParseError::Unexpected(tokens));
     };
     let property = Property { place, of, name };
     Ok((Declaration::Property(property), tokens))
@@ -558,10 +558,10 @@ fn declaration_behind<'a>(
 
 /// `rtype NAME "(" [ type [NAME] { "," type [NAME] } ] ")" | type NAME`
 #[tactic(auto, unfolding(crate::specs::ItemReader::declaration_at))]
-pub fn declaration(alloc: Global, tokens: &[Token]) -> Reading<'_, Declaration>
-    ensures { Gives (λ x. (declaration_of x.0, tokens_of x.1.now)) result (reader.declaration_at (tokens_of tokens.now)) }
+pub fn declaration(alloc: Global, tokens: &[Token]) -> ParseResult<'_, Declaration>
+    ensures { ParsesAs (λ x. (declaration_of x.0, tokens_of x.1.now)) result (reader.declaration_at (tokens_of tokens.now)) }
 {
     let (of, rest) = result_type(alloc, tokens)?;
     let ((name, place), rest) = name(alloc, rest)?;
-    declaration_behind(alloc, of, place, name, rest)
+    declaration_after(alloc, of, place, name, rest)
 }

@@ -1,7 +1,7 @@
 //! Trees from tokens.
 //!
 //! `parse_module` reads the tokens of a script as one tree, and `parse_declaration` those of what a host registers; each
-//! tells a fault where there is none. It stands on `ash_lex`, whose tokens it reads, and on `ash_tree`, whose trees it
+//! reports a fault where there is none. It stands on `ash_lex`, whose tokens it reads, and on `ash_tree`, whose trees it
 //! makes and whose grammar it keeps to: what is answered is derived, and whatever the tokens derive is what is answered, so
 //! that they have one tree at most; and a fault is the first by the grammar, of which they have one where they have no tree.
 //! The tokens are read once, from left to right, and at most ten of them ahead.
@@ -18,7 +18,7 @@ mod items;
 mod operators;
 mod parse;
 mod statements;
-mod stop;
+mod error;
 
 pub use faults::{ParseFault, UnsupportedPart};
 pub use parse::{

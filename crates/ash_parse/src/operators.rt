@@ -96,7 +96,7 @@ pub fn level(operator: BinaryOp) -> u32
     }
 }
 
-/// The operator that a token is behind what it writes to.
+/// The operator that a token is after what it writes to.
 #[tactic(auto, unfolding(ash_tree::specs::Operators::assign_operator))]
 pub fn assign_operator(kind: &TokenKind) -> Option<AssignOp>
     ensures { result ≡ spec.assign_operator (meaning_of kind.now) }

@@ -6,15 +6,15 @@ ghost use Rattle.ash_tree.specs.Tokens.{tokens_of};
 ghost use Rattle.ash_tree.specs.Tree.{Item, Declaration as DeclarationTree};
 ghost use Rattle.ash_tree.specs.Views.{module_of, declaration_of};
 ghost use Rattle.ash_tree.specs.Grammar.{Derives, Declares};
-ghost use Rattle.ash_parse.specs.Reading.{Unexpected, Gives};
+ghost use Rattle.ash_parse.specs.Readers.{Unexpected, ParsesAs};
 ghost use Rattle.ash_parse.specs.declared.faults.ParseFault.TheVariants.{NoMemory};
-ghost use Rattle.ash_parse.specs.FirstFault.{FirstFault, FirstDeclarationFault, TellsFirst};
+ghost use Rattle.ash_parse.specs.FirstFault.{FirstFault, FirstDeclarationFault, ReportsFirst};
 ghost use Rattle.ash_parse.specs.Unique.{HasOneModule, HasOneDeclaration, HasOneFault, HasTreeOrFault, HasNotBoth, HasOneDeclarationFault, HasDeclarationOrFault, HasNotBothDeclared};
-ghost use Rattle.ash_parse.specs.Faults.{Tells, part_of, end_of, start, IsTold, whole_declaration_at};
+ghost use Rattle.ash_parse.specs.Faults.{Reports, part_of, end_of, start, IsReported, whole_declaration_at};
 
 use crate::faults::{ParseFault, UnsupportedPart};
 use crate::items::{declaration, is_left, items};
-use crate::stop::{Reading, Stop};
+use crate::error::{ParseResult, ParseError};
 use ash_lex::{Sign, Token, TokenKind};
 use ash_tree::{Declaration, Module};
 use std::alloc::Global;
@@ -52,22 +52,22 @@ fn end(tokens: &[Token]) -> usize
     }
 }
 
-/// What is told of why reading stopped.
-fn fault(tokens: &[Token], stop: Stop) -> ParseFault
-    ensures { IsTold tokens.now result stop.entry }
+/// What is reported of why reading stopped.
+fn fault(tokens: &[Token], stop: ParseError) -> ParseFault
+    ensures { IsReported tokens.now result stop.entry }
 {
     match stop {
-        Stop::Unexpected(rest) => unexpected(tokens, rest),
-        Stop::TooDeep(rest) => ParseFault::TooDeep {
+        ParseError::Unexpected(rest) => unexpected(tokens, rest),
+        ParseError::TooDeep(rest) => ParseFault::TooDeep {
             at: offset(tokens, rest),
         },
-        Stop::NoMemory => ParseFault::NoMemory,
+        ParseError::NoMemory => ParseFault::NoMemory,
     }
 }
 
-/// What is told of the first of these tokens, which no phrase goes on with.
+/// What is reported of the first of these tokens, which no phrase goes on with.
 fn unexpected(tokens: &[Token], rest: &[Token]) -> ParseFault
-    ensures { Tells tokens.now result (Unexpected (tokens_of rest.now)) }
+    ensures { Reports tokens.now result (Unexpected (tokens_of rest.now)) }
 {
     let Some(next) = rest.first() else {
         return ParseFault::Unexpected { at: end(tokens) };
@@ -88,14 +88,14 @@ fn unexpected(tokens: &[Token], rest: &[Token]) -> ParseFault
 /// Tokens that have no tree within depth 64 are refused with a fault: [`ParseFault::Unexpected`] or
 /// [`ParseFault::Unsupported`] at the first token that fits nowhere, [`ParseFault::TooDeep`] at the first that stands too
 /// deep, whichever comes first. Where memory runs out the answer is [`ParseFault::NoMemory`].
-#[tactic(auto, using(crate::proofs::ItemSound::module_sound, crate::proofs::Told::told_is_fault, crate::proofs::ItemComplete::items_are_one, crate::proofs::ItemComplete::module_memory, crate::proofs::FirstFaults::module_told_first))]
+#[tactic(auto, using(crate::proofs::ItemSound::module_sound, crate::proofs::Reported::reported_is_fault, crate::proofs::ItemComplete::items_are_one, crate::proofs::ItemComplete::module_memory, crate::proofs::FirstFaults::module_reported_first))]
 pub fn parse_module(alloc: Global, tokens: &[Token]) -> Result<Module, ParseFault>
     // What is answered is a tree that the tokens derive, all of them, within depth 64.
     ensures derived { IfOk result (λ tree. Derives 0 (tokens_of tokens.now) (module_of tree)) }
     // Whatever the tokens derive within depth 64 is what is answered, unless memory runs out.
     ensures only { (derived : List Item) → Derives 0 (tokens_of tokens.now) derived → MatchResult result (λ tree. module_of tree ≡ derived) (λ fault. fault ≡ NoMemory) }
     // A fault is the first by the grammar: what stands before it begins a module, and nothing that goes on with it is one.
-    ensures first { IfErr result (λ fault. TellsFirst FirstFault tokens.now fault) }
+    ensures first { IfErr result (λ fault. ReportsFirst FirstFault tokens.now fault) }
 {
     match items(alloc, tokens) {
         Ok((items, _)) => Ok(Module { items }),
@@ -108,14 +108,14 @@ pub fn parse_module(alloc: Global, tokens: &[Token]) -> Result<Module, ParseFaul
 /// # Errors
 ///
 /// As for [`parse_module`].
-#[tactic(auto, using(crate::proofs::ItemShorter::declaration_sound, crate::proofs::Told::told_is_fault, crate::proofs::ItemComplete::declarations_are_one, crate::proofs::ItemComplete::declaration_memory, crate::proofs::FirstFaults::declaration_told_first), unfolding(crate::specs::Faults::whole_declaration_at))]
+#[tactic(auto, using(crate::proofs::ItemShorter::declaration_sound, crate::proofs::Reported::reported_is_fault, crate::proofs::ItemComplete::declarations_are_one, crate::proofs::ItemComplete::declaration_memory, crate::proofs::FirstFaults::declaration_reported_first), unfolding(crate::specs::Faults::whole_declaration_at))]
 pub fn parse_declaration(alloc: Global, tokens: &[Token]) -> Result<Declaration, ParseFault>
     // What is answered is a tree that the tokens derive, all of them.
     ensures derived { IfOk result (λ tree. Declares (tokens_of tokens.now) (declaration_of tree)) }
     // Whatever the tokens derive is what is answered, unless memory runs out.
     ensures only { (derived : DeclarationTree) → Declares (tokens_of tokens.now) derived → MatchResult result (λ tree. declaration_of tree ≡ derived) (λ fault. fault ≡ NoMemory) }
     // A fault is the first by the grammar: what stands before it begins a declaration, and nothing that goes on with it is one.
-    ensures first { IfErr result (λ fault. TellsFirst FirstDeclarationFault tokens.now fault) }
+    ensures first { IfErr result (λ fault. ReportsFirst FirstDeclarationFault tokens.now fault) }
 {
     match whole_declaration(alloc, tokens) {
         Ok((declaration, _)) => Ok(declaration),
@@ -123,15 +123,15 @@ pub fn parse_declaration(alloc: Global, tokens: &[Token]) -> Result<Declaration,
     }
 }
 
-/// A declaration with nothing behind it.
+/// A declaration with nothing after it.
 #[tactic(auto, using(crate::proofs::ItemShorter::left_is_none), unfolding(crate::specs::Faults::whole_declaration_at))]
-fn whole_declaration(alloc: Global, tokens: &[Token]) -> Reading<'_, Declaration>
-    ensures read { Gives (λ x. (declaration_of x.0, tokens_of x.1.now)) result (whole_declaration_at (tokens_of tokens.now)) }
+fn whole_declaration(alloc: Global, tokens: &[Token]) -> ParseResult<'_, Declaration>
+    ensures read { ParsesAs (λ x. (declaration_of x.0, tokens_of x.1.now)) result (whole_declaration_at (tokens_of tokens.now)) }
     ensures all { IfOk result (λ x. tokens_of x.1.now ≡ []) }
 {
     let (declaration, rest) = declaration(alloc, tokens)?;
     if is_left(rest) {
-        return Err(Stop::Unexpected(rest));
+        return Err(ParseError::Unexpected(rest));
     }
     Ok((declaration, rest))
 }

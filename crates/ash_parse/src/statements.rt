@@ -1,4 +1,4 @@
-//! Reading declarations of variables, and statements.
+//! ParseResult declarations of variables, and statements.
 //!
 //! Each function reads the phrase that stands above it. `room` is how many phrases that count for the depth may still
 //! begin, one in the other.
@@ -8,7 +8,7 @@ ghost use Rattle.ash_lex.specs.Tokens.{meaning_of};
 ghost use Rattle.ash_tree.specs.Tokens.{tokens_of, place_of_token};
 ghost use Rattle.ash_tree.specs.Tree.{If, IfElse};
 ghost use Rattle.ash_tree.specs.Views.{expr_of, decl_of, initializer_of, vars_of, stmt_at, stmt_of, case_of};
-ghost use Rattle.ash_parse.specs.Reading.{Gives, Fails, put};
+ghost use Rattle.ash_parse.specs.Readers.{ParsesAs, Fails, put};
 ghost use Rattle.ash_parse.specs.ExpressionReader as exprs;
 ghost use Rattle.ash_parse.specs.StatementReader as reader;
 
@@ -16,7 +16,7 @@ use crate::cursor::{expect, name, next_is_sign, place};
 use crate::data_types::{is_vars, type_name};
 use crate::expressions::{DEPTH, arguments, assign, below, bracketed, expressions};
 use crate::operators::begins_expression;
-use crate::stop::{Reading, Stop};
+use crate::error::{ParseResult, ParseError};
 use ash_lex::{ReservedWord, Sign, Token, TokenKind};
 use ash_tree::{Case, Decl, Expr, Initializer, Label, Place, Stmt, StmtKind, Vars, nodes};
 use std::alloc::{AllocError, Global};
@@ -89,7 +89,7 @@ pub fn goes_on(tokens: &[Token]) -> bool
     !matches!(leads_to(&next.kind), Leading::End)
 }
 
-/// Whether the statements behind a label go on.
+/// Whether the statements after a label go on.
 #[tactic(auto, unfolding(crate::specs::StatementReader::case_goes_on))]
 fn case_goes_on(tokens: &[Token]) -> bool
     ensures { result ≡ reader.case_goes_on (tokens_of tokens.now) }
@@ -105,9 +105,9 @@ fn case_goes_on(tokens: &[Token]) -> bool
 
 /// `[ "=" assign | args ]`
 #[tactic(auto, unfolding(crate::specs::StatementReader::initializer_with))]
-fn initializer(alloc: Global, room: u32, tokens: &[Token]) -> Reading<'_, Initializer>
+fn initializer(alloc: Global, room: u32, tokens: &[Token]) -> ParseResult<'_, Initializer>
     requires { room ≤ DEPTH }
-    ensures { Gives (λ x. (initializer_of x.0, tokens_of x.1.now)) result (reader.initializer_with (exprs.below_at room) (tokens_of tokens.now)) }
+    ensures { ParsesAs (λ x. (initializer_of x.0, tokens_of x.1.now)) result (reader.initializer_with (exprs.below_at room) (tokens_of tokens.now)) }
 {
     if next_is_sign(Sign::Assign, tokens) {
         let (_, rest) = expect(Sign::Assign, tokens)?;
@@ -123,9 +123,9 @@ fn initializer(alloc: Global, room: u32, tokens: &[Token]) -> Reading<'_, Initia
 
 /// `NAME [ "=" assign | args ]`
 #[tactic(auto, unfolding(crate::specs::StatementReader::decl_with))]
-fn decl(alloc: Global, room: u32, tokens: &[Token]) -> Reading<'_, Decl>
+fn decl(alloc: Global, room: u32, tokens: &[Token]) -> ParseResult<'_, Decl>
     requires { room ≤ DEPTH }
-    ensures { Gives (λ x. (decl_of x.0, tokens_of x.1.now)) result (reader.decl_with (exprs.below_at room) (tokens_of tokens.now)) }
+    ensures { ParsesAs (λ x. (decl_of x.0, tokens_of x.1.now)) result (reader.decl_with (exprs.below_at room) (tokens_of tokens.now)) }
 {
     let ((name, place), rest) = name(alloc, tokens)?;
     let (initializer, rest) = initializer(alloc, room, rest)?;
@@ -139,40 +139,40 @@ fn decl(alloc: Global, room: u32, tokens: &[Token]) -> Reading<'_, Decl>
 
 /// `"," decl`
 #[tactic(auto, unfolding(crate::specs::StatementReader::next_decl_with))]
-fn next_decl(alloc: Global, room: u32, tokens: &[Token]) -> Reading<'_, Decl>
+fn next_decl(alloc: Global, room: u32, tokens: &[Token]) -> ParseResult<'_, Decl>
     requires { room ≤ DEPTH }
-    ensures { Gives (λ x. (decl_of x.0, tokens_of x.1.now)) result (reader.next_decl_with (exprs.below_at room) (tokens_of tokens.now)) }
+    ensures { ParsesAs (λ x. (decl_of x.0, tokens_of x.1.now)) result (reader.next_decl_with (exprs.below_at room) (tokens_of tokens.now)) }
 {
     let (_, rest) = expect(Sign::Comma, tokens)?;
     decl(alloc, room, rest)
 }
 
-/// `{ "," decl }`, behind the first: mostly one stands alone
+/// `{ "," decl }`, after the first: mostly one stands alone
 fn more_decls<'a>(
     alloc: Global,
     room: u32,
     first: Decl,
     tokens: &'a [Token],
-) -> Reading<'a, Vec<Decl>>
+) -> ParseResult<'a, Vec<Decl>>
     requires { room ≤ DEPTH }
-    ensures { Gives (λ x. (map decl_of x.0.items, tokens_of x.1.now)) result (put (decl_of first) (reader.more_decls_with (exprs.below_at room) (tokens_of tokens.now))) }
+    ensures { ParsesAs (λ x. (map decl_of x.0.items, tokens_of x.1.now)) result (put (decl_of first) (reader.more_decls_with (exprs.below_at room) (tokens_of tokens.now))) }
 {
     let mut all = Vec::with_capacity(alloc, 1)?;
     all.push(first)?;
     let mut rest = tokens;
     'more: while next_is_sign(Sign::Comma, rest) {
-        let (next, behind) = next_decl(alloc, room, rest)?;
+        let (next, after) = next_decl(alloc, room, rest)?;
         all.push(next)?;
-        rest = behind;
+        rest = after;
     }
     Ok((all, rest))
 }
 
 /// `decl { "," decl }`
 #[tactic(auto, unfolding(crate::specs::StatementReader::decls_with))]
-fn decls(alloc: Global, room: u32, tokens: &[Token]) -> Reading<'_, Vec<Decl>>
+fn decls(alloc: Global, room: u32, tokens: &[Token]) -> ParseResult<'_, Vec<Decl>>
     requires { room ≤ DEPTH }
-    ensures { Gives (λ x. (map decl_of x.0.items, tokens_of x.1.now)) result (reader.decls_with (exprs.below_at room) (tokens_of tokens.now)) }
+    ensures { ParsesAs (λ x. (map decl_of x.0.items, tokens_of x.1.now)) result (reader.decls_with (exprs.below_at room) (tokens_of tokens.now)) }
 {
     let (first, rest) = decl(alloc, room, tokens)?;
     more_decls(alloc, room, first, rest)
@@ -180,9 +180,9 @@ fn decls(alloc: Global, room: u32, tokens: &[Token]) -> Reading<'_, Vec<Decl>>
 
 /// `type decl { "," decl }`
 #[tactic(auto, unfolding(crate::specs::StatementReader::vars_with))]
-fn vars(alloc: Global, room: u32, tokens: &[Token]) -> Reading<'_, Vars>
+fn vars(alloc: Global, room: u32, tokens: &[Token]) -> ParseResult<'_, Vars>
     requires { room ≤ DEPTH }
-    ensures { Gives (λ x. (vars_of x.0, tokens_of x.1.now)) result (reader.vars_with (exprs.below_at room) (tokens_of tokens.now)) }
+    ensures { ParsesAs (λ x. (vars_of x.0, tokens_of x.1.now)) result (reader.vars_with (exprs.below_at room) (tokens_of tokens.now)) }
 {
     let (of, rest) = type_name(alloc, tokens)?;
     let (decls, rest) = decls(alloc, room, rest)?;
@@ -191,9 +191,9 @@ fn vars(alloc: Global, room: u32, tokens: &[Token]) -> Reading<'_, Vars>
 
 /// `vars ";"`
 #[tactic(auto, unfolding(crate::specs::StatementReader::declared_with))]
-pub fn declared(alloc: Global, room: u32, tokens: &[Token]) -> Reading<'_, Vars>
+pub fn declared(alloc: Global, room: u32, tokens: &[Token]) -> ParseResult<'_, Vars>
     requires { room ≤ DEPTH }
-    ensures { Gives (λ x. (vars_of x.0, tokens_of x.1.now)) result (reader.declared_with (exprs.below_at room) (tokens_of tokens.now)) }
+    ensures { ParsesAs (λ x. (vars_of x.0, tokens_of x.1.now)) result (reader.declared_with (exprs.below_at room) (tokens_of tokens.now)) }
 {
     let (vars, rest) = vars(alloc, room, tokens)?;
     let (_, rest) = expect(Sign::Semicolon, rest)?;
@@ -202,9 +202,9 @@ pub fn declared(alloc: Global, room: u32, tokens: &[Token]) -> Reading<'_, Vars>
 
 /// `[ vars | assign ] ";"`, in the head of a `for`
 #[tactic(auto, unfolding(crate::specs::StatementReader::first_with))]
-fn first(alloc: Global, room: u32, tokens: &[Token]) -> Reading<'_, Stmt>
+fn first(alloc: Global, room: u32, tokens: &[Token]) -> ParseResult<'_, Stmt>
     requires { room ≤ DEPTH }
-    ensures { Gives (λ x. (stmt_of x.0, tokens_of x.1.now)) result (reader.first_with (exprs.below_at room) (tokens_of tokens.now)) }
+    ensures { ParsesAs (λ x. (stmt_of x.0, tokens_of x.1.now)) result (reader.first_with (exprs.below_at room) (tokens_of tokens.now)) }
 {
     if next_is_sign(Sign::Semicolon, tokens) {
         let (place, rest) = expect(Sign::Semicolon, tokens)?;
@@ -222,9 +222,9 @@ fn first(alloc: Global, room: u32, tokens: &[Token]) -> Reading<'_, Stmt>
 
 /// `[assign] ";"`, in the head of a `for`
 #[tactic(auto, unfolding(crate::specs::StatementReader::test_with))]
-fn test(alloc: Global, room: u32, tokens: &[Token]) -> Reading<'_, Option<Expr>>
+fn test(alloc: Global, room: u32, tokens: &[Token]) -> ParseResult<'_, Option<Expr>>
     requires { room ≤ DEPTH }
-    ensures { Gives (λ x. (option_map expr_of x.0, tokens_of x.1.now)) result (reader.test_with (exprs.below_at room) (tokens_of tokens.now)) }
+    ensures { ParsesAs (λ x. (option_map expr_of x.0, tokens_of x.1.now)) result (reader.test_with (exprs.below_at room) (tokens_of tokens.now)) }
 {
     if next_is_sign(Sign::Semicolon, tokens) {
         let (_, rest) = expect(Sign::Semicolon, tokens)?;
@@ -235,11 +235,11 @@ fn test(alloc: Global, room: u32, tokens: &[Token]) -> Reading<'_, Option<Expr>>
     Ok((Some(value), rest))
 }
 
-/// `[assign] ";"`, behind `return`
+/// `[assign] ";"`, after `return`
 #[tactic(auto, unfolding(crate::specs::StatementReader::result_with))]
-fn returned(alloc: Global, room: u32, tokens: &[Token]) -> Reading<'_, Option<Expr>>
+fn returned(alloc: Global, room: u32, tokens: &[Token]) -> ParseResult<'_, Option<Expr>>
     requires { room ≤ DEPTH }
-    ensures { Gives (λ x. (option_map expr_of x.0, tokens_of x.1.now)) result (reader.result_with (exprs.below_at room) (tokens_of tokens.now)) }
+    ensures { ParsesAs (λ x. (option_map expr_of x.0, tokens_of x.1.now)) result (reader.result_with (exprs.below_at room) (tokens_of tokens.now)) }
 {
     if next_is_sign(Sign::Semicolon, tokens) {
         let (_, rest) = expect(Sign::Semicolon, tokens)?;
@@ -252,9 +252,9 @@ fn returned(alloc: Global, room: u32, tokens: &[Token]) -> Reading<'_, Option<Ex
 
 /// `assign ";"`
 #[tactic(auto, unfolding(crate::specs::StatementReader::evaluate_with))]
-fn evaluate(alloc: Global, room: u32, tokens: &[Token]) -> Reading<'_, Stmt>
+fn evaluate(alloc: Global, room: u32, tokens: &[Token]) -> ParseResult<'_, Stmt>
     requires { room ≤ DEPTH }
-    ensures { Gives (λ x. (stmt_of x.0, tokens_of x.1.now)) result (reader.evaluate_with (exprs.below_at room) (tokens_of tokens.now)) }
+    ensures { ParsesAs (λ x. (stmt_of x.0, tokens_of x.1.now)) result (reader.evaluate_with (exprs.below_at room) (tokens_of tokens.now)) }
 {
     let (value, rest) = assign(alloc, room, tokens)?;
     let (_, rest) = expect(Sign::Semicolon, rest)?;
@@ -263,52 +263,52 @@ fn evaluate(alloc: Global, room: u32, tokens: &[Token]) -> Reading<'_, Stmt>
 
 /// Why a statement can't begin where no deeper one may.
 #[tactic(auto, unfolding(crate::specs::StatementReader::stmt_limit_at))]
-fn limit(tokens: &[Token]) -> Stop<'_>
+fn limit(tokens: &[Token]) -> ParseError<'_>
     ensures { Fails result (reader.stmt_limit_at (tokens_of tokens.now)) }
 {
     let Some((next, _)) = tokens.split_first() else {
-        return Stop::Unexpected(tokens);
+        return ParseError::Unexpected(tokens);
     };
     if begins_statement(&next.kind) {
-        Stop::TooDeep(tokens)
+        ParseError::TooDeep(tokens)
     } else {
-        Stop::Unexpected(tokens)
+        ParseError::Unexpected(tokens)
     }
 }
 
 /// The word `while`.
 #[tactic(auto, unfolding(crate::specs::StatementReader::while_at))]
-fn expect_while(tokens: &[Token]) -> Reading<'_, Place>
-    ensures { Gives (λ x. (x.0, tokens_of x.1.now)) result (reader.while_at (tokens_of tokens.now)) }
+fn expect_while(tokens: &[Token]) -> ParseResult<'_, Place>
+    ensures { ParsesAs (λ x. (x.0, tokens_of x.1.now)) result (reader.while_at (tokens_of tokens.now)) }
 {
     let Some((next, rest)) = tokens.split_first() else {
-        return Err(Stop::Unexpected(tokens));
+        return Err(ParseError::Unexpected(tokens));
     };
     if matches!(leads_to(&next.kind), Leading::While) {
         Ok((place(next), rest))
     } else {
-        Err(Stop::Unexpected(tokens))
+        Err(ParseError::Unexpected(tokens))
     }
 }
 
 /// A number with its place.
 #[tactic(auto, unfolding(crate::specs::StatementReader::number_at))]
-fn number(tokens: &[Token]) -> Reading<'_, (u64, Place)>
-    ensures { Gives (λ x. (((x.0).0, (x.0).1), tokens_of x.1.now)) result (reader.number_at (tokens_of tokens.now)) }
+fn number(tokens: &[Token]) -> ParseResult<'_, (u64, Place)>
+    ensures { ParsesAs (λ x. (((x.0).0, (x.0).1), tokens_of x.1.now)) result (reader.number_at (tokens_of tokens.now)) }
 {
     let Some((next, rest)) = tokens.split_first() else {
-        return Err(Stop::Unexpected(tokens));
+        return Err(ParseError::Unexpected(tokens));
     };
     match &next.kind {
         TokenKind::Number(value) => Ok(((*value, place(next)), rest)),
-        _ => Err(Stop::Unexpected(tokens)),
+        _ => Err(ParseError::Unexpected(tokens)),
     }
 }
 
 /// `["-"] NUMBER ":"`, at its first token
 #[tactic(auto, unfolding(crate::specs::StatementReader::case_value_at))]
-fn case_value(tokens: &[Token]) -> Reading<'_, (Label, Place)>
-    ensures { Gives (λ x. (((x.0).0, (x.0).1), tokens_of x.1.now)) result (reader.case_value_at (tokens_of tokens.now)) }
+fn case_value(tokens: &[Token]) -> ParseResult<'_, (Label, Place)>
+    ensures { ParsesAs (λ x. (((x.0).0, (x.0).1), tokens_of x.1.now)) result (reader.case_value_at (tokens_of tokens.now)) }
 {
     if next_is_sign(Sign::Minus, tokens) {
         let (place, rest) = expect(Sign::Minus, tokens)?;
@@ -323,11 +323,11 @@ fn case_value(tokens: &[Token]) -> Reading<'_, (Label, Place)>
 
 /// `("case" ["-"] NUMBER | "default") ":"`, at the constant or at the word `default`
 #[tactic(auto, unfolding(crate::specs::StatementReader::label_at))]
-fn label(tokens: &[Token]) -> Reading<'_, (Label, Place)>
-    ensures { Gives (λ x. (((x.0).0, (x.0).1), tokens_of x.1.now)) result (reader.label_at (tokens_of tokens.now)) }
+fn label(tokens: &[Token]) -> ParseResult<'_, (Label, Place)>
+    ensures { ParsesAs (λ x. (((x.0).0, (x.0).1), tokens_of x.1.now)) result (reader.label_at (tokens_of tokens.now)) }
 {
     let Some((next, rest)) = tokens.split_first() else {
-        return Err(Stop::Unexpected(tokens));
+        return Err(ParseError::Unexpected(tokens));
     };
     match leads_to(&next.kind) {
         Leading::Case => case_value(rest),
@@ -336,15 +336,15 @@ fn label(tokens: &[Token]) -> Reading<'_, (Label, Place)>
             let (_, rest) = expect(Sign::Colon, rest)?;
             Ok(((Label::Default, place), rest))
         }
-        _ => Err(Stop::Unexpected(tokens)),
+        _ => Err(ParseError::Unexpected(tokens)),
     }
 }
 
 /// A statement that stands one deeper.
 #[cycle(statements)]
-fn nested(alloc: Global, room: u32, tokens: &[Token]) -> Reading<'_, Stmt>
+fn nested(alloc: Global, room: u32, tokens: &[Token]) -> ParseResult<'_, Stmt>
     requires { room ≤ DEPTH }
-    ensures { Gives (λ x. (stmt_of x.0, tokens_of x.1.now)) result (reader.nested_at room (tokens_of tokens.now)) }
+    ensures { ParsesAs (λ x. (stmt_of x.0, tokens_of x.1.now)) result (reader.nested_at room (tokens_of tokens.now)) }
 {
     if room == 0 {
         return Err(limit(tokens));
@@ -354,9 +354,9 @@ fn nested(alloc: Global, room: u32, tokens: &[Token]) -> Reading<'_, Stmt>
 
 /// A statement that stands one deeper, in a box: what holds it while it reads on holds the box only.
 #[cycle(statements)]
-fn inner(alloc: Global, room: u32, tokens: &[Token]) -> Reading<'_, Box<Stmt>>
+fn inner(alloc: Global, room: u32, tokens: &[Token]) -> ParseResult<'_, Box<Stmt>>
     requires { room ≤ DEPTH }
-    ensures { Gives (λ x. (stmt_of (x.0).value, tokens_of x.1.now)) result (reader.nested_at room (tokens_of tokens.now)) }
+    ensures { ParsesAs (λ x. (stmt_of (x.0).value, tokens_of x.1.now)) result (reader.nested_at room (tokens_of tokens.now)) }
 {
     let (read, rest) = nested(alloc, room, tokens)?;
     Ok((boxed(alloc, read)?, rest))
@@ -370,12 +370,12 @@ fn boxed(alloc: Global, statement: Stmt) -> Result<Box<Stmt>, AllocError>
 
 #[cycle(statements)]
 #[tactic(auto, unfolding(crate::specs::StatementReader::stmt_with))]
-fn statement(alloc: Global, room: u32, tokens: &[Token]) -> Reading<'_, Stmt>
+fn statement(alloc: Global, room: u32, tokens: &[Token]) -> ParseResult<'_, Stmt>
     requires { room ≤ DEPTH }
-    ensures { Gives (λ x. (stmt_of x.0, tokens_of x.1.now)) result (reader.stmt_with (exprs.below_at room) (reader.nested_at room) (tokens_of tokens.now)) }
+    ensures { ParsesAs (λ x. (stmt_of x.0, tokens_of x.1.now)) result (reader.stmt_with (exprs.below_at room) (reader.nested_at room) (tokens_of tokens.now)) }
 {
     let Some((next, rest)) = tokens.split_first() else {
-        return Err(Stop::Unexpected(tokens));
+        return Err(ParseError::Unexpected(tokens));
     };
     let place = place(next);
     match leads_to(&next.kind) {
@@ -403,7 +403,7 @@ fn statement(alloc: Global, room: u32, tokens: &[Token]) -> Reading<'_, Stmt>
         }
         Leading::Other => evaluate(alloc, room, tokens),
         Leading::End | Leading::Else | Leading::Case | Leading::Default => {
-            Err(Stop::Unexpected(tokens))
+            Err(ParseError::Unexpected(tokens))
         }
     }
 }
@@ -414,7 +414,7 @@ fn simple(place: Place, kind: StmtKind) -> Stmt
     Stmt { place, kind }
 }
 
-/// `"(" assign ")" stmt [ "else" stmt ]`, behind the `if`
+/// `"(" assign ")" stmt [ "else" stmt ]`, after the `if`
 #[cycle(statements)]
 #[tactic(auto, unfolding(crate::specs::StatementReader::if_with))]
 fn if_statement<'a>(
@@ -422,9 +422,9 @@ fn if_statement<'a>(
     room: u32,
     place: Place,
     tokens: &'a [Token],
-) -> Reading<'a, Stmt>
+) -> ParseResult<'a, Stmt>
     requires { room ≤ DEPTH }
-    ensures { Gives (λ x. (stmt_of x.0, tokens_of x.1.now)) result (reader.if_with (exprs.below_at room) (reader.nested_at room) place (tokens_of tokens.now)) }
+    ensures { ParsesAs (λ x. (stmt_of x.0, tokens_of x.1.now)) result (reader.if_with (exprs.below_at room) (reader.nested_at room) place (tokens_of tokens.now)) }
 {
     let (condition, rest) = bracketed(alloc, room, tokens)?;
     let (then, rest) = inner(alloc, room, rest)?;
@@ -465,9 +465,9 @@ fn else_branch<'a>(
     condition: Expr,
     then: Box<Stmt>,
     tokens: &'a [Token],
-) -> Reading<'a, Stmt>
+) -> ParseResult<'a, Stmt>
     requires { room ≤ DEPTH }
-    ensures { Gives (λ x. (stmt_of x.0, tokens_of x.1.now)) result (reader.else_with (reader.nested_at room) place (expr_of condition) (stmt_of then.value) (tokens_of tokens.now)) }
+    ensures { ParsesAs (λ x. (stmt_of x.0, tokens_of x.1.now)) result (reader.else_with (reader.nested_at room) place (expr_of condition) (stmt_of then.value) (tokens_of tokens.now)) }
 {
     let Some((next, rest)) = tokens.split_first() else {
         return Ok((if_only(place, condition, then), tokens));
@@ -479,7 +479,7 @@ fn else_branch<'a>(
     Ok((if_else(place, condition, then, otherwise), rest))
 }
 
-/// `"(" assign ")" stmt`, behind the `while`
+/// `"(" assign ")" stmt`, after the `while`
 #[cycle(statements)]
 #[tactic(auto, unfolding(crate::specs::StatementReader::while_with))]
 fn while_statement<'a>(
@@ -487,9 +487,9 @@ fn while_statement<'a>(
     room: u32,
     place: Place,
     tokens: &'a [Token],
-) -> Reading<'a, Stmt>
+) -> ParseResult<'a, Stmt>
     requires { room ≤ DEPTH }
-    ensures { Gives (λ x. (stmt_of x.0, tokens_of x.1.now)) result (reader.while_with (exprs.below_at room) (reader.nested_at room) place (tokens_of tokens.now)) }
+    ensures { ParsesAs (λ x. (stmt_of x.0, tokens_of x.1.now)) result (reader.while_with (exprs.below_at room) (reader.nested_at room) place (tokens_of tokens.now)) }
 {
     let (condition, rest) = bracketed(alloc, room, tokens)?;
     let (body, rest) = inner(alloc, room, rest)?;
@@ -500,7 +500,7 @@ fn while_statement<'a>(
     Ok((repeated, rest))
 }
 
-/// `stmt "while" "(" assign ")" ";"`, behind the `do`
+/// `stmt "while" "(" assign ")" ";"`, after the `do`
 #[cycle(statements)]
 #[tactic(auto, unfolding(crate::specs::StatementReader::do_with, crate::specs::StatementReader::do_end_with))]
 fn do_statement<'a>(
@@ -508,15 +508,15 @@ fn do_statement<'a>(
     room: u32,
     place: Place,
     tokens: &'a [Token],
-) -> Reading<'a, Stmt>
+) -> ParseResult<'a, Stmt>
     requires { room ≤ DEPTH }
-    ensures { Gives (λ x. (stmt_of x.0, tokens_of x.1.now)) result (reader.do_with (exprs.below_at room) (reader.nested_at room) place (tokens_of tokens.now)) }
+    ensures { ParsesAs (λ x. (stmt_of x.0, tokens_of x.1.now)) result (reader.do_with (exprs.below_at room) (reader.nested_at room) place (tokens_of tokens.now)) }
 {
     let (body, rest) = inner(alloc, room, tokens)?;
     do_end(alloc, room, place, body, rest)
 }
 
-/// `"while" "(" assign ")" ";"`, behind the body of a `do`
+/// `"while" "(" assign ")" ";"`, after the body of a `do`
 #[tactic(auto, unfolding(crate::specs::StatementReader::do_end_with))]
 fn do_end<'a>(
     alloc: Global,
@@ -524,9 +524,9 @@ fn do_end<'a>(
     place: Place,
     body: Box<Stmt>,
     tokens: &'a [Token],
-) -> Reading<'a, Stmt>
+) -> ParseResult<'a, Stmt>
     requires { room ≤ DEPTH }
-    ensures { Gives (λ x. (stmt_of x.0, tokens_of x.1.now)) result (reader.do_end_with (exprs.below_at room) place (stmt_of body.value) (tokens_of tokens.now)) }
+    ensures { ParsesAs (λ x. (stmt_of x.0, tokens_of x.1.now)) result (reader.do_end_with (exprs.below_at room) place (stmt_of body.value) (tokens_of tokens.now)) }
 {
     let (_, rest) = expect_while(tokens)?;
     let (condition, rest) = bracketed(alloc, room, rest)?;
@@ -538,7 +538,7 @@ fn do_end<'a>(
     Ok((repeated, rest))
 }
 
-/// `"(" [ vars | assign ] ";" [assign] ";" [ assign {"," assign} ] ")" stmt`, behind the `for`
+/// `"(" [ vars | assign ] ";" [assign] ";" [ assign {"," assign} ] ")" stmt`, after the `for`
 #[cycle(statements)]
 #[tactic(auto, unfolding(crate::specs::StatementReader::for_with))]
 fn for_statement<'a>(
@@ -546,9 +546,9 @@ fn for_statement<'a>(
     room: u32,
     place: Place,
     tokens: &'a [Token],
-) -> Reading<'a, Stmt>
+) -> ParseResult<'a, Stmt>
     requires { room ≤ DEPTH }
-    ensures { Gives (λ x. (stmt_of x.0, tokens_of x.1.now)) result (reader.for_with (exprs.below_at room) (reader.nested_at room) place (tokens_of tokens.now)) }
+    ensures { ParsesAs (λ x. (stmt_of x.0, tokens_of x.1.now)) result (reader.for_with (exprs.below_at room) (reader.nested_at room) place (tokens_of tokens.now)) }
 {
     let (_, rest) = expect(Sign::OpenParenthesis, tokens)?;
     let (first, rest) = first(alloc, room, rest)?;
@@ -562,7 +562,7 @@ fn for_statement<'a>(
     ))
 }
 
-/// `"(" assign ")" "{" { label { stmt } } "}"`, behind the `switch`
+/// `"(" assign ")" "{" { label { stmt } } "}"`, after the `switch`
 #[cycle(statements)]
 #[tactic(auto, unfolding(crate::specs::StatementReader::switch_with, crate::specs::StatementReader::switch_end_with))]
 fn switch_statement<'a>(
@@ -570,9 +570,9 @@ fn switch_statement<'a>(
     room: u32,
     place: Place,
     tokens: &'a [Token],
-) -> Reading<'a, Stmt>
+) -> ParseResult<'a, Stmt>
     requires { room ≤ DEPTH }
-    ensures { Gives (λ x. (stmt_of x.0, tokens_of x.1.now)) result (reader.switch_with (exprs.below_at room) (reader.nested_at room) place (tokens_of tokens.now)) }
+    ensures { ParsesAs (λ x. (stmt_of x.0, tokens_of x.1.now)) result (reader.switch_with (exprs.below_at room) (reader.nested_at room) place (tokens_of tokens.now)) }
 {
     let (value, rest) = bracketed(alloc, room, tokens)?;
     let (_, rest) = expect(Sign::OpenBrace, rest)?;
@@ -580,26 +580,26 @@ fn switch_statement<'a>(
     switch_end(place, value, cases, rest)
 }
 
-/// `"}"`, behind the cases of a `switch`
+/// `"}"`, after the cases of a `switch`
 #[tactic(auto, unfolding(crate::specs::StatementReader::switch_end_with))]
-fn switch_end(place: Place, value: Expr, cases: Vec<Case>, tokens: &[Token]) -> Reading<'_, Stmt>
-    ensures { Gives (λ x. (stmt_of x.0, tokens_of x.1.now)) result (reader.switch_end_with place (expr_of value) (map case_of cases.items) (tokens_of tokens.now)) }
+fn switch_end(place: Place, value: Expr, cases: Vec<Case>, tokens: &[Token]) -> ParseResult<'_, Stmt>
+    ensures { ParsesAs (λ x. (stmt_of x.0, tokens_of x.1.now)) result (reader.switch_end_with place (expr_of value) (map case_of cases.items) (tokens_of tokens.now)) }
 {
     let (_, rest) = expect(Sign::CloseBrace, tokens)?;
     Ok((nodes::switch(place, value, cases), rest))
 }
 
 #[cycle(statements)]
-fn cases(alloc: Global, room: u32, tokens: &[Token]) -> Reading<'_, Vec<Case>>
+fn cases(alloc: Global, room: u32, tokens: &[Token]) -> ParseResult<'_, Vec<Case>>
     requires { room ≤ DEPTH }
-    ensures { Gives (λ x. (map case_of x.0.items, tokens_of x.1.now)) result (reader.cases_with (reader.nested_at room) (tokens_of tokens.now)) }
+    ensures { ParsesAs (λ x. (map case_of x.0.items, tokens_of x.1.now)) result (reader.cases_with (reader.nested_at room) (tokens_of tokens.now)) }
 {
     let mut all = Vec::new(alloc);
     let mut rest = tokens;
     'more: while goes_on(rest) {
-        let (next, behind) = case(alloc, room, rest)?;
+        let (next, after) = case(alloc, room, rest)?;
         all.push(next)?;
-        rest = behind;
+        rest = after;
     }
     Ok((all, rest))
 }
@@ -607,27 +607,27 @@ fn cases(alloc: Global, room: u32, tokens: &[Token]) -> Reading<'_, Vec<Case>>
 /// `label { stmt }`
 #[cycle(statements)]
 #[tactic(auto, unfolding(crate::specs::StatementReader::case_with))]
-fn case(alloc: Global, room: u32, tokens: &[Token]) -> Reading<'_, Case>
+fn case(alloc: Global, room: u32, tokens: &[Token]) -> ParseResult<'_, Case>
     requires { room ≤ DEPTH }
-    ensures { Gives (λ x. (case_of x.0, tokens_of x.1.now)) result (reader.case_with (reader.nested_at room) (tokens_of tokens.now)) }
+    ensures { ParsesAs (λ x. (case_of x.0, tokens_of x.1.now)) result (reader.case_with (reader.nested_at room) (tokens_of tokens.now)) }
 {
     let ((label, place), rest) = label(tokens)?;
     let (body, rest) = statements(alloc, room, rest)?;
     Ok((nodes::case(place, label, body), rest))
 }
 
-/// `{ stmt }`, behind a label
+/// `{ stmt }`, after a label
 #[cycle(statements)]
-fn statements(alloc: Global, room: u32, tokens: &[Token]) -> Reading<'_, Vec<Stmt>>
+fn statements(alloc: Global, room: u32, tokens: &[Token]) -> ParseResult<'_, Vec<Stmt>>
     requires { room ≤ DEPTH }
-    ensures { Gives (λ x. (map stmt_of x.0.items, tokens_of x.1.now)) result (reader.stmts_with (reader.nested_at room) (tokens_of tokens.now)) }
+    ensures { ParsesAs (λ x. (map stmt_of x.0.items, tokens_of x.1.now)) result (reader.stmts_with (reader.nested_at room) (tokens_of tokens.now)) }
 {
     let mut all = Vec::new(alloc);
     let mut rest = tokens;
     'more: while case_goes_on(rest) {
-        let (next, behind) = nested(alloc, room, rest)?;
+        let (next, after) = nested(alloc, room, rest)?;
         all.push(next)?;
-        rest = behind;
+        rest = after;
     }
     Ok((all, rest))
 }
@@ -635,9 +635,9 @@ fn statements(alloc: Global, room: u32, tokens: &[Token]) -> Reading<'_, Vec<Stm
 /// `"{" { vars ";" | stmt } "}"`
 #[cycle(statements)]
 #[tactic(auto, unfolding(crate::specs::StatementReader::block_with))]
-pub fn block(alloc: Global, room: u32, tokens: &[Token]) -> Reading<'_, Vec<Stmt>>
+pub fn block(alloc: Global, room: u32, tokens: &[Token]) -> ParseResult<'_, Vec<Stmt>>
     requires { room ≤ DEPTH }
-    ensures { Gives (λ x. (map stmt_of x.0.items, tokens_of x.1.now)) result (reader.block_with (exprs.below_at room) (reader.nested_at room) (tokens_of tokens.now)) }
+    ensures { ParsesAs (λ x. (map stmt_of x.0.items, tokens_of x.1.now)) result (reader.block_with (exprs.below_at room) (reader.nested_at room) (tokens_of tokens.now)) }
 {
     let (_, rest) = expect(Sign::OpenBrace, tokens)?;
     let (body, rest) = locals(alloc, room, rest)?;
@@ -647,16 +647,16 @@ pub fn block(alloc: Global, room: u32, tokens: &[Token]) -> Reading<'_, Vec<Stmt
 
 /// `{ vars ";" | stmt }`
 #[cycle(statements)]
-fn locals(alloc: Global, room: u32, tokens: &[Token]) -> Reading<'_, Vec<Stmt>>
+fn locals(alloc: Global, room: u32, tokens: &[Token]) -> ParseResult<'_, Vec<Stmt>>
     requires { room ≤ DEPTH }
-    ensures { Gives (λ x. (map stmt_of x.0.items, tokens_of x.1.now)) result (reader.locals_with (exprs.below_at room) (reader.nested_at room) (tokens_of tokens.now)) }
+    ensures { ParsesAs (λ x. (map stmt_of x.0.items, tokens_of x.1.now)) result (reader.locals_with (exprs.below_at room) (reader.nested_at room) (tokens_of tokens.now)) }
 {
     let mut all = Vec::new(alloc);
     let mut rest = tokens;
     'more: while goes_on(rest) {
-        let (next, behind) = local(alloc, room, rest)?;
+        let (next, after) = local(alloc, room, rest)?;
         all.push(next)?;
-        rest = behind;
+        rest = after;
     }
     Ok((all, rest))
 }
@@ -664,9 +664,9 @@ fn locals(alloc: Global, room: u32, tokens: &[Token]) -> Reading<'_, Vec<Stmt>>
 /// `vars ";" | stmt`
 #[cycle(statements)]
 #[tactic(auto, unfolding(crate::specs::StatementReader::local_with))]
-fn local(alloc: Global, room: u32, tokens: &[Token]) -> Reading<'_, Stmt>
+fn local(alloc: Global, room: u32, tokens: &[Token]) -> ParseResult<'_, Stmt>
     requires { room ≤ DEPTH }
-    ensures { Gives (λ x. (stmt_of x.0, tokens_of x.1.now)) result (reader.local_with (exprs.below_at room) (reader.nested_at room) (tokens_of tokens.now)) }
+    ensures { ParsesAs (λ x. (stmt_of x.0, tokens_of x.1.now)) result (reader.local_with (exprs.below_at room) (reader.nested_at room) (tokens_of tokens.now)) }
 {
     if is_vars(tokens) {
         let (vars, rest) = declared(alloc, room, tokens)?;

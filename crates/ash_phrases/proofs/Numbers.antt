@@ -12,7 +12,7 @@ use Rattle.ash_host.specs.declared.event.Target.{Target}
 use Rattle.ash_host.specs.declared.event.Target.TheVariants as targets
 use Rattle.ash_host.specs.Objects.{Plain, Script, Array, Host, Objects, object_at, with_at, is_host, IsInOrder, AreNumbered}
 use Rattle.ash_host.specs.Reach.{ReachableIn, Swept, hosts_gone, is_reachable}
-use Rattle.ash_host.proofs.Order.{object_at-with_at, in_order-with_at, none_behind, in_order_behind}
+use Rattle.ash_host.proofs.Order.{object_at-with_at, in_order-with_at, none_after, in_order_after}
 use Rattle.ash_host.proofs.ReachLaws.{is_reachable_says, is_reachable_yes}
 use Rattle.ash_host.proofs.NumberLaws.{put_next, swept_numbered}
 use Rattle.ash_phrases.specs.Activity.{World, Frame, Activity}
@@ -186,7 +186,7 @@ goes new e = is_host e.1 && is_none (object_at e.0 new)
 gone_drops : (n : ℕ) (new objects : Objects (List ℕ)) → IsInOrder objects → drops_of n (map Dropped (keys_of (filter (goes new) objects))) ≡ gone n new (object_at n objects)
 gone_drops n new [] o = refl
 gone_drops n new (e ∷ l) o =
-    here (nat_eq n e.0) refl (gone_drops n new l (in_order_behind e l o))
+    here (nat_eq n e.0) refl (gone_drops n new l (in_order_after e l o))
   where
     rest : List Event
     rest = map Dropped (keys_of (filter (goes new) l))
@@ -198,7 +198,7 @@ gone_drops n new (e ∷ l) o =
     -- no other entry has the number
     later : (found : Option P) → object_at n l ≡ found → nat_eq n e.0 ≡ true → gone n new found ≡ 0
     later None f is = refl
-    later (Some object) f is = let not_here : nat_eq n e.0 ≡ false = none_behind e l n o (lives_at n l f) in cc
+    later (Some object) f is = let not_here : nat_eq n e.0 ≡ false = none_after e l n o (lives_at n l f) in cc
 
     here : (b : Bool) → nat_eq n e.0 ≡ b → drops_of n rest ≡ gone n new (object_at n l) → drops_of n (map Dropped (keys_of (filter (goes new) (e ∷ l)))) ≡ gone n new (cond b (Some e.1) (object_at n l))
     here true is ih =

@@ -11,7 +11,7 @@ use Rattle.ash_phrases.specs.Runs.{Progress, Done, Ended, Raising, Run, give, on
 use Rattle.ash_phrases.specs.ObjectSteps.{demand_number, make}
 use Rattle.ash_phrases.specs.HostSteps.{note, place_of_kind, without_box, box_in, box_of_kind, draw}
 
--- the first element that passes a test, found from the front
+-- the first element that passes a test, found from the prefix
 
 pub position_is : {A : Type 0} (p : A → Bool) (xs : List A) → position p xs ≡ position_from p 0 xs
 position_is p xs = position_from-zero p xs

@@ -19,12 +19,12 @@ use Rattle.ash_typed.specs.Modules.{Module}
 use Rattle.ash_typed.specs.References as references
 use Rattle.ash_typed.specs.Signatures as signatures
 use Rattle.ash_typing.specs.Types.{var_type, ty_of}
-use Rattle.ash_typing.specs.Environment.{Interface, Class, Heads, first_from, is_class, is_interface_named}
+use Rattle.ash_typing.specs.Environment.{Interface, Class, ModuleDeclarations, first_from, is_class, is_interface_named}
 use Rattle.ash_typing.specs.Environment.{type_declared}
-use Rattle.ash_typing.specs.Heads.{class_type, interface_type, host_object, object_named, element_of, element_by}
-use Rattle.ash_typing.specs.Heads.{element_named, array_named, object_ty, handle_ty, ty_named, declared, variables}
-use Rattle.ash_typing.specs.Heads.{interface_place, with_place, listed_in, named_class, class_head, names_in, heads}
-use Rattle.ash_typing.specs.Heads.{all_variables}
+use Rattle.ash_typing.specs.ModuleDeclarations.{class_type, interface_type, host_object, object_named, element_of, element_by}
+use Rattle.ash_typing.specs.ModuleDeclarations.{element_named, array_named, object_ty, handle_ty, ty_named, declared, variables}
+use Rattle.ash_typing.specs.ModuleDeclarations.{interface_place, with_place, listed_in, named_class, class_head, names_in, declarations}
+use Rattle.ash_typing.specs.ModuleDeclarations.{all_variables}
 use Rattle.ash_typing.specs.TypedModules.{environment, IsTyped}
 use Rattle.ash_typing.specs.Offered.{offered}
 use Rattle.ash_typing.specs.Soundness.{signature_of_class, signatures_in}
@@ -95,20 +95,20 @@ among_all Q (x ∷ xs) (inr rest) = among_all Q xs rest
 -- classes and interfaces by their names
 
 -- the name is that of the class, or of the interface, at the place
-abbrev IsNameOfClass : Heads → List ℕ → ℕ → Type 0
+abbrev IsNameOfClass : ModuleDeclarations → List ℕ → ℕ → Type 0
 IsNameOfClass named name place = (c : Class) × (slice_get named.classes place ≡ Some c) × (name ≡ c.name)
 
-abbrev IsNameOfInterface : Heads → List ℕ → ℕ → Type 0
+abbrev IsNameOfInterface : ModuleDeclarations → List ℕ → ℕ → Type 0
 IsNameOfInterface named name place = (i : Interface) × (slice_get named.interfaces place ≡ Some i) × (name ≡ i.name)
 
 -- what the name of an object type says
-abbrev IsNamed : Heads → List ℕ → ObjectType → Type 0
+abbrev IsNamed : ModuleDeclarations → List ℕ → ObjectType → Type 0
 IsNamed named name (objects.Class class) = IsNameOfClass named name class
 IsNamed named name (objects.Interface interface) = IsNameOfInterface named name interface
 IsNamed named name (objects.Host kind) = Unit {0}
 IsNamed named name (objects.Array of) = ⊥
 
-class_is_named : (named : Heads) (name : List ℕ) → IfSome (class_type named.classes name) (IsNamed named name)
+class_is_named : (named : ModuleDeclarations) (name : List ℕ) → IfSome (class_type named.classes name) (IsNamed named name)
 class_is_named named name =
     go (first_from (is_class name) 0 named.classes) (first_place (is_class name) named.classes)
     (first_passes (is_class name) 0 named.classes)
@@ -119,7 +119,7 @@ class_is_named named name =
     go None at called = tt
     go (Some f) at called = (f.1, at, (bytes_eq-Decides name f.1.name).0 called)
 
-interface_is_named : (named : Heads) (name : List ℕ)
+interface_is_named : (named : ModuleDeclarations) (name : List ℕ)
     → IfSome (interface_type named.interfaces name) (IsNamed named name)
 interface_is_named named name =
     go (first_from (is_interface_named name) 0 named.interfaces)
@@ -131,13 +131,13 @@ interface_is_named named name =
     go None at called = tt
     go (Some f) at called = (f.1, at, (bytes_eq-Decides name f.1.name).0 called)
 
-host_is_named : (named : Heads) (name : List ℕ) (call : Option host.Call)
+host_is_named : (named : ModuleDeclarations) (name : List ℕ) (call : Option host.Registration)
     → IfSome (option_and_then host_object call) (IsNamed named name)
 host_is_named named name None = tt
 host_is_named named name (Some (host.AType other kind)) = tt
 host_is_named named name (Some _) = tt
 
-object_is_named : (calls : List host.Call) (named : Heads) (name : List ℕ)
+object_is_named : (calls : List host.Registration) (named : ModuleDeclarations) (name : List ℕ)
     → IfSome (object_named calls named name) (IsNamed named name)
 unfolding object_named
 object_is_named calls named name =
@@ -148,13 +148,13 @@ object_is_named calls named name =
     (option_and_then host_object (find (host.takes_name name) calls)) (interface_is_named named name)
     (host_is_named named name (find (host.takes_name name) calls)))
 
-named_by : (calls : List host.Call) (named : Heads) (name : List ℕ) (o : ObjectType)
+named_by : (calls : List host.Registration) (named : ModuleDeclarations) (name : List ℕ) (o : ObjectType)
     → object_named calls named name ≡ Some o → IsNamed named name o
 named_by calls named name o e = let h = object_is_named calls named name in
     subst (λ (found : Option ObjectType). IfSome found (IsNamed named name)) e h
 
 -- two names of one interface are the same
-same_names : (named : Heads) (one other : List ℕ) (place : ℕ) → IsNameOfInterface named one place
+same_names : (named : ModuleDeclarations) (one other : List ℕ) (place : ℕ) → IsNameOfInterface named one place
     → IsNameOfInterface named other place → one ≡ other
 same_names named one other place h k = let same = same_Some h.0 k.0 (sym h.1 ∙ k.1) in
     h.2 ∙ ap (λ (i : Interface). i.name) same ∙ sym k.2
@@ -166,7 +166,7 @@ abbrev HasClass : List written.Item → ℕ → (written.Class → Type 0) → T
 HasClass is place P = (c : written.Class) × (slice_get (classes_of is) place ≡ Some c) × P c
 
 -- the interfaces that are listed
-among_listed : (calls : List host.Call) (named : Heads) (ns : List written.TypeName) (interface : ℕ)
+among_listed : (calls : List host.Registration) (named : ModuleDeclarations) (ns : List written.TypeName) (interface : ℕ)
     → Among (λ i. i ≡ interface) (listed_in calls named ns)
     → Among (λ n. object_named calls named n.name ≡ Some (objects.Interface interface)) ns
 unfolding Among
@@ -187,15 +187,15 @@ among_listed calls named (n ∷ ns) interface h =
     go (Some (objects.Array of)) e h more = inr (more h)
     go None e h more = inr (more h)
 
-module _ (calls : List host.Call) (is : List written.Item) where
+module _ (calls : List host.Registration) (is : List written.Item) where
   abbrev seen : signatures.Signatures
-  seen = signatures_in calls (heads calls is)
+  seen = signatures_in calls (declarations calls is)
 
   written_class : (place : ℕ) (c : signatures.ClassSignature) → slice_get seen.classes place ≡ Some c
       → HasClass is place (λ w. signature_of_class (class_head calls (names_in is) w) ≡ c)
-  unfolding heads
+  unfolding declarations
   written_class place c h =
-      let signed = unmapped signature_of_class (heads calls is).classes place c h in
+      let signed = unmapped signature_of_class (declarations calls is).classes place c h in
       let head = unmapped (class_head calls (names_in is)) (classes_of is) place signed.0 signed.1 in
       (head.0, head.1, ap signature_of_class head.2 ∙ signed.2)
 
@@ -353,7 +353,7 @@ module _ (calls : List host.Call) (is : List written.Item) where
       let other = members_written h.1 to one.0.members h.4 (field_written h.1 one.0.members typed) in
       (other.0, other.1, (one.0, one.1, any_among (λ m. written_references.Holds m other.0) one.0.members other.2))
 
-pub typed_refers : (calls : List host.Call) (is : List written.Item) (m : Module) → IsTyped calls is m → (from to : ℕ)
+pub typed_refers : (calls : List host.Registration) (is : List written.Item) (m : Module) → IsTyped calls is m → (from to : ℕ)
     → references.Refers (signatures.signatures_of (offered calls) m) from to
     → written_references.Refers (classes_of is) from to
 typed_refers calls is m typed from to h =
@@ -363,7 +363,7 @@ length-mapped : {A B : Type 0} (f : A → B) (xs : List A) → length (map f xs)
 length-mapped f [] = refl
 length-mapped f (x ∷ xs) = ap suc (length-mapped f xs)
 
-pub typed_ranks : (calls : List host.Call) (is : List written.Item) (m : Module) → IsTyped calls is m → (ranks : List ℕ)
+pub typed_ranks : (calls : List host.Registration) (is : List written.Item) (m : Module) → IsTyped calls is m → (ranks : List ℕ)
     → ways.AreRanks (written_references.Refers (classes_of is)) (length (classes_of is)) ranks
     → references.AreRanks (signatures.signatures_of (offered calls) m) ranks
 typed_ranks calls is m typed ranks are =

@@ -9,9 +9,9 @@ use Rattle.ash_registrations.specs.Names.{place_of}
 use Rattle.ash_registrations.proofs.Mapped.{any_mapped, find_mapped}
 
 module _ {X : Type 0} (p : X → Bool) where
-  behind : (x : X) (xs : List X) (o : Option ℕ) → option_and_then (slice_get (x ∷ xs)) (option_map suc o) ≡ option_and_then (slice_get xs) o
-  behind x xs None = refl
-  behind x xs (Some n) = refl
+  after : (x : X) (xs : List X) (o : Option ℕ) → option_and_then (slice_get (x ∷ xs)) (option_map suc o) ≡ option_and_then (slice_get xs) o
+  after x xs None = refl
+  after x xs (Some n) = refl
 
   -- what stands at the place is what is found
   pub found_at_place : (xs : List X) → find p xs ≡ option_and_then (slice_get xs) (place_of p xs)
@@ -19,12 +19,12 @@ module _ {X : Type 0} (p : X → Bool) where
   found_at_place (x ∷ xs) =
       elim (p x) as (λ b. cond b (Some x) (find p xs) ≡ option_and_then (slice_get (x ∷ xs)) (cond b (Some 0) (option_map suc (place_of p xs)))) [
         | true ↦ refl
-        | false ↦ found_at_place xs ∙ sym (behind x xs (place_of p xs))
+        | false ↦ found_at_place xs ∙ sym (after x xs (place_of p xs))
       ]
 
-  some_behind : (o : Option ℕ) → is_some (option_map suc o) ≡ is_some o
-  some_behind None = refl
-  some_behind (Some n) = refl
+  some_after : (o : Option ℕ) → is_some (option_map suc o) ≡ is_some o
+  some_after None = refl
+  some_after (Some n) = refl
 
   -- one passes where there is a place
   pub placed_is_any : (xs : List X) → is_some (place_of p xs) ≡ list_any p xs
@@ -32,7 +32,7 @@ module _ {X : Type 0} (p : X → Bool) where
   placed_is_any (x ∷ xs) =
       elim (p x) as (λ b. is_some (cond b (Some 0) (option_map suc (place_of p xs))) ≡ (b || list_any p xs)) [
         | true ↦ refl
-        | false ↦ some_behind (place_of p xs) ∙ placed_is_any xs
+        | false ↦ some_after (place_of p xs) ∙ placed_is_any xs
       ]
 
   -- one more that does not pass leaves the place
@@ -40,7 +40,7 @@ module _ {X : Type 0} (p : X → Bool) where
   place_stays [] y e = ap (λ b. cond b (Some 0) None) e
   place_stays (x ∷ xs) y e = ap (λ o. cond (p x) (Some 0) (option_map suc o)) (place_stays xs y e)
 
-  -- the first that passes stands behind the others
+  -- the first that passes stands after the others
   pub place_is_last : (xs : List X) (y : X) → list_any p xs ≡ false → p y ≡ true → place_of p (xs ++ y ∷ []) ≡ Some (length xs)
   place_is_last [] y none e = ap (λ b. cond b (Some 0) None) e
   place_is_last (x ∷ xs) y none e =

@@ -2,8 +2,8 @@
 use Rattle.std.specs.Prelude.{ℕ, Bool, true, false, List, Option, None, Some, string_bytes, nat_eq, ◌&&◌}
 use Rattle.std.specs.Str.{bytes_eq}
 use Rattle.ash_tree.specs.declared.tree.types.Primitive.{Primitive}
-use Rattle.ash_registrations.specs.declared.call.Call as calls
-use Rattle.ash_registrations.specs.declared.call.Call.TheVariants as the_calls
+use Rattle.ash_registrations.specs.declared.registration.Registration as calls
+use Rattle.ash_registrations.specs.declared.registration.Registration.TheVariants as the_calls
 use Rattle.ash_registrations.specs.declared.call.Operation as operations
 
 -- a function of primitives
@@ -13,18 +13,18 @@ pub record Operation : Type 0 where
   pub parameters : List Primitive
 
 -- an accepted call
-pub data Call : Type 0 where
-  AType : (name : List ℕ) (kind : ℕ) → Call
-  AFactory : (of : List ℕ) (parameters : List Primitive) → Call
-  AMethod : (of : List ℕ) (id : ℕ) (operation : Operation) → Call
-  AProperty : (of : List ℕ) (id : ℕ) (value : Primitive) (name : List ℕ) → Call
-  AService : (kind : ℕ) → Call
-  AFunction : (service : ℕ) (id : ℕ) (operation : Operation) → Call
+pub data Registration : Type 0 where
+  AType : (name : List ℕ) (kind : ℕ) → Registration
+  AFactory : (of : List ℕ) (parameters : List Primitive) → Registration
+  AMethod : (of : List ℕ) (id : ℕ) (operation : Operation) → Registration
+  AProperty : (of : List ℕ) (id : ℕ) (value : Primitive) (name : List ℕ) → Registration
+  AService : (kind : ℕ) → Registration
+  AFunction : (service : ℕ) (id : ℕ) (operation : Operation) → Registration
 
 abbrev pub operation_of : operations.Operation → Operation
 operation_of o = record { name = string_bytes o.name; result = o.result; parameters = o.parameters.items }
 
-abbrev pub call_of : calls.Call → Call
+abbrev pub call_of : calls.Registration → Registration
 call_of (the_calls.Type name kind) = AType (string_bytes name) kind
 call_of (the_calls.Factory of parameters) = AFactory (string_bytes of) parameters.items
 call_of (the_calls.Method of id operation) = AMethod (string_bytes of) id (operation_of operation)
@@ -33,65 +33,65 @@ call_of (the_calls.Service kind) = AService kind
 call_of (the_calls.Function service id operation) = AFunction service id (operation_of operation)
 
 -- whether a call registers a type, and one of this name
-abbrev pub is_type : Call → Bool
+abbrev pub is_type : Registration → Bool
 is_type (AType _ _) = true
 is_type _ = false
 
-abbrev pub names_type : List ℕ → Call → Bool
+abbrev pub names_type : List ℕ → Registration → Bool
 names_type name (AType other _) = bytes_eq name other
 names_type _ _ = false
 
 -- whether it takes this kind, by a type or a service
-abbrev pub takes_kind : ℕ → Call → Bool
+abbrev pub takes_kind : ℕ → Registration → Bool
 takes_kind kind (AType _ other) = nat_eq kind other
 takes_kind kind (AService other) = nat_eq kind other
 takes_kind _ _ = false
 
 -- whether it takes this name among types and functions
-abbrev pub takes_name : List ℕ → Call → Bool
+abbrev pub takes_name : List ℕ → Registration → Bool
 takes_name name (AType other _) = bytes_eq name other
 takes_name name (AFunction _ _ operation) = bytes_eq name operation.name
 takes_name _ _ = false
 
 -- whether it is the factory of a type
-abbrev pub is_factory_of : List ℕ → Call → Bool
+abbrev pub is_factory_of : List ℕ → Registration → Bool
 is_factory_of name (AFactory of _) = bytes_eq name of
 is_factory_of _ _ = false
 
 -- whether it is a method or property of a type, and one that takes this name
-abbrev pub is_member_of : List ℕ → Call → Bool
+abbrev pub is_member_of : List ℕ → Registration → Bool
 is_member_of name (AMethod of _ _) = bytes_eq name of
 is_member_of name (AProperty of _ _ _) = bytes_eq name of
 is_member_of _ _ = false
 
-abbrev pub takes_member : List ℕ → List ℕ → Call → Bool
+abbrev pub takes_member : List ℕ → List ℕ → Registration → Bool
 takes_member of name (AMethod other _ operation) = bytes_eq of other && bytes_eq name operation.name
 takes_member of name (AProperty other _ _ named) = bytes_eq of other && bytes_eq name named
 takes_member _ _ _ = false
 
 -- whether it takes this number among a type's methods, its properties, or a service's functions
-abbrev pub takes_method : List ℕ → ℕ → Call → Bool
+abbrev pub takes_method : List ℕ → ℕ → Registration → Bool
 takes_method of id (AMethod other taken _) = bytes_eq of other && nat_eq id taken
 takes_method _ _ _ = false
 
-abbrev pub takes_property : List ℕ → ℕ → Call → Bool
+abbrev pub takes_property : List ℕ → ℕ → Registration → Bool
 takes_property of id (AProperty other taken _ _) = bytes_eq of other && nat_eq id taken
 takes_property _ _ _ = false
 
-abbrev pub takes_function : ℕ → ℕ → Call → Bool
+abbrev pub takes_function : ℕ → ℕ → Registration → Bool
 takes_function service id (AFunction other taken _) = nat_eq service other && nat_eq id taken
 takes_function _ _ _ = false
 
 -- whether it registers a service, or a function
-abbrev pub is_service : Call → Bool
+abbrev pub is_service : Registration → Bool
 is_service (AService _) = true
 is_service _ = false
 
-abbrev pub is_function : Call → Bool
+abbrev pub is_function : Registration → Bool
 is_function (AFunction _ _ _) = true
 is_function _ = false
 
 -- the kind of a service
-unfoldable pub service_kind : Call → Option ℕ
+unfoldable pub service_kind : Registration → Option ℕ
 service_kind (AService kind) = Some kind
 service_kind _ = None

@@ -1,8 +1,8 @@
 -- What is registered.
 use Rattle.std.specs.Prelude.{List, map}
 use Rattle.ash_registrations.specs.declared.registrations.Registrations.{Registrations}
-use Rattle.ash_registrations.specs.Calls.{Call, call_of}
+use Rattle.ash_registrations.specs.Calls.{Registration, call_of}
 
 -- the accepted calls, in order
-abbrev pub registered : Registrations → List Call
+abbrev pub registered : Registrations → List Registration
 registered r = map call_of r.calls.items

@@ -4,7 +4,7 @@ use Rattle.std.specs.List.{flat_map, concat}
 use Rattle.std.specs.Fmt.{decimal}
 use Rattle.ash_tree.specs.declared.tree.types.Primitive.{Primitive}
 use Rattle.ash_tree.specs.declared.tree.types.Primitive.TheVariants.{Bool, Int, Int64, Uint, Uint64}
-use Rattle.ash_registrations.specs.Calls.{Operation, Call, AType, AFactory, AMethod, AProperty, AService, AFunction}
+use Rattle.ash_registrations.specs.Calls.{Operation, Registration, AType, AFactory, AMethod, AProperty, AService, AFunction}
 
 abbrev pub primitive_text : Primitive → List ℕ
 primitive_text Bool = codes "bool"
@@ -17,7 +17,7 @@ abbrev pub result_text : Option Primitive → List ℕ
 result_text None = codes "void"
 result_text (Some primitive) = primitive_text primitive
 
--- the parameters after the first, each behind a comma
+-- the parameters after the first, each after a comma
 unfoldable pub more_parameters : List Primitive → List ℕ
 more_parameters rest = flat_map (λ primitive. codes "," ++ primitive_text primitive) rest
 
@@ -31,7 +31,7 @@ abbrev pub operation_text : Operation → List ℕ
 operation_text o = concat (result_text o.result ∷ codes " " ∷ o.name ∷ codes "(" ∷ parameters_text o.parameters ∷ codes ")" ∷ [])
 
 -- one line, with its line feed
-abbrev pub line_of : Call → List ℕ
+abbrev pub line_of : Registration → List ℕ
 line_of (AType name kind) = concat (codes "type " ∷ name ∷ codes " " ∷ decimal kind ∷ codes "\n" ∷ [])
 line_of (AFactory of parameters) = concat (codes "factory " ∷ of ∷ codes " (" ∷ parameters_text parameters ∷ codes ")\n" ∷ [])
 line_of (AMethod of id operation) = concat (codes "method " ∷ of ∷ codes " " ∷ decimal id ∷ codes " " ∷ operation_text operation ∷ codes "\n" ∷ [])
@@ -40,5 +40,5 @@ line_of (AService kind) = concat (codes "service " ∷ decimal kind ∷ codes "\
 line_of (AFunction service id operation) = concat (codes "function " ∷ decimal service ∷ codes " " ∷ decimal id ∷ codes " " ∷ operation_text operation ∷ codes "\n" ∷ [])
 
 -- the whole text
-abbrev pub text_of : List Call → List ℕ
+abbrev pub text_of : List Registration → List ℕ
 text_of calls = flat_map line_of calls

@@ -8,7 +8,7 @@ ghost use Rattle.ash_registrations.specs.Registered.{registered};
 ghost use Rattle.ash_registrations.specs.declared.adding.AddFault.TheVariants.{NoMemory};
 
 use crate::text::line;
-use crate::{Call, Registrations};
+use crate::{Registration, Registrations};
 use std::alloc::{AllocError, AllocFailed};
 
 /// The most bytes of the text.
@@ -41,7 +41,7 @@ impl<T: Drop> From<AllocFailed<T>> for AddFault {
 
 impl Registrations {
     /// Adds a call that takes a name of a type or function, with that name.
-    pub fn add_named(&mut self, call: Call, key: String) -> Result<(), AddFault>
+    pub fn add_named(&mut self, call: Registration, key: String) -> Result<(), AddFault>
         requires named { (name : List ℕ) → takes_name name (call_of call) ≡ bytes_eq name (string_bytes key) }
         requires free { list_any (takes_name (string_bytes key)) (registered self.old) ≡ false }
         ensures { IsAdded (call_of call) result (registered self.old) (registered self.new) }
@@ -59,7 +59,7 @@ impl Registrations {
     }
 
     /// Adds a call that takes no name of a type or function.
-    pub fn add(&mut self, call: Call) -> Result<(), AddFault>
+    pub fn add(&mut self, call: Registration) -> Result<(), AddFault>
         requires { (name : List ℕ) → takes_name name (call_of call) ≡ false }
         ensures { IsAdded (call_of call) result (registered self.old) (registered self.new) }
     {

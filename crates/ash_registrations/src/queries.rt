@@ -12,7 +12,7 @@ use crate::searches::{
     any_takes_method, any_takes_property, call_at, find_factory, find_kind, find_member,
     kinds_of_services,
 };
-use crate::{Call, Registrations};
+use crate::{Registration, Registrations};
 use indexmap::IndexMap;
 use std::alloc::{AllocError, Global};
 
@@ -38,7 +38,7 @@ impl Registrations {
     }
 
     /// The type or function of a name, as it was registered.
-    pub fn named(&self, name: &str) -> Option<&Call>
+    pub fn named(&self, name: &str) -> Option<&Registration>
         ensures { option_map call_of (option_copied result)
             ≡ find (spec.takes_name name.now) (registered self.now) }
     {
@@ -48,7 +48,7 @@ impl Registrations {
 
     /// The method or property of a type by its name, as it was registered.
     #[tactic(auto, using(crate::proofs::Mapped::find_mapped))]
-    pub fn member(&self, of: &str, name: &str) -> Option<&Call>
+    pub fn member(&self, of: &str, name: &str) -> Option<&Registration>
         ensures { option_map call_of (option_copied result)
             ≡ find (spec.takes_member of.now name.now) (registered self.now) }
     {
@@ -57,7 +57,7 @@ impl Registrations {
 
     /// The factory of a type, as it was registered.
     #[tactic(auto, using(crate::proofs::Mapped::find_mapped))]
-    pub fn factory_of(&self, of: &str) -> Option<&Call>
+    pub fn factory_of(&self, of: &str) -> Option<&Registration>
         ensures { option_map call_of (option_copied result)
             ≡ find (spec.is_factory_of of.now) (registered self.now) }
     {
@@ -66,7 +66,7 @@ impl Registrations {
 
     /// The type or service of a kind, as it was registered.
     #[tactic(auto, using(crate::proofs::Mapped::find_mapped))]
-    pub fn of_kind(&self, kind: u16) -> Option<&Call>
+    pub fn of_kind(&self, kind: u16) -> Option<&Registration>
         ensures { option_map call_of (option_copied result)
             ≡ find (spec.takes_kind kind) (registered self.now) }
     {

@@ -5,7 +5,7 @@ ghost use Rattle.ash_registrations.specs.Calls.{call_of, takes_name};
 ghost use Rattle.ash_registrations.specs.Names.{place_of};
 ghost use Rattle.ash_registrations.specs.Text.{text_of};
 
-use crate::Call;
+use crate::Registration;
 use indexmap::IndexMap;
 use std::alloc::Global;
 
@@ -14,7 +14,7 @@ use std::alloc::Global;
 #[derive(Drop)]
 pub struct Registrations {
     pub(crate) alloc: Global,
-    pub(crate) calls: Vec<Call>,
+    pub(crate) calls: Vec<Registration>,
     pub(crate) names: IndexMap<String, usize>,
     pub(crate) text: String,
     ghost written: { string_bytes text ≡ text_of (map call_of calls.items) },

@@ -4,7 +4,7 @@ ghost use Rattle.ash_registrations.specs.Calls.{call_of, operation_of, AType, AF
 ghost use Rattle.std.specs.List.{concat};
 ghost use Rattle.ash_registrations.specs.Text.{primitive_text, result_text, more_parameters, parameters_text, operation_text, line_of};
 
-use crate::{Call, Operation};
+use crate::{Registration, Operation};
 use ash_tree::Primitive;
 use std::alloc::{AllocError, Global};
 
@@ -29,7 +29,7 @@ fn result_name(of: Option<Primitive>) -> &'static str
     }
 }
 
-// Appends the parameters after the first, each behind a comma.
+// Appends the parameters after the first, each after a comma.
 fn push_more(text: &mut String, rest: &[Primitive]) -> Result<(), AllocError>
     ensures { OnOk result (string_bytes text.new ≡ string_bytes text.old ++ more_parameters rest.now) }
 {
@@ -147,21 +147,21 @@ fn function_line(
 }
 
 /// The line of a call, with its line feed.
-pub(crate) fn line(alloc: Global, call: &Call) -> Result<String, AllocError>
+pub(crate) fn line(alloc: Global, call: &Registration) -> Result<String, AllocError>
     ensures { IfOk result (λ text. string_bytes text ≡ line_of (call_of call.now)) }
 {
     match call {
-        Call::Type { name, kind } => type_line(alloc, name, *kind),
-        Call::Factory { of, parameters } => factory_line(alloc, of, parameters),
-        Call::Method { of, id, operation } => method_line(alloc, of, *id, operation),
-        Call::Property {
+        Registration::Type { name, kind } => type_line(alloc, name, *kind),
+        Registration::Factory { of, parameters } => factory_line(alloc, of, parameters),
+        Registration::Method { of, id, operation } => method_line(alloc, of, *id, operation),
+        Registration::Property {
             of,
             id,
             value,
             name,
         } => property_line(alloc, of, *id, *value, name),
-        Call::Service { kind } => service_line(alloc, *kind),
-        Call::Function {
+        Registration::Service { kind } => service_line(alloc, *kind),
+        Registration::Function {
             service,
             id,
             operation,

@@ -15,7 +15,7 @@ use Rattle.ash_tree.specs.Tree.{Declaration}
 use Rattle.ash_tree.specs.Grammar.{Declares}
 use Rattle.ash_lex.specs.declared.words.ReservedWord.{ReservedWord}
 use Rattle.ash_lex.specs.declared.words.UnsupportedWord.{UnsupportedWord}
-use Rattle.ash_parse.specs.Reading.{Reading, Unexpected}
+use Rattle.ash_parse.specs.Readers.{ParseResult, Unexpected}
 use Rattle.ash_parse.specs.ItemReader.{declaration_at, is_left}
 use Rattle.ash_parse.proofs.ItemShorter.{declaration_sound, left_is_none}
 use Rattle.ash_parse.proofs.Readings.{bind_ok, ok_is, no_err}
@@ -234,7 +234,7 @@ one_declared text None None h k = refl
 -- a declaration that was read to the end is what the tokens declare
 declares_whole : (ts : Tokens) (x : Declaration × Tokens) (d : Declaration) (rest : Tokens) (b : Bool)
     → declaration_at ts ≡ Ok x → is_left x.1 ≡ b
-    → ◌≡◌ {A = Reading Declaration} (cond b (Err (Unexpected x.1)) (Ok x)) (Ok (d, rest)) → Declares ts d
+    → ◌≡◌ {A = ParseResult Declaration} (cond b (Err (Unexpected x.1)) (Ok x)) (Ok (d, rest)) → Declares ts d
 declares_whole ts x d rest true e f h = absurd (no_err (Unexpected x.1) (d, rest) h)
 declares_whole ts x d rest false e f h =
     let same = ok_is x (d, rest) h in
@@ -248,7 +248,7 @@ whole_declares ts d rest h =
     declares_whole ts r.0 d rest (is_left (r.0).1) r.1 refl r.2
 
 -- what tokens declare is what reading them gives
-declared_as : (text : List ℕ) (ts : List Lexeme) (r : Reading Declaration) → IsCutInto text ts
+declared_as : (text : List ℕ) (ts : List Lexeme) (r : ParseResult Declaration) → IsCutInto text ts
     → whole_declaration_at (map placed_lexeme ts) ≡ r → (d : Option Declaration) × IsDeclared text d
 declared_as text ts (Ok x) cut e =
     (Some x.0, record { tokens = ts; cut = cut; declares = whole_declares (map placed_lexeme ts) x.0 x.1 e })

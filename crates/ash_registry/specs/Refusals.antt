@@ -14,7 +14,7 @@ use Rattle.ash_tree.specs.Tree.{Element, PrimElement, HandleElement, Named, Prim
 use Rattle.ash_tree.specs.Tree.{Signature, Property, Declaration, ASignature}
 use Rattle.ash_tree.specs.Tree as tree
 use Rattle.ash_registry.specs.Texts.{NameClass, AName, AReserved, ANoName}
-use Rattle.ash_registrations.specs.Calls.{Operation, Call, AType, AFactory, AMethod, AProperty, AService, AFunction}
+use Rattle.ash_registrations.specs.Calls.{Operation, Registration, AType, AFactory, AMethod, AProperty, AService, AFunction}
 use Rattle.ash_registrations.specs.Calls.{is_type, names_type, takes_kind, takes_name, is_factory_of, is_member_of}
 use Rattle.ash_registrations.specs.Calls.{takes_member, takes_method, takes_property, takes_function, is_service}
 use Rattle.ash_registrations.specs.Calls.{is_function}
@@ -33,16 +33,16 @@ cause true fault later = Some fault
 cause false fault later = later
 
 -- A type of this name is registered.
-abbrev pub is_known : List Call → List ℕ → Bool
+abbrev pub is_known : List Registration → List ℕ → Bool
 is_known calls name = list_any (names_type name) calls
 
 -- The elements of an array are handles of a type that is not registered.
-abbrev pub is_unknown_element : List Call → Element → Bool
+abbrev pub is_unknown_element : List Registration → Element → Bool
 is_unknown_element calls (PrimElement _ _) = false
 is_unknown_element calls (HandleElement _ name) = not (is_known calls name)
 
 -- A declared type is an object type that is not registered, or an array of handles of one.
-abbrev pub is_unknown : List Call → Named → Bool
+abbrev pub is_unknown : List Registration → Named → Bool
 is_unknown calls (Prim _ _) = false
 is_unknown calls (Object _ name) = not (is_known calls name)
 is_unknown calls (Handle _ name) = not (is_known calls name)
@@ -59,12 +59,12 @@ abbrev pub is_object : Named → Bool
 is_object named = is_none (primitive_of named)
 
 -- `cause_in calls types later` is the first cause that is in the declared types, and else what is tested later.
-abbrev pub cause_in : List Call → List Named → Option RegistryFault → Option RegistryFault
+abbrev pub cause_in : List Registration → List Named → Option RegistryFault → Option RegistryFault
 cause_in calls types later =
     cause (list_any (is_unknown calls) types) UnknownType (cause (list_any is_object types) NotPrimitive later)
 
 -- `cause_of_many many calls call` is the cause that there are too many of a kind, or that the text is too long.
-abbrev pub cause_of_many : Bool → List Call → Call → Option RegistryFault
+abbrev pub cause_of_many : Bool → List Registration → Registration → Option RegistryFault
 cause_of_many many calls call = cause (many || is_too_long calls call) TooMany None
 
 -- `types_of s` are the types that a signature names, its result first.
@@ -81,8 +81,8 @@ primitive_operation s = record {
 
 -- A call is accepted where no cause speaks against it, and is then added; else it is refused with its cause, or because
 -- memory ran out, and nothing changes.
-pub record RegisteredIf {A : Type 0} (refusal : Option RegistryFault) (call : List Call)
-    (result : Result A RegistryFault) (old new : List Call) : Type 0 where
+pub record RegisteredIf {A : Type 0} (refusal : Option RegistryFault) (call : List Registration)
+    (result : Result A RegistryFault) (old new : List Registration) : Type 0 where
   pub accepted : OnOk result (refusal ≡ None)
   pub added : OnOk result (new ≡ old ++ call)
   pub refused : IfErr result (λ fault. (refusal ≡ Some fault) ⊎ (fault ≡ NoMemory))
@@ -93,7 +93,7 @@ abbrev pub RefusedWithoutAllocating : {A : Type 0} → Bool → RegistryFault �
 RefusedWithoutAllocating test fault result = test ≡ true → result ≡ Err fault
 
 -- A type has a name and a kind of its own, and there are at most 256.
-abbrev pub refusal_of_type : List Call → List ℕ → NameClass → ℕ → Option RegistryFault
+abbrev pub refusal_of_type : List Registration → List ℕ → NameClass → ℕ → Option RegistryFault
 refusal_of_type calls name ANoName kind = Some BadDeclaration
 refusal_of_type calls name AReserved kind = Some ReservedName
 refusal_of_type calls name AName kind =
@@ -101,62 +101,62 @@ refusal_of_type calls name AName kind =
     (cause_of_many (nat_le 256 (count_by is_type calls)) calls (AType name kind))
 
 -- A service has a kind of its own, and there are at most 16.
-abbrev pub refusal_of_service : List Call → ℕ → Option RegistryFault
+abbrev pub refusal_of_service : List Registration → ℕ → Option RegistryFault
 refusal_of_service calls kind =
     cause (list_any (takes_kind kind) calls) NameTaken
     (cause_of_many (nat_le 16 (count_by is_service calls)) calls (AService kind))
 
 -- A method is a function of primitives; a type's methods and properties have names of their own, its methods have
 -- numbers of their own, and there are at most 32 of both.
-abbrev pub refusal_of_signature : List Call → List ℕ → ℕ → Signature → Option RegistryFault
+abbrev pub refusal_of_signature : List Registration → List ℕ → ℕ → Signature → Option RegistryFault
 refusal_of_signature calls of id s =
     cause_in calls (types_of s)
     (cause (list_any (takes_member of s.name) calls || list_any (takes_method of id) calls) NameTaken
     (cause_of_many (nat_le 32 (count_by (is_member_of of) calls)) calls (AMethod of id (primitive_operation s))))
 
 -- What is declared for a method must be a function.
-abbrev pub refusal_of_declared_method : List Call → List ℕ → ℕ → Option Declaration → Option RegistryFault
+abbrev pub refusal_of_declared_method : List Registration → List ℕ → ℕ → Option Declaration → Option RegistryFault
 refusal_of_declared_method calls of id (Some (ASignature s)) = refusal_of_signature calls of id s
 refusal_of_declared_method calls of id _ = Some BadDeclaration
 
 -- The type of a method must be known.
-abbrev pub refusal_of_method : List Call → List ℕ → ℕ → Option Declaration → Option RegistryFault
+abbrev pub refusal_of_method : List Registration → List ℕ → ℕ → Option Declaration → Option RegistryFault
 refusal_of_method calls of id declared =
     cause (not (is_known calls of)) UnknownType (refusal_of_declared_method calls of id declared)
 
 -- `method_call of id declared` is the call that registers a method.
-abbrev pub method_call : List ℕ → ℕ → Option Declaration → List Call
+abbrev pub method_call : List ℕ → ℕ → Option Declaration → List Registration
 method_call of id (Some (ASignature s)) = AMethod of id (primitive_operation s) ∷ []
 method_call _ _ _ = []
 
 -- A property has a name of its own among the type's members and a number of its own among its properties.
-abbrev pub refusal_of_primitive : List Call → List ℕ → ℕ → Primitive → List ℕ → Option RegistryFault
+abbrev pub refusal_of_primitive : List Registration → List ℕ → ℕ → Primitive → List ℕ → Option RegistryFault
 refusal_of_primitive calls of id value name =
     cause (list_any (takes_member of name) calls || list_any (takes_property of id) calls) NameTaken
     (cause_of_many (nat_le 32 (count_by (is_member_of of) calls)) calls (AProperty of id value name))
 
 -- A property is of a primitive type.
-abbrev pub refusal_of_value : List Call → List ℕ → ℕ → Named → List ℕ → Option RegistryFault
+abbrev pub refusal_of_value : List Registration → List ℕ → ℕ → Named → List ℕ → Option RegistryFault
 refusal_of_value calls of id (Prim _ value) name = refusal_of_primitive calls of id value name
 refusal_of_value calls of id other name = cause (is_unknown calls other) UnknownType (Some NotPrimitive)
 
 -- What is declared for a property must be a property.
-abbrev pub refusal_of_declared_property : List Call → List ℕ → ℕ → Option Declaration → Option RegistryFault
+abbrev pub refusal_of_declared_property : List Registration → List ℕ → ℕ → Option Declaration → Option RegistryFault
 refusal_of_declared_property calls of id (Some (tree.AProperty p)) = refusal_of_value calls of id p.of p.name
 refusal_of_declared_property calls of id _ = Some BadDeclaration
 
 -- The type of a property must be known.
-abbrev pub refusal_of_property : List Call → List ℕ → ℕ → Option Declaration → Option RegistryFault
+abbrev pub refusal_of_property : List Registration → List ℕ → ℕ → Option Declaration → Option RegistryFault
 refusal_of_property calls of id declared =
     cause (not (is_known calls of)) UnknownType (refusal_of_declared_property calls of id declared)
 
 -- `value_call of id named name` is the call that registers a property of this type.
-abbrev pub value_call : List ℕ → ℕ → Named → List ℕ → List Call
+abbrev pub value_call : List ℕ → ℕ → Named → List ℕ → List Registration
 value_call of id (Prim _ value) name = AProperty of id value name ∷ []
 value_call _ _ _ _ = []
 
 -- `property_call of id declared` is the call that registers a property.
-abbrev pub property_call : List ℕ → ℕ → Option Declaration → List Call
+abbrev pub property_call : List ℕ → ℕ → Option Declaration → List Registration
 property_call of id (Some (tree.AProperty p)) = value_call of id p.of p.name
 property_call _ _ _ = []
 
@@ -166,48 +166,48 @@ gives_handle_of of (Some (Handle _ name)) = bytes_eq of name
 gives_handle_of _ _ = false
 
 -- A type has one factory, which takes primitives.
-abbrev pub refusal_of_constructor : List Call → List ℕ → List Named → Option RegistryFault
+abbrev pub refusal_of_constructor : List Registration → List ℕ → List Named → Option RegistryFault
 refusal_of_constructor calls of parameters =
     cause_in calls parameters
     (cause (list_any (is_factory_of of) calls) FactoryTaken
     (cause_of_many false calls (AFactory of (filter_map primitive_of parameters))))
 
 -- What is declared for a factory must be a function that gives a handle of the type.
-abbrev pub refusal_of_declared_factory : List Call → List ℕ → Option Declaration → Option RegistryFault
+abbrev pub refusal_of_declared_factory : List Registration → List ℕ → Option Declaration → Option RegistryFault
 refusal_of_declared_factory calls of (Some (ASignature s)) =
     cause (not (gives_handle_of of s.result)) BadDeclaration (refusal_of_constructor calls of s.parameters)
 refusal_of_declared_factory calls of _ = Some BadDeclaration
 
 -- The type of a factory must be known.
-abbrev pub refusal_of_factory : List Call → List ℕ → Option Declaration → Option RegistryFault
+abbrev pub refusal_of_factory : List Registration → List ℕ → Option Declaration → Option RegistryFault
 refusal_of_factory calls of declared =
     cause (not (is_known calls of)) UnknownType (refusal_of_declared_factory calls of declared)
 
 -- `factory_call of declared` is the call that registers a factory.
-abbrev pub factory_call : List ℕ → Option Declaration → List Call
+abbrev pub factory_call : List ℕ → Option Declaration → List Registration
 factory_call of (Some (ASignature s)) = AFactory of (filter_map primitive_of s.parameters) ∷ []
 factory_call _ _ = []
 
 -- A function of a service has a name of its own among types and functions and a number of its own in its service, and
 -- there are at most 256.
-abbrev pub refusal_of_operation : List Call → ℕ → ℕ → Signature → Option RegistryFault
+abbrev pub refusal_of_operation : List Registration → ℕ → ℕ → Signature → Option RegistryFault
 refusal_of_operation calls service id s =
     cause_in calls (types_of s)
     (cause (list_any (takes_name s.name) calls || list_any (takes_function service id) calls) NameTaken
     (cause_of_many (nat_le 256 (count_by is_function calls)) calls (AFunction service id (primitive_operation s))))
 
 -- What is declared for a function of a service must be a function.
-abbrev pub refusal_of_declared_function : List Call → ℕ → ℕ → Option Declaration → Option RegistryFault
+abbrev pub refusal_of_declared_function : List Registration → ℕ → ℕ → Option Declaration → Option RegistryFault
 refusal_of_declared_function calls service id (Some (ASignature s)) = refusal_of_operation calls service id s
 refusal_of_declared_function calls service id _ = Some BadDeclaration
 
 -- The service of a function must be registered.
-abbrev pub refusal_of_function : List Call → ℕ → ℕ → Option Declaration → Option RegistryFault
+abbrev pub refusal_of_function : List Registration → ℕ → ℕ → Option Declaration → Option RegistryFault
 refusal_of_function calls service id declared =
     cause (nat_le (count_by is_service calls) service) NoService
     (refusal_of_declared_function calls service id declared)
 
 -- `function_call service id declared` is the call that registers a function of a service.
-abbrev pub function_call : ℕ → ℕ → Option Declaration → List Call
+abbrev pub function_call : ℕ → ℕ → Option Declaration → List Registration
 function_call service id (Some (ASignature s)) = AFunction service id (primitive_operation s) ∷ []
 function_call _ _ _ = []

@@ -6,13 +6,13 @@ ghost use Rattle.std.specs.Str.{bytes_eq};
 ghost use Rattle.ash_registry.specs.Registered.{registered};
 ghost use Rattle.ash_registry.specs.Refusals.{RegisteredIf, cause_of_many};
 
-use crate::{Call, Registry, RegistryFault};
+use crate::{Registration, Registry, RegistryFault};
 
 impl Registry {
     // Adds a type or a function against which nothing else speaks, with its name, to so many of at most `max`.
     pub(crate) fn accept_named(
         &mut self,
-        call: Call,
+        call: Registration,
         key: String,
         count: usize,
         max: usize,
@@ -34,7 +34,7 @@ impl Registry {
     // Adds a call against which nothing else speaks, and which takes no name, to so many of at most `max`.
     pub(crate) fn accept(
         &mut self,
-        call: Call,
+        call: Registration,
         count: usize,
         max: usize,
     ) -> Result<(), RegistryFault>
@@ -50,7 +50,7 @@ impl Registry {
     }
 
     // Adds a call against which nothing else speaks, and which takes no name of a type or function.
-    pub(crate) fn add(&mut self, call: Call) -> Result<(), RegistryFault>
+    pub(crate) fn add(&mut self, call: Registration) -> Result<(), RegistryFault>
         requires { (name : List ℕ) → takes_name name (call_of call) ≡ false }
         ensures { RegisteredIf (cause_of_many false (registered self.old) (call_of call))
             (call_of call ∷ []) result (registered self.old) (registered self.new) }

@@ -14,7 +14,7 @@ ghost use Rattle.ash_registry.specs.Texts.{IsDeclared};
 
 use crate::signatures::{names_object, operation};
 use crate::texts::read_declaration;
-use crate::{Call, Registry, RegistryFault};
+use crate::{Registration, Registry, RegistryFault};
 use ash_tree::{Declaration, Signature};
 
 /// The most functions.
@@ -105,7 +105,7 @@ impl Registry {
         let key = signature.name.clone()?;
         let operation = operation(self.alloc, signature)?;
         let count = self.table.functions();
-        let call = Call::Function {
+        let call = Registration::Function {
             service,
             id,
             operation,

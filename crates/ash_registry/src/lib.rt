@@ -16,7 +16,7 @@ mod registry;
 mod signatures;
 mod texts;
 
-pub use ash_registrations::{Call, Operation};
+pub use ash_registrations::{Registration, Operation};
 pub use fault::RegistryFault;
 pub use registry::Registry;
 pub use texts::one_meaning;

@@ -21,7 +21,7 @@ ghost use Rattle.ash_registry.specs.Texts.{NameClass, AName, HasNameClass, IsDec
 
 use crate::signatures::{gives_handle, has_object, names_object, operation, primitives};
 use crate::texts::{NameKind, read_declaration, read_name};
-use crate::{Call, Registry, RegistryFault};
+use crate::{Registration, Registry, RegistryFault};
 use ash_tree::{Declaration, Primitive, Property, Signature, Type, TypeKind};
 
 /// The most types.
@@ -71,7 +71,7 @@ impl Registry {
         let key = name.to_string(self.alloc)?;
         let name = name.to_string(self.alloc)?;
         let count = self.table.types();
-        self.accept_named(Call::Type { name, kind }, key, count, MAX_TYPES)
+        self.accept_named(Registration::Type { name, kind }, key, count, MAX_TYPES)
     }
 
     /// Registers a service of a kind. The answer is its index.
@@ -86,7 +86,7 @@ impl Registry {
             return Err(RegistryFault::NameTaken);
         }
         let index = self.table.services();
-        self.accept(Call::Service { kind }, index, MAX_SERVICES)?;
+        self.accept(Registration::Service { kind }, index, MAX_SERVICES)?;
         Ok(index)
     }
 
@@ -160,7 +160,7 @@ impl Registry {
         let operation = operation(self.alloc, signature)?;
         let of = of.to_string(self.alloc)?;
         let count = self.table.members_of(of.as_str());
-        self.accept(Call::Method { of, id, operation }, count, MAX_MEMBERS)
+        self.accept(Registration::Method { of, id, operation }, count, MAX_MEMBERS)
     }
 
     /// Registers a property of a type, as `int value`, by its number.
@@ -249,7 +249,7 @@ impl Registry {
         }
         let of = of.to_string(self.alloc)?;
         let count = self.table.members_of(of.as_str());
-        let call = Call::Property {
+        let call = Registration::Property {
             of,
             id,
             value,
@@ -322,6 +322,6 @@ impl Registry {
         }
         let parameters = primitives(self.alloc, parameters)?;
         let of = of.to_string(self.alloc)?;
-        self.add(Call::Factory { of, parameters })
+        self.add(Registration::Factory { of, parameters })
     }
 }

@@ -8,7 +8,7 @@ ghost use Rattle.ash_registrations.specs.Registered as table;
 ghost use Rattle.ash_registrations.specs.Text.{text_of};
 ghost use Rattle.ash_registry.specs.Registered.{registered};
 
-use crate::Call;
+use crate::Registration;
 use ash_registrations::Registrations;
 use std::alloc::{AllocError, Global};
 
@@ -46,7 +46,7 @@ impl Registry {
     }
 
     /// The type or function of a name, as it was registered.
-    pub fn named(&self, name: &str) -> Option<&Call>
+    pub fn named(&self, name: &str) -> Option<&Registration>
         ensures { option_map call_of (option_copied result)
             ≡ find (spec.takes_name name.now) (registered self.now) }
     {
@@ -54,7 +54,7 @@ impl Registry {
     }
 
     /// The method or property of a type by its name, as it was registered.
-    pub fn member(&self, of: &str, name: &str) -> Option<&Call>
+    pub fn member(&self, of: &str, name: &str) -> Option<&Registration>
         ensures { option_map call_of (option_copied result)
             ≡ find (spec.takes_member of.now name.now) (registered self.now) }
     {
@@ -62,7 +62,7 @@ impl Registry {
     }
 
     /// The factory of a type, as it was registered.
-    pub fn factory_of(&self, of: &str) -> Option<&Call>
+    pub fn factory_of(&self, of: &str) -> Option<&Registration>
         ensures { option_map call_of (option_copied result)
             ≡ find (spec.is_factory_of of.now) (registered self.now) }
     {
@@ -70,7 +70,7 @@ impl Registry {
     }
 
     /// The type or service of a kind, as it was registered.
-    pub fn of_kind(&self, kind: u16) -> Option<&Call>
+    pub fn of_kind(&self, kind: u16) -> Option<&Registration>
         ensures { option_map call_of (option_copied result)
             ≡ find (spec.takes_kind kind) (registered self.now) }
     {

@@ -1,7 +1,7 @@
 -- Serving by a host that was opened or made.
 use Rattle.std.proofs.Common.{◌≡◌, ℕ, List, Option, Result, Ok, Err, refl, sym, subst}
 use Rattle.ash_disk.specs.Device.{Device}
-use Rattle.ash_registry.specs.Calls.{Call}
+use Rattle.ash_registry.specs.Calls.{Registration}
 use Rattle.ash_durable.specs.Hosting.{Hosted}
 use Rattle.ash_durable.specs.Store.{Creates, Opens}
 use Rattle.ash_durable.specs.declared.fault.OpenRefused.{OpenRefused}
@@ -31,10 +31,10 @@ serves_from device begins host input before after budget (Err (Registry fault)) 
 serves_from device begins host input before after budget (Err Usage) x y b w = absurd w
 serves_from device begins host input before after budget (Err NoMemory) x y b w = absurd w
 
-pub serves_made : {D : Type 0} (device : Device D) (registered : List Call) (a b : D) (host : Hosted D) (input before after : Option (List ℕ)) (budget : ℕ) (r : Result (Unit {0}) Fault) (x y : D) → Creates device registered a b (Ok host) → ServesHost device host input budget before r x y after → ServesFrom device (Creates device registered a b) input budget before r x y after
+pub serves_made : {D : Type 0} (device : Device D) (registered : List Registration) (a b : D) (host : Hosted D) (input before after : Option (List ℕ)) (budget : ℕ) (r : Result (Unit {0}) Fault) (x y : D) → Creates device registered a b (Ok host) → ServesHost device host input budget before r x y after → ServesFrom device (Creates device registered a b) input budget before r x y after
 serves_made device registered a b host input before after budget r x y begun w = serves_from device (Creates device registered a b) host input before after budget r x y begun w
 
-pub serves_opened : {D : Type 0} (device : Device D) (registered : List Call) (a b : D) (host : Hosted D) (input before after : Option (List ℕ)) (budget : ℕ) (r : Result (Unit {0}) Fault) (x y : D) → Opens device registered a b (Ok host) → ServesHost device host input budget before r x y after → ServesFrom device (Opens device registered a b) input budget before r x y after
+pub serves_opened : {D : Type 0} (device : Device D) (registered : List Registration) (a b : D) (host : Hosted D) (input before after : Option (List ℕ)) (budget : ℕ) (r : Result (Unit {0}) Fault) (x y : D) → Opens device registered a b (Ok host) → ServesHost device host input budget before r x y after → ServesFrom device (Opens device registered a b) input budget before r x y after
 serves_opened device registered a b host input before after budget r x y begun w = serves_from device (Opens device registered a b) host input before after budget r x y begun w
 
 -- a refusal, by what is returned of it

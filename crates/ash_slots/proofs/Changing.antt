@@ -6,7 +6,7 @@ use Rattle.std.specs.Map.{values_of}
 use Rattle.std.proofs.lemmas.Bool.{eqb-true, eq-eqb}
 use Rattle.std.proofs.lemmas.List.Sums.{sum_by-cons}
 use Rattle.ash_host.specs.Objects.{object_at, numbers, IsInOrder}
-use Rattle.ash_host.proofs.Order.{none_behind, in_order_behind, same_in_order}
+use Rattle.ash_host.proofs.Order.{none_after, in_order_after, same_in_order}
 use Rattle.ash_slots.specs.Store.{Placed, AreStored, IsIn, change_in, change_at}
 
 module _ {A : Type 0} where
@@ -58,13 +58,13 @@ module _ {A : Type 0} where
     where
       go : (v : Option A) → object_at n l ≡ v → object_at n l ≡ None
       go None is = is
-      go (Some x) is = let not_here = none_behind e l n o (subst (λ (v : Option A). IsSome v) (sym is) refl) in absurd (cc)
+      go (Some x) is = let not_here = none_after e l n o (subst (λ (v : Option A). IsSome v) (sym is) refl) in absurd (cc)
 
   -- a sum over the values, after a change
   pub sum-change : (g : A → ℕ) (n : ℕ) (f : A → A) (l : List (ℕ × A)) → IsInOrder l → sum_by g (values_of (change_at n f l)) + option_map_or g (object_at n l) 0 ≡ sum_by g (values_of l) + option_map_or (λ x. g (f x)) (object_at n l) 0
   sum-change g n f [] o = refl
   sum-change g n f (e ∷ l) o =
-      go (nat_eq n e.0) refl (sum-change g n f l (in_order_behind e l o))
+      go (nat_eq n e.0) refl (sum-change g n f l (in_order_after e l o))
     where
       was : sum_by g (values_of (e ∷ l)) ≡ g e.1 + sum_by g (values_of l)
       was = sum_by-cons g e.1 (values_of l)

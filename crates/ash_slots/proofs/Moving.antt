@@ -15,7 +15,7 @@ use Rattle.std.proofs.lemmas.List.Elements.{Contains-append_left, Contains-appen
 use Rattle.slab.specs.Slab.{Slab, get, slab_len, Updates}
 use Rattle.slab.proofs.SlabLemmas.{ContainsKey-within}
 use Rattle.ash_host.specs.Objects.{object_at, with_at, IsInOrder}
-use Rattle.ash_host.proofs.Order.{none_behind, in_order_behind, in_order-with_at, object_at-with_at}
+use Rattle.ash_host.proofs.Order.{none_after, in_order_after, in_order-with_at, object_at-with_at}
 use Rattle.ash_slots.specs.declared.entry.Entry.{Entry}
 use Rattle.ash_slots.specs.Store.{Placed, placed, with_entry, placed_in, ArePlaced, IsStored, is_unlisted}
 
@@ -46,7 +46,7 @@ none_later {A} n e l o same = go (object_at n l) refl
   where
     go : (v : Option A) → object_at n l ≡ v → object_at n l ≡ None
     go None is = is
-    go (Some x) is = let not_here = none_behind e l n o (subst (λ (v : Option A). IsSome v) (sym is) refl) in absurd (cc)
+    go (Some x) is = let not_here = none_after e l n o (subst (λ (v : Option A). IsSome v) (sym is) refl) in absurd (cc)
 
 -- what stands at each number once one was taken out
 pub object_at-removed : {A : Type 0} (n m : ℕ) (l : List (ℕ × A)) → IsInOrder l → object_at m (remove_entry (nat_eq n) l) ≡ cond (nat_eq n m) None (object_at m l)
@@ -56,7 +56,7 @@ object_at-removed {A} n m [] o = go (nat_eq n m)
     go true = refl
     go false = refl
 object_at-removed {A} n m (e ∷ l) o =
-    go (nat_eq n e.0) refl (object_at-removed n m l (in_order_behind e l o))
+    go (nat_eq n e.0) refl (object_at-removed n m l (in_order_after e l o))
   where
     split : (b : Bool) → nat_eq n m ≡ b → nat_eq n e.0 ≡ true → object_at m l ≡ cond b None (cond (nat_eq m e.0) (Some e.1) (object_at m l))
     split true p is =
@@ -157,7 +157,7 @@ module _ {B : Type 0} where
       pub removed_in : (index : List (ℕ × ℕ)) → IsInOrder index → ArePlaced old index → (placed_in new (remove_entry (nat_eq n) index) ≡ remove_entry (nat_eq n) (placed_in old index)) × ArePlaced new (remove_entry (nat_eq n) index)
       removed_in [] o a = (refl, tt)
       removed_in (e ∷ index) o a =
-          go (nat_eq n e.0) refl (get old e.1) refl a.0 (removed_in index (in_order_behind e index o) a.1)
+          go (nat_eq n e.0) refl (get old e.1) refl a.0 (removed_in index (in_order_after e index o) a.1)
         where
           rest : List (ℕ × Placed B)
           rest = placed_in old index

@@ -49,7 +49,7 @@ binary_is p first ls = search (rules, kinds.the_lemmas, links_of-row)
 pub postfix_is : (p : Place) (operand : Box code_expr.Expr Global) (ss : Vec code_suffix.Suffix Global) → expr_at p (kinds.Postfix operand ss) ≡ Postfix p (expr_of operand.value) (suffixes (map suffix_of ss.items))
 postfix_is p operand ss = search (rules, kinds.the_lemmas, suffixes_of-row)
 
--- an operand with something behind it is a node of its own
+-- an operand with something after it is a node of its own
 pub chained-some : (first : Expr) (more : List Operation) → 0 < length more → chained first more ≡ Binary (place_of first) first (links more)
 chained-some first [] h = absurd (omega arith)
 chained-some first (x ∷ more) h = refl

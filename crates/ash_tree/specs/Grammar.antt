@@ -30,16 +30,16 @@ pub data IsParameter : Tokens → Parameter → Tokens → Type 0 where
 -- { "," type NAME }
 pub data AreMoreParameters : Tokens → List Parameter → Tokens → Type 0 where
   no_more_parameters : {left : Tokens} → AreMoreParameters left [] left
-  more_parameters : {p : Place} {from behind left : Tokens} {x : Parameter} {xs : List Parameter} → IsParameter from x behind → AreMoreParameters behind xs left → AreMoreParameters ((sign signs.Comma, p) ∷ from) (x ∷ xs) left
+  more_parameters : {p : Place} {from after left : Tokens} {x : Parameter} {xs : List Parameter} → IsParameter from x after → AreMoreParameters after xs left → AreMoreParameters ((sign signs.Comma, p) ∷ from) (x ∷ xs) left
 
 -- params = "(" [ type NAME { "," type NAME } ] ")"
 pub data AreParameters : Tokens → List Parameter → Tokens → Type 0 where
   no_parameters : {p q : Place} {left : Tokens} → AreParameters ((sign signs.OpenParenthesis, p) ∷ (sign signs.CloseParenthesis, q) ∷ left) [] left
-  parameters : {p q : Place} {from behind left : Tokens} {x : Parameter} {xs : List Parameter} → IsParameter from x behind → AreMoreParameters behind xs ((sign signs.CloseParenthesis, q) ∷ left) → AreParameters ((sign signs.OpenParenthesis, p) ∷ from) (x ∷ xs) left
+  parameters : {p q : Place} {from after left : Tokens} {x : Parameter} {xs : List Parameter} → IsParameter from x after → AreMoreParameters after xs ((sign signs.CloseParenthesis, q) ∷ left) → AreParameters ((sign signs.OpenParenthesis, p) ∷ from) (x ∷ xs) left
 
 -- function = rtype NAME params block
 pub data IsFunction : ℕ → Tokens → Function → Tokens → Type 0 where
-  function : {free : ℕ} {p : Place} {text : List ℕ} {from behind inside left : Tokens} {r : Option Named} {xs : List Parameter} {body : List Stmt} → IsResultType from r ((name text, p) ∷ behind) → AreParameters behind xs inside → IsBlock free 0 inside body left → IsFunction free from (record { place = p; result = r; name = text; parameters = xs; body = body }) left
+  function : {free : ℕ} {p : Place} {text : List ℕ} {from after inside left : Tokens} {r : Option Named} {xs : List Parameter} {body : List Stmt} → IsResultType from r ((name text, p) ∷ after) → AreParameters after xs inside → IsBlock free 0 inside body left → IsFunction free from (record { place = p; result = r; name = text; parameters = xs; body = body }) left
 
 -- member = function | vars ";" | NAME params block
 pub data IsMember : ℕ → Tokens → Member → Tokens → Type 0 where
@@ -50,30 +50,30 @@ pub data IsMember : ℕ → Tokens → Member → Tokens → Type 0 where
 -- { member }
 pub data AreMembers : ℕ → Tokens → List Member → Tokens → Type 0 where
   no_members : {free : ℕ} {left : Tokens} → AreMembers free left [] left
-  more_members : {free : ℕ} {from behind left : Tokens} {x : Member} {xs : List Member} → IsMember free from x behind → AreMembers free behind xs left → AreMembers free from (x ∷ xs) left
+  more_members : {free : ℕ} {from after left : Tokens} {x : Member} {xs : List Member} → IsMember free from x after → AreMembers free after xs left → AreMembers free from (x ∷ xs) left
 
 -- { "," NAME }
 pub data AreMoreInterfaces : Tokens → List TypeName → Tokens → Type 0 where
   no_more_interfaces : {left : Tokens} → AreMoreInterfaces left [] left
-  more_interfaces : {p q : Place} {text : List ℕ} {behind left : Tokens} {xs : List TypeName} → AreMoreInterfaces behind xs left → AreMoreInterfaces ((sign signs.Comma, p) ∷ (name text, q) ∷ behind) (record { place = q; name = text } ∷ xs) left
+  more_interfaces : {p q : Place} {text : List ℕ} {after left : Tokens} {xs : List TypeName} → AreMoreInterfaces after xs left → AreMoreInterfaces ((sign signs.Comma, p) ∷ (name text, q) ∷ after) (record { place = q; name = text } ∷ xs) left
 
 -- [ ":" NAME { "," NAME } ]
 pub data AreInterfaces : Tokens → List TypeName → Tokens → Type 0 where
   no_interfaces : {left : Tokens} → AreInterfaces left [] left
-  interfaces : {p q : Place} {text : List ℕ} {behind left : Tokens} {xs : List TypeName} → AreMoreInterfaces behind xs left → AreInterfaces ((sign signs.Colon, p) ∷ (name text, q) ∷ behind) (record { place = q; name = text } ∷ xs) left
+  interfaces : {p q : Place} {text : List ℕ} {after left : Tokens} {xs : List TypeName} → AreMoreInterfaces after xs left → AreInterfaces ((sign signs.Colon, p) ∷ (name text, q) ∷ after) (record { place = q; name = text } ∷ xs) left
 
 -- class = "class" NAME [ ":" NAME { "," NAME } ] "{" { member } "}"
 pub data IsClass : ℕ → Tokens → Class → Tokens → Type 0 where
-  class : {free : ℕ} {p q o z : Place} {text : List ℕ} {behind from left : Tokens} {is : List TypeName} {xs : List Member} → AreInterfaces behind is ((sign signs.OpenBrace, o) ∷ from) → AreMembers free from xs ((sign signs.CloseBrace, z) ∷ left) → IsClass free ((reserved words.Class, p) ∷ (name text, q) ∷ behind) (record { place = q; name = text; interfaces = is; members = xs }) left
+  class : {free : ℕ} {p q o z : Place} {text : List ℕ} {after from left : Tokens} {is : List TypeName} {xs : List Member} → AreInterfaces after is ((sign signs.OpenBrace, o) ∷ from) → AreMembers free from xs ((sign signs.CloseBrace, z) ∷ left) → IsClass free ((reserved words.Class, p) ∷ (name text, q) ∷ after) (record { place = q; name = text; interfaces = is; members = xs }) left
 
 -- rtype NAME params ";"
 pub data IsInterfaceMethod : Tokens → InterfaceMethod → Tokens → Type 0 where
-  interface_method : {p q : Place} {text : List ℕ} {from behind left : Tokens} {r : Option Named} {xs : List Parameter} → IsResultType from r ((name text, p) ∷ behind) → AreParameters behind xs ((sign signs.Semicolon, q) ∷ left) → IsInterfaceMethod from (record { place = p; result = r; name = text; parameters = xs }) left
+  interface_method : {p q : Place} {text : List ℕ} {from after left : Tokens} {r : Option Named} {xs : List Parameter} → IsResultType from r ((name text, p) ∷ after) → AreParameters after xs ((sign signs.Semicolon, q) ∷ left) → IsInterfaceMethod from (record { place = p; result = r; name = text; parameters = xs }) left
 
 -- { rtype NAME params ";" }
 pub data AreInterfaceMethods : Tokens → List InterfaceMethod → Tokens → Type 0 where
   no_interface_methods : {left : Tokens} → AreInterfaceMethods left [] left
-  more_interface_methods : {from behind left : Tokens} {x : InterfaceMethod} {xs : List InterfaceMethod} → IsInterfaceMethod from x behind → AreInterfaceMethods behind xs left → AreInterfaceMethods from (x ∷ xs) left
+  more_interface_methods : {from after left : Tokens} {x : InterfaceMethod} {xs : List InterfaceMethod} → IsInterfaceMethod from x after → AreInterfaceMethods after xs left → AreInterfaceMethods from (x ∷ xs) left
 
 -- interface = "interface" NAME "{" { rtype NAME params ";" } "}"
 pub data IsInterface : Tokens → Interface → Tokens → Type 0 where
@@ -90,7 +90,7 @@ pub data IsItem : ℕ → Tokens → Item → Tokens → Type 0 where
 pub data Derives : ℕ → Tokens → List Item → Type 0 where
   no_items : {free : ℕ} → Derives free [] []
   semicolon : {free : ℕ} {p : Place} {from : Tokens} {xs : List Item} → Derives free from xs → Derives free ((sign signs.Semicolon, p) ∷ from) xs
-  item : {free : ℕ} {from behind : Tokens} {x : Item} {xs : List Item} → IsItem free from x behind → Derives free behind xs → Derives free from (x ∷ xs)
+  item : {free : ℕ} {from after : Tokens} {x : Item} {xs : List Item} → IsItem free from x after → Derives free after xs → Derives free from (x ∷ xs)
 
 -- type [NAME]
 pub data IsUnnamed : Tokens → Named → Tokens → Type 0 where
@@ -100,14 +100,14 @@ pub data IsUnnamed : Tokens → Named → Tokens → Type 0 where
 -- { "," type [NAME] }
 pub data AreMoreUnnamed : Tokens → List Named → Tokens → Type 0 where
   no_more_unnamed : {left : Tokens} → AreMoreUnnamed left [] left
-  more_unnamed : {p : Place} {from behind left : Tokens} {x : Named} {xs : List Named} → IsUnnamed from x behind → AreMoreUnnamed behind xs left → AreMoreUnnamed ((sign signs.Comma, p) ∷ from) (x ∷ xs) left
+  more_unnamed : {p : Place} {from after left : Tokens} {x : Named} {xs : List Named} → IsUnnamed from x after → AreMoreUnnamed after xs left → AreMoreUnnamed ((sign signs.Comma, p) ∷ from) (x ∷ xs) left
 
 -- "(" [ type [NAME] { "," type [NAME] } ] ")"
 pub data AreUnnamed : Tokens → List Named → Tokens → Type 0 where
   no_unnamed : {p q : Place} {left : Tokens} → AreUnnamed ((sign signs.OpenParenthesis, p) ∷ (sign signs.CloseParenthesis, q) ∷ left) [] left
-  some_unnamed : {p q : Place} {from behind left : Tokens} {x : Named} {xs : List Named} → IsUnnamed from x behind → AreMoreUnnamed behind xs ((sign signs.CloseParenthesis, q) ∷ left) → AreUnnamed ((sign signs.OpenParenthesis, p) ∷ from) (x ∷ xs) left
+  some_unnamed : {p q : Place} {from after left : Tokens} {x : Named} {xs : List Named} → IsUnnamed from x after → AreMoreUnnamed after xs ((sign signs.CloseParenthesis, q) ∷ left) → AreUnnamed ((sign signs.OpenParenthesis, p) ∷ from) (x ∷ xs) left
 
 -- declaration = rtype NAME "(" [ type [NAME] { "," type [NAME] } ] ")" | type NAME: all of the tokens
 pub data Declares : Tokens → Declaration → Type 0 where
-  signature : {p : Place} {text : List ℕ} {from behind : Tokens} {r : Option Named} {xs : List Named} → IsResultType from r ((name text, p) ∷ behind) → AreUnnamed behind xs [] → Declares from (ASignature (record { place = p; result = r; name = text; parameters = xs }))
+  signature : {p : Place} {text : List ℕ} {from after : Tokens} {r : Option Named} {xs : List Named} → IsResultType from r ((name text, p) ∷ after) → AreUnnamed after xs [] → Declares from (ASignature (record { place = p; result = r; name = text; parameters = xs }))
   property : {p : Place} {text : List ℕ} {from : Tokens} {t : Named} → IsType from t ((name text, p) ∷ []) → Declares from (AProperty (record { place = p; of = t; name = text }))

@@ -78,7 +78,7 @@ parameter_name p = p.name
 
 -- what has a body
 
--- a function, a method or a constructor, as it is written behind its result
+-- a function, a method or a constructor, as it is written after its result
 pub record Routine : Type 0 where
   pub place : Place
   pub name : List ℕ

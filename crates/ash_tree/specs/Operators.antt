@@ -93,7 +93,7 @@ level binary.Or = 10
 abbrev pub LEVELS : ℕ
 LEVELS = 10
 
--- the operator that a token is behind what it writes to
+-- the operator that a token is after what it writes to
 unfoldable pub assign_operator : Meaning → Option AssignOp
 assign_operator (sign signs.Assign) = Some assigns.Assign
 assign_operator (sign signs.PlusAssign) = Some assigns.Add

@@ -48,7 +48,7 @@ mutual
     no_expr : Exprs
     expr : Expr → Exprs → Exprs
 
-  -- what stands behind an operand
+  -- what stands after an operand
   pub data Suffix : Type 0 where
     Field : Place → List ℕ → Suffix
     Method : Place → List ℕ → Exprs → Suffix
@@ -102,7 +102,7 @@ mutual
     no_stmt : Stmts
     stmt : Stmt → Stmts → Stmts
 
-  -- a label of a switch, with the statements behind it
+  -- a label of a switch, with the statements after it
   pub data Case : Type 0 where
     labelled : Place → Label → Stmts → Case
 
@@ -229,12 +229,12 @@ abbrev pub cases : List Case → Cases
 cases [] = no_case
 cases (c ∷ cs) = next_case c (cases cs)
 
--- an operand alone is itself, and with operators behind it one node with all of them
+-- an operand alone is itself, and with operators after it one node with all of them
 abbrev pub chained : Expr → List Operation → Expr
 chained first [] = first
 chained first (l ∷ ls) = Binary (place_of first) first (links (l ∷ ls))
 
--- an operand alone is itself, and with suffixes behind it one node with all of them
+-- an operand alone is itself, and with suffixes after it one node with all of them
 abbrev pub suffixed : Expr → List Suffix → Expr
 suffixed operand [] = operand
 suffixed operand (s ∷ ss) = Postfix (place_of operand) operand (suffixes (s ∷ ss))

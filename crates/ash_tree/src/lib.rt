@@ -5,7 +5,7 @@
 //! these trees. It stands on `ash_lex`, whose tokens the grammar is about.
 //!
 //! In reading order: `tree`, what a script is made of: `places`, `types`, `operators`, `expressions`,
-//! `statements`, `items`. A node tells the offset that a fault in it names and the line that a tick before it
+//! `statements`, `items`. A node reports the offset that a fault in it names and the line that a tick before it
 //! sets. Operators of one level and the suffixes of an operand stand as lists, so that a tree is as deep as its
 //! brackets and statements nest, and no deeper where a sum is long.
 #![tactic(auto)]

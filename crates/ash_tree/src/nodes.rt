@@ -46,7 +46,7 @@ pub fn new_array(
     })
 }
 
-/// The operand alone, or with the operators behind it.
+/// The operand alone, or with the operators after it.
 pub fn binary(alloc: Global, first: Expr, links: Vec<Link>) -> Result<Expr, AllocError>
     ensures { IfOk result (λ e. expr_of e ≡ chained (expr_of first) (map operation_of links.items)) }
 {
@@ -62,7 +62,7 @@ pub fn binary(alloc: Global, first: Expr, links: Vec<Link>) -> Result<Expr, Allo
     })
 }
 
-/// The operand alone, or with the suffixes behind it.
+/// The operand alone, or with the suffixes after it.
 pub fn postfix(alloc: Global, operand: Expr, suffixes: Vec<Suffix>) -> Result<Expr, AllocError>
     ensures { IfOk result (λ e. expr_of e ≡ suffixed (expr_of operand) (map suffix_of suffixes.items)) }
 {

@@ -137,10 +137,10 @@ Differs l other = constant_of l ≢ constant_of other
 -- The constant of a label after these is of the type, and no label before it has the constant; `default` is the last
 -- one.
 pub data IsLabel (kind : Kind) : List Label → Label → Cases → Type 0 where
-  constant : {before : List Label} {l : Label} {behind : Cases}
+  constant : {before : List Label} {l : Label} {after : Cases}
       → IsConstant kind l
       → AllByRecursion (Differs l) before
-      → IsLabel kind before l behind
+      → IsLabel kind before l after
   otherwise : {before : List Label} → IsLabel kind before labels.Default no_case
 
 -- statements

@@ -2,17 +2,17 @@
 use Rattle.std.proofs.Common.{◌≡◌, ℕ, Bool, true, false, List, Option, Some, None, Ok, Err, refl, sym, subst}
 use Rattle.std.specs.Prelude.{◌||◌, if◌then◌else◌}
 use Rattle.ash_lex.specs.Tokens.{Meaning, name}
-use Rattle.ash_registrations.specs.Calls.{Call}
+use Rattle.ash_registrations.specs.Calls.{Registration}
 use Rattle.ash_tree.specs.Tokens.{Tokens}
 use Rattle.ash_tree.specs.Tree.{Named, Item}
 use Rattle.ash_typed.specs.declared.types.ObjectType.{ObjectType}
 use Rattle.ash_typing.specs.declared.fault.Rule.{Rule}
 use Rattle.ash_typing.specs.declared.fault.Rule.TheVariants as rules
 use Rattle.ash_typing.specs.declared.fault.Fault.{Fault}
-use Rattle.ash_typing.specs.Checking.{Checking, ◌>>=◌, broken}
+use Rattle.ash_typing.specs.TypingResult.{TypingResult, ◌>>=◌, broken}
 use Rattle.ash_typing.specs.Environment.{Environment}
 use Rattle.ash_typing.specs.Expressions.{Typed}
-use Rattle.ash_typing.specs.Heads.{heads, object_named, ty_named, ty_in}
+use Rattle.ash_typing.specs.ModuleDeclarations.{declarations, object_named, ty_named, ty_in}
 use Rattle.ash_typing.specs.Declarations.{at_type, at_type_name}
 use Rattle.ash_typing.specs.declared.types.Ty.TheVariants.{Object}
 use Rattle.ash_typing.specs.FaultPlaces.{is_return, begins_expression, breaks_at}
@@ -25,7 +25,7 @@ use Rattle.ash_typing.proofs.FaultTokens.{HasToken, HasStart}
 -- a script of a module, where these calls are registered
 pub record Script : Type 0 where
   pub tokens : Tokens
-  pub calls : List Call
+  pub calls : List Registration
   pub items : List Item
 
 abbrev pub OccursIn : Script → Phrase → Type 0
@@ -43,16 +43,16 @@ abbrev pub IsIn : Script → Fault → Type 0
 IsIn script f = (m : Meaning) × HasToken script.tokens m f.at × (breaks_at f.rule m ≡ true) × Wrong script f.rule f.at m
 
 -- an answer of this kind, or a fault that is at a token
-pub data Answers (script : Script) {A : Type 0} (Q : A → Type 0) : Checking A → Type 0 where
+pub data Answers (script : Script) {A : Type 0} (Q : A → Type 0) : TypingResult A → Type 0 where
   fine : {x : A} → Q x → Answers script Q (Ok x)
   faulty : {f : Fault} → IsIn script f → Answers script Q (Err f)
 
 -- whatever is answered
-abbrev pub Fine : Script → {A : Type 0} → Checking A → Type 0
+abbrev pub Fine : Script → {A : Type 0} → TypingResult A → Type 0
 Fine script {A} r = Answers script (λ (x : A). Unit {0}) r
 
 -- a typed expression at a token
-abbrev pub At : Script → Checking Typed → Type 0
+abbrev pub At : Script → TypingResult Typed → Type 0
 At script r = Answers script (λ (t : Typed). HasStart script.tokens t.at) r
 
 -- a fault of a type, or of what is written to, at the first token of an expression
@@ -78,24 +78,24 @@ pub name_taken : {script : Script} {A : Type 0} {Q : A → Type 0} {x : Phrase} 
     → Answers script Q (broken rules.NameTaken n.at)
 name_taken n r e h b = faulty (name n.text, h, refl, meaning.taken r e b)
 
-pub bind : {script : Script} {A B : Type 0} {Q : A → Type 0} {S : B → Type 0} {r : Checking A} {f : A → Checking B}
+pub bind : {script : Script} {A B : Type 0} {Q : A → Type 0} {S : B → Type 0} {r : TypingResult A} {f : A → TypingResult B}
     → Answers script Q r → ((x : A) → Q x → Answers script S (f x)) → Answers script S (r >>= f)
 bind (fine {x = x} q) go = go x q
 bind (faulty h) go = faulty h
 
 -- where what is bound is asked for
-pub bind_by : {script : Script} {A B : Type 0} {Q : A → Type 0} {S : B → Type 0} {r : Checking A} {f : A → Checking B}
+pub bind_by : {script : Script} {A B : Type 0} {Q : A → Type 0} {S : B → Type 0} {r : TypingResult A} {f : A → TypingResult B}
     → Answers script Q r → ((x : A) → r ≡ Ok x → Q x → Answers script S (f x)) → Answers script S (r >>= f)
 bind_by (fine {x = x} q) go = go x refl q
 bind_by (faulty h) go = faulty h
 
 -- where one thing alone is bound
-pub bind_to : {script : Script} {A B : Type 0} {S : B → Type 0} {y : A} {r : Checking A} (f : A → Checking B)
+pub bind_to : {script : Script} {A B : Type 0} {S : B → Type 0} {y : A} {r : TypingResult A} (f : A → TypingResult B)
     → Answers script (λ (x : A). x ≡ y) r → Answers script S (f y) → Answers script S (r >>= f)
 bind_to {script} {S = S} f (fine {x = x} q) go = subst (λ z. Answers script S (f z)) (sym q) go
 bind_to f (faulty h) go = faulty h
 
-pub either : {script : Script} {A : Type 0} {Q : A → Type 0} (b : Bool) {x y : Checking A}
+pub either : {script : Script} {A : Type 0} {Q : A → Type 0} (b : Bool) {x y : TypingResult A}
     → (b ≡ true → Answers script Q x) → (b ≡ false → Answers script Q y) → Answers script Q (if b then x else y)
 either true p q = p refl
 either false p q = q refl
@@ -105,14 +105,14 @@ pub choose_start : (script : Tokens) (b : Bool) (x y : ℕ) → HasStart script 
 choose_start script true x y p q = p
 choose_start script false x y p q = q
 
-same_fault : {A : Type 0} (f g : Fault) → ◌≡◌ {A = Checking A} (Err f) (Err g) → f ≡ g
+same_fault : {A : Type 0} (f g : Fault) → ◌≡◌ {A = TypingResult A} (Err f) (Err g) → f ≡ g
 same_fault f g h = cc
 
-no_answer : {A : Type 0} (x : A) (f : Fault) → ◌≡◌ {A = Checking A} (Ok x) (Err f) → ⊥
+no_answer : {A : Type 0} (x : A) (f : Fault) → ◌≡◌ {A = TypingResult A} (Ok x) (Err f) → ⊥
 no_answer x f h = cc
 
 -- a fault that is answered is at a token
-pub is_in : {script : Script} {A : Type 0} {Q : A → Type 0} {r : Checking A} → Answers script Q r → (f : Fault)
+pub is_in : {script : Script} {A : Type 0} {Q : A → Type 0} {r : TypingResult A} → Answers script Q r → (f : Fault)
     → r ≡ Err f → IsIn script f
 is_in (fine {x = x} q) f h = absurd (no_answer x f h)
 is_in {script} (faulty {f = g} k) f h = subst (IsIn script) (same_fault g f h) k
@@ -121,22 +121,22 @@ is_in {script} (faulty {f = g} k) f h = subst (IsIn script) (same_fault g f h) k
 
 -- what a phrase of the module sees of it
 abbrev pub IsOf : Script → Environment → Type 0
-IsOf script env = (env.heads ≡ heads script.calls script.items) × (env.registered ≡ script.calls)
+IsOf script env = (env.declarations ≡ declarations script.calls script.items) × (env.registered ≡ script.calls)
 
 abbrev pub type_named : Environment → List ℕ → Option ObjectType
-type_named env text = object_named env.registered env.heads text
+type_named env text = object_named env.registered env.declarations text
 
 pub same_named : (script : Script) (env : Environment) (text : List ℕ) → IsOf script env
-    → type_named env text ≡ object_named script.calls (heads script.calls script.items) text
+    → type_named env text ≡ object_named script.calls (declarations script.calls script.items) text
 same_named script env text see = rw (see.0, see.1) refl
 
 -- no type has the name, as the phrase sees it
 pub unnamed : (script : Script) (env : Environment) (text : List ℕ) → IsOf script env → type_named env text ≡ None
-    → object_named script.calls (heads script.calls script.items) text ≡ None
+    → object_named script.calls (declarations script.calls script.items) text ≡ None
 unnamed script env text see h = subst (λ o. o ≡ None) (same_named script env text see) h
 
 same_types : (script : Script) (env : Environment) (of : Named) → IsOf script env
-    → ty_in env of ≡ ty_named script.calls (heads script.calls script.items) of
+    → ty_in env of ≡ ty_named script.calls (declarations script.calls script.items) of
 same_types script env of see = rw (see.0, see.1) refl
 
 -- what is wrong with a type that a phrase writes

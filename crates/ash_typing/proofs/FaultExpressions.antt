@@ -19,7 +19,7 @@ use Rattle.ash_typing.specs.declared.types.Ty.TheVariants as ty
 use Rattle.ash_typed.specs.declared.tree.operations.Member.{Member}
 use Rattle.ash_typed.specs.declared.tree.operations.Step.TheVariants as steps
 use Rattle.ash_typing.specs.Types.{object_of, ty_of_element}
-use Rattle.ash_typing.specs.Heads.{host_object, object_named, element_named, element_by}
+use Rattle.ash_typing.specs.ModuleDeclarations.{host_object, object_named, element_named, element_by}
 use Rattle.ash_typing.specs.Environment as head
 use Rattle.ash_typing.specs.Environment.{Environment, first_from, is_class, is_interface_named, Class, Invoked}
 use Rattle.ash_typing.specs.Environment.{variable_in, member_in, method_in, array_built}
@@ -97,11 +97,11 @@ invoked_in : (script : Script) (env : Environment) (t : Typed) (p : place.Place)
     (ss : written.Suffixes) (ts : List Typed) (m : Option Invoked) → HasToken script.tokens (name text) p.at
     → HasStart script.tokens t.at → AtMethod script env t p text es ss → AllAt script.tokens ts
     → length ts ≡ argument_count es → all_typed env es ≡ Ok ts → IsInvoked env t text m
-    → At script (invoked env.heads.classes t p.at ts m)
+    → At script (invoked env.declarations.classes t p.at ts m)
 unfolding invoked
 invoked_in script env t p text es ss ts None h k r all c a q = fine k
 invoked_in script env t p text es ss ts (Some m) h k r all c a q =
-    bind (arguments_in script env.heads.classes p.at (name text) m.parameters ts h refl all
+    bind (arguments_in script env.declarations.classes p.at (name text) m.parameters ts h refl all
     (λ b. meaning.method_count r q.1 q.2 (subst (λ n. nat_eq (length m.parameters) n ≡ false) c b))
     (λ at b. mismatches.of_method r q.1 q.2 a b))
     (λ trees u. fine k)
@@ -118,7 +118,7 @@ invocation_in script env t p text es ss h k r all =
 
 -- no type of objects that has a name is one of arrays
 
-no_element : (a : Option (ℕ × head.Class)) (b : Option (ℕ × head.Interface)) (c : Option host.Call)
+no_element : (a : Option (ℕ × head.Class)) (b : Option (ℕ × head.Interface)) (c : Option host.Registration)
     → option_and_then element_by
     (option_or (option_map (λ (found : ℕ × head.Class). objects.Class found.0) a)
     (option_or (option_map (λ (found : ℕ × head.Interface). objects.Interface found.0) b)
@@ -140,8 +140,8 @@ pub element_unnamed : (env : Environment) (text : List ℕ) → option_and_then 
     → type_named env text ≡ None
 unfolding object_named
 element_unnamed env text h =
-    no_element (first_from (is_class text) 0 env.heads.classes)
-    (first_from (is_interface_named text) 0 env.heads.interfaces) (find (host.takes_name text) env.registered) h
+    no_element (first_from (is_class text) 0 env.declarations.classes)
+    (first_from (is_interface_named text) 0 env.declarations.interfaces) (find (host.takes_name text) env.registered) h
 
 element_by_in : (script : Script) (env : Environment) (at : ℕ) (text : List ℕ) (found : Option Element)
     → HasToken script.tokens (name text) at → option_and_then element_by (type_named env text) ≡ found
@@ -152,7 +152,7 @@ element_by_in script env at text (Some x) h e w = fine tt
 
 known_element_in : (script : Script) (env : Environment) (p : place.Place) (of : written.Element) (es : written.Exprs)
     → ElementIn script.tokens of → OccursIn script (phrases.Expression env (written.NewArray p of es))
-    → Fine script (known_element (at_element of) (element_named env.registered env.heads of))
+    → Fine script (known_element (at_element of) (element_named env.registered env.declarations of))
 unfolding element_named
 known_element_in script env p (written.PrimElement at k) es h r = fine tt
 known_element_in script env p (written.HandleElement at text) es h r =
@@ -165,7 +165,7 @@ array_in : (script : Script) (env : Environment) (p : place.Place) (of : written
     → ListAt script (argument_count es) (all_typed env es) → At script (array_typed env p.at of (all_typed env es))
 array_in script env p of es h e r k =
     bind (known_element_in script env p of es e r) (λ x u. bind_by k (λ ts a all.
-    called_with_in script env.heads.classes p.at (reserved words.Array) (array_built x (length ts)) ts
+    called_with_in script env.declarations.classes p.at (reserved words.Array) (array_built x (length ts)) ts
     (array_parameters (length ts)) h refl refl all.0
     (λ b. meaning.array_count r (subst (λ n. nat_eq (length (array_parameters n)) n ≡ false) all.1 b))
     (λ at b. mismatches.of_array r a b)))
@@ -220,7 +220,7 @@ one_more a b h = omega (arith, h)
 unassigned : (script : Script) (env : Environment) (p : place.Place) (e : written.Expr) (op : AssignOp)
     (v : written.Expr) (t u : Typed) → OccursIn script (phrases.Expression env (written.Assign p e op v))
     → typed env (is_assign op) e ≡ Ok t → typed env false v ≡ Ok u
-    → Unassigned script env.heads.classes t u (operator_of op)
+    → Unassigned script env.declarations.classes t u (operator_of op)
 unassigned script env p e op v t u r q w = record {
   unfit = λ o b. mismatches.assigned r q w o b;
   unmet = λ by o at b. mismatches.updated r q w o b;
@@ -267,7 +267,7 @@ mutual
   typed_in script env left (written.Assign p e op v) h r =
       bind_by (typed_in script env (is_assign op) e h.1 (phrases.target r)) (λ t q k.
       bind_by (typed_in script env false v h.2 (phrases.value r)) (λ u w l.
-      assigned_in script env.heads.classes t op u k l
+      assigned_in script env.declarations.classes t op u k l
       (λ b m. meaning.takes_none r q b) (unassigned script env p e op v t u r q w)))
 
   pub all_in : (script : Script) (env : Environment) (es : written.Exprs) → ExprsIn script.tokens es

@@ -12,7 +12,7 @@ use Rattle.ash_typing.specs.declared.fault.Rule.TheVariants as rules
 use Rattle.ash_typing.specs.declared.types.Ty.TheVariants as ty
 use Rattle.ash_typed.specs.Modules.{Module}
 use Rattle.ash_typing.specs.Environment.{Environment, inside, seen}
-use Rattle.ash_typing.specs.Heads.{heads}
+use Rattle.ash_typing.specs.ModuleDeclarations.{declarations}
 use Rattle.ash_tree.specs.Items.{constructing, Routine, routine_of, classes_of, interfaces_of}
 use Rattle.ash_typing.specs.Declarations.{at_type}
 use Rattle.ash_typing.specs.Items.{listed_at, implemented_at, Listed, listed_typed, all_listed, none_listed, Members}
@@ -26,7 +26,7 @@ use Rattle.ash_typing.specs.Mismatches as mismatches
 use Rattle.ash_typing.specs.FaultMeaning as meaning
 use Rattle.ash_typing.specs.FaultMeaning.{has_constructor, counted_by, is_declared, stored_use}
 use Rattle.std.proofs.lemmas.List.{length-append}
-use Rattle.ash_registrations.specs.Calls.{Call}
+use Rattle.ash_registrations.specs.Calls.{Registration}
 use Rattle.ash_typing.proofs.FaultNames.{with_name, with_one, with_decls, names_after_item, names_after_globals}
 use Rattle.ash_typing.proofs.FaultNames.{classes_counted, interfaces_counted, names_after_method, names_after_fields}
 use Rattle.ash_typing.proofs.FaultNames.{names_after_constructor, names_after_listed}
@@ -198,7 +198,7 @@ class_in script env before c is h r =
 -- modules
 
 -- a module so far, after these items
-pub record HasItems (calls : List Call) (before : List written.Item) (w : Walked) : Type 0 where
+pub record HasItems (calls : List Registration) (before : List written.Item) (w : Walked) : Type 0 where
   pub names : w.names ≡ names_before calls before
   pub classes : length w.typed.classes ≡ length (classes_of before)
   pub interfaces : length w.typed.interfaces ≡ length (interfaces_of before)
@@ -300,9 +300,9 @@ items_in script env before w (i ∷ is) h k r =
     items_in script env (before ++ i ∷ []) next is h.1 l (phrases.other_items r))
 
 module_by_in : (script : Script) → AllByRecursion (ItemIn script.tokens) script.items
-    → Fine script (module_by script.calls (heads script.calls script.items) script.items)
+    → Fine script (module_by script.calls (declarations script.calls script.items) script.items)
 module_by_in script h =
-    bind (items_in script (seen script.calls (heads script.calls script.items)) [] (nothing script.calls) script.items h
+    bind (items_in script (seen script.calls (declarations script.calls script.items)) [] (nothing script.calls) script.items h
     (record { names = refl; classes = refl; interfaces = refl }) phrases.items)
     (λ w u. fine tt)
 

@@ -2,7 +2,7 @@
 use Rattle.std.proofs.Common.{◌≡◌, ℕ, suc, List, [], ◌∷◌, true, Err, refl, sym, subst, arith}
 use Rattle.std.specs.List.{Any}
 use Rattle.ash_lex.specs.Tokens.{Meaning}
-use Rattle.ash_registrations.specs.Calls.{Call}
+use Rattle.ash_registrations.specs.Calls.{Registration}
 use Rattle.ash_tree.specs.declared.tree.places.Place.{Place}
 use Rattle.ash_tree.specs.Grammar.{Derives}
 use Rattle.ash_tree.specs.Tokens.{Tokens}
@@ -48,7 +48,7 @@ all_in (t ∷ ts) = (
 
 -- the fault
 
-pub fault_broken : (calls : List Call) (free : ℕ) (tokens : Tokens) (is : List Item) (fault : Fault)
+pub fault_broken : (calls : List Registration) (free : ℕ) (tokens : Tokens) (is : List Item) (fault : Fault)
     → Derives free tokens is → module_typed calls is ≡ Err fault → IsBrokenAt calls is tokens fault
 fault_broken calls free tokens is fault d h =
     let script : Script = record { tokens = tokens; calls = calls; items = is } in
@@ -62,7 +62,7 @@ fault_broken calls free tokens is fault d h =
       subst (λ m. IsWrong calls is fault.rule fault.at m) (sym k.0) found.3,
     )) (found.1).token
 
-pub fault_at : (calls : List Call) (free : ℕ) (tokens : Tokens) (is : List Item) (fault : Fault)
+pub fault_at : (calls : List Registration) (free : ℕ) (tokens : Tokens) (is : List Item) (fault : Fault)
     → Derives free tokens is → module_typed calls is ≡ Err fault → IsFaultOf tokens fault
 fault_at calls free tokens is fault d h =
     any_map (λ (t : Meaning × Place). (t.1.at ≡ fault.at) × (breaks_at fault.rule t.0 ≡ true)
@@ -70,7 +70,7 @@ fault_at calls free tokens is fault d h =
     (λ (t : Meaning × Place). (t.1.at ≡ fault.at) × (breaks_at fault.rule t.0 ≡ true)) tokens
     (λ t k. (k.0, k.1)) (fault_broken calls free tokens is fault d h)
 
-pub fault_token : (calls : List Call) (free : ℕ) (tokens : Tokens) (is : List Item) (fault : Fault)
+pub fault_token : (calls : List Registration) (free : ℕ) (tokens : Tokens) (is : List Item) (fault : Fault)
     → Derives free tokens is → module_typed calls is ≡ Err fault → IsTokenOf tokens fault.at
 fault_token calls free tokens is fault d h =
     any_map (λ (t : Meaning × Place). (t.1.at ≡ fault.at) × (breaks_at fault.rule t.0 ≡ true))

@@ -16,21 +16,21 @@ use Rattle.ash_tree.specs.declared.tree.operators.AssignOp.{AssignOp}
 use Rattle.ash_typing.specs.declared.fault.Rule.TheVariants as rules
 use Rattle.ash_typing.specs.declared.types.Ty.{Ty}
 use Rattle.ash_typing.specs.declared.types.Ty.TheVariants as ty
-use Rattle.ash_typing.specs.declared.forms.Sort.{Sort}
+use Rattle.ash_typing.specs.declared.forms.OperatorClass.{OperatorClass}
 use Rattle.ash_typing.specs.declared.forms.Form.{Form}
 use Rattle.ash_typed.specs.declared.tree.operations.Calculator.{Calculator}
 use Rattle.ash_typed.specs.declared.tree.operations.Operands.{Operands}
 use Rattle.ash_typed.specs.declared.tree.operations.Step.{Step}
 use Rattle.ash_typed.specs.declared.tree.operations.Step.TheVariants as steps
 use Rattle.ash_typed.specs.Tree.{Null, Place}
-use Rattle.ash_typing.specs.Checking.{Checking, broken}
+use Rattle.ash_typing.specs.TypingResult.{TypingResult, broken}
 use Rattle.ash_typing.specs.Types.{common, takes, assumed, meets, sort_of, binary_of, ty_of}
-use Rattle.ash_typing.specs.Fitting.{fits}
+use Rattle.ash_typing.specs.Coercions.{fits}
 use Rattle.ash_typing.specs.Environment.{Environment, Class, Known, Callee, variable_in, callee_in}
 use Rattle.ash_typing.specs.Terms.{assignable, operator_of, is_stored}
-use Rattle.ash_typing.specs.Expressions.{Typed, Met, made, fitted, integer_of, bool_of, handle_of, adapted, met_as, met}
+use Rattle.ash_typing.specs.Expressions.{Typed, UnifiedOperands, made, coerced_for_assignment, integer_of, bool_of, handle_of, adapted, unified_as, met}
 use Rattle.ash_typing.specs.Expressions.{operate, counted, handle_at, unary_at, converting, convert_at, is_void, chosen}
-use Rattle.ash_typing.specs.Expressions.{choice, updated, stored, assigned_to, assigned, all_fitted, arguments_at}
+use Rattle.ash_typing.specs.Expressions.{choice, updated, stored, assigned_to, assigned, all_coerced, arguments_at}
 use Rattle.ash_typing.specs.Expressions.{called, callee_at, known_at, this_at, call_typed, all_typed}
 use Rattle.ash_typing.specs.FaultPlaces.{begins_call, begins_expression}
 use Rattle.ash_typing.proofs.FaultTokens.{HasToken, HasStart}
@@ -47,15 +47,15 @@ abbrev pub AllAt : Tokens → List Typed → Type 0
 AllAt script ts = AllByRecursion (λ (t : Typed). HasStart script t.at) ts
 
 -- of so many arguments
-abbrev pub ListAt : Script → ℕ → Checking (List Typed) → Type 0
+abbrev pub ListAt : Script → ℕ → TypingResult (List Typed) → Type 0
 ListAt script count r = Answers script (λ (ts : List Typed). AllAt script.tokens ts × (length ts ≡ count)) r
 
 -- what an operand has to be
 
-pub fitted_in : (script : Script) (classes : List Class) (of : Ty) (t : Typed) → HasStart script.tokens t.at
-    → (fits classes of t.ty ≡ false → Mismatch script t.at) → Fine script (fitted classes of t)
-unfolding fitted
-fitted_in script classes of t h w = either (fits classes of t.ty) (λ b. fine tt) (λ b. mismatch h (w b))
+pub coerced_for_assignment_in : (script : Script) (classes : List Class) (of : Ty) (t : Typed) → HasStart script.tokens t.at
+    → (fits classes of t.ty ≡ false → Mismatch script t.at) → Fine script (coerced_for_assignment classes of t)
+unfolding coerced_for_assignment
+coerced_for_assignment_in script classes of t h w = either (fits classes of t.ty) (λ b. fine tt) (λ b. mismatch h (w b))
 
 pub integer_in : (script : Script) (at : ℕ) (of : Ty) → HasStart script.tokens at
     → (may_be_integer of ≡ false → Mismatch script at) → Fine script (integer_of at of)
@@ -78,14 +78,14 @@ handle_in script at _ h w = mismatch h (w refl)
 
 -- operators between two operands
 
-adapted_in : (script : Tokens) (s : Sort) (a : Form) (of : Ty) (t : Typed) → HasStart script t.at
+adapted_in : (script : Tokens) (s : OperatorClass) (a : Form) (of : Ty) (t : Typed) → HasStart script t.at
     → HasStart script (adapted s a of t).at
 unfolding adapted
 adapted_in script s a of t h = h
 
-met_as_in : (script : Script) (s : Sort) (a b : Typed) (o : Option Operands) → HasStart script.tokens a.at
-    → HasStart script.tokens b.at → ((at : ℕ) → met_as s a b o ≡ broken rules.TypeMismatch at → Mismatch script at)
-    → Answers script (λ (m : Met). HasStart script.tokens m.left.at) (met_as s a b o)
+met_as_in : (script : Script) (s : OperatorClass) (a b : Typed) (o : Option Operands) → HasStart script.tokens a.at
+    → HasStart script.tokens b.at → ((at : ℕ) → unified_as s a b o ≡ broken rules.TypeMismatch at → Mismatch script at)
+    → Answers script (λ (m : UnifiedOperands). HasStart script.tokens m.left.at) (unified_as s a b o)
 met_as_in script s a b (Some o) h k w = fine h
 met_as_in script s a b None h k w =
     mismatch (choose_start script.tokens (takes s a.ty) b.at a.at k h) (w (if takes s a.ty then b.at else a.at) refl)
@@ -95,7 +95,7 @@ abbrev pub Unmet : Script → BinaryOp → Typed → Typed → Type 0
 Unmet script op a b = (at : ℕ) → met op a b ≡ broken rules.TypeMismatch at → Mismatch script at
 
 met_in : (script : Script) (op : BinaryOp) (a b : Typed) → HasStart script.tokens a.at → HasStart script.tokens b.at
-    → Unmet script op a b → Answers script (λ (m : Met). HasStart script.tokens m.left.at) (met op a b)
+    → Unmet script op a b → Answers script (λ (m : UnifiedOperands). HasStart script.tokens m.left.at) (met op a b)
 unfolding met
 met_in script op a b h k w =
     let s = sort_of op in
@@ -183,7 +183,7 @@ stored_in : (script : Script) (classes : List Class) (t : Typed) (p : Place) (c 
     → HasStart script.tokens t.at → HasStart script.tokens v.at → Unassigned script classes t v c
     → At script (stored classes t.at t.ty p c v)
 unfolding stored
-stored_in script classes t p None v h k z = bind (fitted_in script classes t.ty v k (z.unfit refl)) (λ e u. fine h)
+stored_in script classes t p None v h k z = bind (coerced_for_assignment_in script classes t.ty v k (z.unfit refl)) (λ e u. fine h)
 stored_in script classes t p (Some c) v h k z =
     updated_in script t.at t.ty p c v h k (z.unmet c refl) (z.uncounted c refl)
 
@@ -209,13 +209,13 @@ assigned_in script classes t op v h k w z = assigned_to_in script classes t op v
 abbrev pub Unfit : Script → List Class → List Ty → List Typed → Type 0
 Unfit script classes ps ts = (at : ℕ) → IsUnfit classes ps ts at → Mismatch script at
 
-all_fitted_in : (script : Script) (classes : List Class) (ps : List Ty) (ts : List Typed) → AllAt script.tokens ts
-    → Unfit script classes ps ts → Fine script (all_fitted classes ps ts)
-all_fitted_in script classes [] ts h z = fine tt
-all_fitted_in script classes (p ∷ ps) [] h z = fine tt
-all_fitted_in script classes (p ∷ ps) (t ∷ ts) h z =
-    bind (fitted_in script classes p t h.0 (λ b. z t.at (mismatches.this_one b))) (λ e u.
-    bind (all_fitted_in script classes ps ts h.1 (λ at b. z at (mismatches.later_one b))) (λ es v. fine tt))
+all_coerced_in : (script : Script) (classes : List Class) (ps : List Ty) (ts : List Typed) → AllAt script.tokens ts
+    → Unfit script classes ps ts → Fine script (all_coerced classes ps ts)
+all_coerced_in script classes [] ts h z = fine tt
+all_coerced_in script classes (p ∷ ps) [] h z = fine tt
+all_coerced_in script classes (p ∷ ps) (t ∷ ts) h z =
+    bind (coerced_for_assignment_in script classes p t h.0 (λ b. z t.at (mismatches.this_one b))) (λ e u.
+    bind (all_coerced_in script classes ps ts h.1 (λ at b. z at (mismatches.later_one b))) (λ es v. fine tt))
 
 -- another number than there are parameters
 pub arguments_in : (script : Script) (classes : List Class) (at : ℕ) (m : Meaning) (ps : List Ty) (ts : List Typed)
@@ -224,7 +224,7 @@ pub arguments_in : (script : Script) (classes : List Class) (at : ℕ) (m : Mean
     → Fine script (arguments_at classes at ps ts)
 unfolding arguments_at
 arguments_in script classes at m ps ts h calls k other z =
-    either (nat_eq (length ps) (length ts)) (λ b. all_fitted_in script classes ps ts k z)
+    either (nat_eq (length ps) (length ts)) (λ b. all_coerced_in script classes ps ts k z)
     (λ b. faulty (m, h, calls, other b))
 
 -- what is called takes these parameters
@@ -262,7 +262,7 @@ callee_at_in script env p text es (Some callee) h r e = fine e
 miscalled : (script : Script) (env : Environment) (p : place.Place) (text : List ℕ) (es : written.Exprs)
     (callee : Callee) (ts : List Typed) → OccursIn script (phrases.Expression env (written.Call p text es))
     → callee_in env text ≡ Some callee → length ts ≡ argument_count es → all_typed env es ≡ Ok ts
-    → Miscalls script env.heads.classes p.at (name text) callee.parameters ts
+    → Miscalls script env.declarations.classes p.at (name text) callee.parameters ts
 miscalled script env p text es callee ts r e c a = record {
   none = λ n. meaning.call_factory r e n;
   other = λ ps q b. meaning.call_count r e q (subst (λ k. nat_eq (length ps) k ≡ false) c b);
@@ -274,7 +274,7 @@ pub call_in : (script : Script) (env : Environment) (p : place.Place) (text : Li
     → ListAt script (argument_count es) (all_typed env es) → At script (call_typed env p.at text (all_typed env es))
 call_in script env p text es h r k =
     bind (callee_at_in script env p text es (callee_in env text) h r refl) (λ callee e. bind_by k (λ ts a all.
-    called_in script env.heads.classes p.at text callee ts callee.parameters h all.0
+    called_in script env.declarations.classes p.at text callee ts callee.parameters h all.0
     (miscalled script env p text es callee ts r e all.1 a)))
 
 -- names

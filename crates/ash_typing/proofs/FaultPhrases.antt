@@ -1,10 +1,10 @@
 -- Each phrase of a module sees what all its items declare, and all that is registered.
 use Rattle.std.proofs.Common.{◌≡◌, List, refl}
-use Rattle.ash_registrations.specs.Calls.{Call}
+use Rattle.ash_registrations.specs.Calls.{Registration}
 use Rattle.ash_tree.specs.Tree as written
 use Rattle.ash_typing.specs.Environment.{Environment}
-use Rattle.ash_typing.specs.Heads.{heads}
-use Rattle.ash_typing.specs.Scopes.{Scope, block_of, behind}
+use Rattle.ash_typing.specs.ModuleDeclarations.{declarations}
+use Rattle.ash_typing.specs.Scopes.{Scope, block_of, after}
 use Rattle.ash_typing.specs.Phrases.{Phrase, environment_of, Occurs, call_arguments, converted, array_arguments, cast}
 use Rattle.ash_typing.specs.Phrases.{before_suffixes, first_operand, condition, otherwise, value, argument}
 use Rattle.ash_typing.specs.Phrases.{other_arguments, linked, other_links, method_arguments, index, other_suffixes}
@@ -17,16 +17,16 @@ use Rattle.ash_typing.specs.Phrases.{other_interfaces, fields, other_members, it
 use Rattle.ash_typing.specs.Phrases.{function, globals, in_brackets, suffixes, operand, links, chosen, target, cases}
 use Rattle.ash_typing.specs.Phrases.{returned, body, variable, method, constructor, members}
 
-abbrev pub Sees : List Call → List written.Item → Environment → Type 0
-Sees calls is env = (env.heads ≡ heads calls is) × (env.registered ≡ calls)
+abbrev pub Sees : List Registration → List written.Item → Environment → Type 0
+Sees calls is env = (env.declarations ≡ declarations calls is) × (env.registered ≡ calls)
 
 -- a statement changes only the locals that are seen after it
-seen_after : (calls : List Call) (is : List written.Item) (scope : Scope) (s : written.Stmt) → Sees calls is scope.env
-    → Sees calls is (behind scope s).env
+seen_after : (calls : List Registration) (is : List written.Item) (scope : Scope) (s : written.Stmt) → Sees calls is scope.env
+    → Sees calls is (after scope s).env
 seen_after calls is scope (written.Declare p v) h = h
 seen_after calls is scope _ h = h
 
-pub sees : {calls : List Call} {is : List written.Item} {x : Phrase} → Occurs calls is x
+pub sees : {calls : List Registration} {is : List written.Item} {x : Phrase} → Occurs calls is x
     → Sees calls is (environment_of x)
 sees (call_arguments r) = sees r
 sees (in_brackets r) = sees r

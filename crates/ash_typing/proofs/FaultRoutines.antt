@@ -13,7 +13,7 @@ use Rattle.ash_typing.specs.declared.types.Ty.{Ty}
 use Rattle.ash_typing.specs.declared.types.Ty.TheVariants as ty
 use Rattle.ash_typing.specs.Environment.{Environment, Declared, declares, with_locals}
 use Rattle.ash_typing.specs.Expressions.{is_void}
-use Rattle.ash_typing.specs.Heads.{ty_in}
+use Rattle.ash_typing.specs.ModuleDeclarations.{ty_in}
 use Rattle.ash_typed.specs.StatementTree.{Body}
 use Rattle.ash_typing.specs.Scopes.{body_scope}
 use Rattle.ash_typing.specs.Statements.{body_typed}

@@ -13,17 +13,17 @@ use Rattle.ash_tree.specs.declared.tree.statements.Label.TheVariants as labels
 use Rattle.ash_typed.specs.declared.types.Kind.{Kind}
 use Rattle.ash_typing.specs.declared.types.Ty.{Ty}
 use Rattle.ash_typed.specs.StatementTree.{Stmt, Head}
-use Rattle.ash_typing.specs.Checking.{Checking}
+use Rattle.ash_typing.specs.TypingResult.{TypingResult}
 use Rattle.ash_typing.specs.Environment.{Environment, Class}
 use Rattle.ash_typing.specs.Expressions.{Typed, typed, all_typed, is_void}
 use Rattle.ash_typing.specs.Switches.{kind_in, is_within, constant_typed, label_typed}
 use Rattle.ash_typing.specs.Labels.{is_same_constant, is_last}
-use Rattle.ash_typing.specs.Scopes.{Scope, block_of, loop_of, switch_of, behind}
+use Rattle.ash_typing.specs.Scopes.{Scope, block_of, loop_of, switch_of, after}
 use Rattle.ash_typing.specs.Statements.{head_typed, condition_is, if_typed, if_else_typed, while_typed, do_while_typed}
 use Rattle.ash_typing.specs.Statements.{maybe_typed, maybe_condition_is, for_typed, break_typed, continue_typed}
 use Rattle.ash_typing.specs.Statements.{gives_nothing, returned, return_typed, stmt_typed, stmts_typed, cases_typed}
 use Rattle.ash_typing.specs.FaultPlaces.{begins_constant}
-use Rattle.ash_typing.specs.Fitting.{fits}
+use Rattle.ash_typing.specs.Coercions.{fits}
 use Rattle.ash_typing.proofs.Bindings.{bind_ok}
 use Rattle.ash_typing.proofs.FaultTokens.{HasToken, HasStart, MaybeIn, IsHeadForm, LabelIn, StmtIn, StmtsIn, CasesIn}
 use Rattle.ash_typing.specs.Phrases as phrases
@@ -33,7 +33,7 @@ use Rattle.ash_typing.specs.FaultMeaning as meaning
 use Rattle.ash_typing.specs.FaultMeaning.{argument_count}
 use Rattle.ash_typing.proofs.FaultAnswers.{Script, OccursIn, Mismatch, Answers, fine, faulty, Fine, At, bind, bind_by}
 use Rattle.ash_typing.proofs.FaultAnswers.{either}
-use Rattle.ash_typing.proofs.FaultOperations.{ListAt, fitted_in, integer_in, bool_in}
+use Rattle.ash_typing.proofs.FaultOperations.{ListAt, coerced_for_assignment_in, integer_in, bool_in}
 use Rattle.ash_typing.proofs.FaultExpressions.{typed_in, all_in}
 use Rattle.ash_typing.proofs.FaultVariables.{vars_in}
 
@@ -53,29 +53,29 @@ condition_in : (script : Script) (t : Typed) → HasStart script.tokens t.at
 condition_in script t h z = bool_in script t.at t.ty h z
 
 -- a condition that is typed is no `bool`
-abbrev pub Unconditional : Script → Checking Typed → Type 0
+abbrev pub Unconditional : Script → TypingResult Typed → Type 0
 Unconditional script condition = (t : Typed) → condition ≡ Ok t → may_be_bool t.ty ≡ false → Mismatch script t.at
 
-if_in : (script : Script) (line : ℕ) (condition : Checking Typed) (inner : Checking Stmt) → At script condition
+if_in : (script : Script) (line : ℕ) (condition : TypingResult Typed) (inner : TypingResult Stmt) → At script condition
     → Fine script inner → Unconditional script condition → Fine script (if_typed line condition inner)
 unfolding if_typed
 if_in script line condition inner h k z =
     bind_by h (λ c a at. bind k (λ s u. bind (condition_in script c at (z c a)) (λ yes v. fine tt)))
 
-if_else_in : (script : Script) (line : ℕ) (condition : Checking Typed) (inner other : Checking Stmt)
+if_else_in : (script : Script) (line : ℕ) (condition : TypingResult Typed) (inner other : TypingResult Stmt)
     → At script condition → Fine script inner → Fine script other → Unconditional script condition
     → Fine script (if_else_typed line condition inner other)
 unfolding if_else_typed
 if_else_in script line condition inner other h k l z =
     bind_by h (λ c a at. bind k (λ s u. bind l (λ t w. bind (condition_in script c at (z c a)) (λ yes v. fine tt))))
 
-while_in : (script : Script) (line : ℕ) (condition : Checking Typed) (body : Checking Stmt) → At script condition
+while_in : (script : Script) (line : ℕ) (condition : TypingResult Typed) (body : TypingResult Stmt) → At script condition
     → Fine script body → Unconditional script condition → Fine script (while_typed line condition body)
 unfolding while_typed
 while_in script line condition body h k z =
     bind_by h (λ c a at. bind k (λ s u. bind (condition_in script c at (z c a)) (λ yes v. fine tt)))
 
-do_while_in : (script : Script) (line : ℕ) (body : Checking Stmt) (condition : Checking Typed) → Fine script body
+do_while_in : (script : Script) (line : ℕ) (body : TypingResult Stmt) (condition : TypingResult Typed) → Fine script body
     → At script condition → Unconditional script condition → Fine script (do_while_typed line body condition)
 unfolding do_while_typed
 do_while_in script line body condition k h z =
@@ -97,8 +97,8 @@ maybe_condition_in : (script : Script) (t : Option Typed) → MaybeAt script.tok
 maybe_condition_in script None h z = fine tt
 maybe_condition_in script (Some t) h z = condition_in script t h (z t refl)
 
-for_in : (script : Script) (line count : ℕ) (head : Checking Head) (condition : Checking (Option Typed))
-    (steps : Checking (List Typed)) (body : Checking Stmt) → Fine script head
+for_in : (script : Script) (line count : ℕ) (head : TypingResult Head) (condition : TypingResult (Option Typed))
+    (steps : TypingResult (List Typed)) (body : TypingResult Stmt) → Fine script head
     → Answers script (MaybeAt script.tokens) condition → ListAt script count steps → Fine script body
     → ((c : Typed) → condition ≡ Ok (Some c) → may_be_bool c.ty ≡ false → Mismatch script c.at)
     → Fine script (for_typed line head condition steps body)
@@ -130,7 +130,7 @@ returned_in : (script : Script) (classes : List Class) (of : Ty) (at : ℕ) (t :
 unfolding returned
 returned_in script classes of at t h k y z =
     either (is_void of) (λ b. faulty (reserved words.Return, h, refl, meaning.mismatch (y b)))
-    (λ b. fitted_in script classes of t k z)
+    (λ b. coerced_for_assignment_in script classes of t k z)
 
 return_in : (script : Script) (scope : Scope) (p : place.Place) (e : Option written.Expr)
     → HasToken script.tokens (reserved words.Return) p.at → MaybeIn script.tokens e
@@ -141,7 +141,7 @@ return_in script scope p None h k r =
     (λ b. faulty (reserved words.Return, h, refl, meaning.mismatch (mismatches.returned_nothing r b)))
 return_in script scope p (Some e) h k r =
     bind_by (typed_in script scope.env false e k (phrases.returned r)) (λ t a l.
-    bind (returned_in script scope.env.heads.classes scope.gives p.at t h l (λ b. mismatches.returned_value r b)
+    bind (returned_in script scope.env.declarations.classes scope.gives p.at t h l (λ b. mismatches.returned_value r b)
     (λ b. mismatches.returned r a b))
     (λ value u. fine tt))
 
@@ -174,7 +174,7 @@ label_in script scope kind before p labels.Default ss cs h r =
 -- the condition of a `for`, where it has one
 for_condition : (script : Script) (scope : Scope) (p : place.Place) (f s : written.Stmt) (c : Option written.Expr)
     (es : List written.Expr) → OccursIn script (phrases.Statement scope (written.For p f c es s)) → (e : written.Expr)
-    → c ≡ Some e → OccursIn script (phrases.Expression (behind (block_of scope) f).env e)
+    → c ≡ Some e → OccursIn script (phrases.Expression (after (block_of scope) f).env e)
 for_condition script scope p f s c es r e q =
     phrases.for_condition (subst (λ x. OccursIn script (phrases.Statement scope (written.For p f x es s))) q r)
 
@@ -182,10 +182,10 @@ for_condition script scope p f s c es r e q =
 abbrev pub TypedBy : Environment → Option written.Expr → Typed → Type 0
 TypedBy env c t = (e : written.Expr) × (c ≡ Some e) × (typed env false e ≡ Ok t)
 
-nothing_typed : (t : Typed) → ◌≡◌ {A = Checking (Option Typed)} (Ok None) (Ok (Some t)) → ⊥
+nothing_typed : (t : Typed) → ◌≡◌ {A = TypingResult (Option Typed)} (Ok None) (Ok (Some t)) → ⊥
 nothing_typed t h = cc
 
-same_typed : (t u : Typed) → ◌≡◌ {A = Checking (Option Typed)} (Ok (Some t)) (Ok (Some u)) → t ≡ u
+same_typed : (t u : Typed) → ◌≡◌ {A = TypingResult (Option Typed)} (Ok (Some t)) (Ok (Some u)) → t ≡ u
 same_typed t u h = cc
 
 typed_by : (env : Environment) (c : Option written.Expr) (t : Typed) → maybe_typed env c ≡ Ok (Some t) → TypedBy env c t
@@ -196,7 +196,7 @@ typed_by env (Some e) t h =
 
 for_unconditional : (script : Script) (scope : Scope) (p : place.Place) (f s : written.Stmt) (c : Option written.Expr)
     (es : List written.Expr) (t : Typed) → OccursIn script (phrases.Statement scope (written.For p f c es s))
-    → TypedBy (behind (block_of scope) f).env c t → may_be_bool t.ty ≡ false → Mismatch script t.at
+    → TypedBy (after (block_of scope) f).env c t → may_be_bool t.ty ≡ false → Mismatch script t.at
 for_unconditional script scope p f s c es t r h b =
     mismatches.for_condition (subst (λ x. OccursIn script (phrases.Statement scope (written.For p f x es s))) h.1 r) h.2
     b
@@ -230,7 +230,7 @@ mutual
       (stmt_in script (loop_of scope) s h.1 (phrases.do_body r))
       (typed_in script scope.env false c h.2 (phrases.do_condition r)) (λ t a b. mismatches.condition r refl a b)
   stmt_in script scope (written.For p f c es s) h r =
-      let inside = behind (block_of scope) f in
+      let inside = after (block_of scope) f in
       for_in script p.line (argument_count (written.exprs es)) (head_typed (block_of scope) f)
       (maybe_typed inside.env c) (all_typed inside.env (written.exprs es)) (stmt_typed (loop_of inside) s)
       (head_in script (block_of scope) f h.1 h.2 (phrases.for_head r))
@@ -251,7 +251,7 @@ mutual
   stmts_in script scope written.no_stmt h r = fine tt
   stmts_in script scope (written.stmt s ss) h r =
       bind (stmt_in script scope s h.0 (phrases.statement r)) (λ t u.
-      bind (stmts_in script (behind scope s) ss h.1 (phrases.other_statements r)) (λ ts v. fine tt))
+      bind (stmts_in script (after scope s) ss h.1 (phrases.other_statements r)) (λ ts v. fine tt))
 
   cases_in : (script : Script) (scope : Scope) (kind : Option Kind) (before : List Label) (cs : written.Cases)
       → CasesIn script.tokens cs → OccursIn script (phrases.Cases scope kind before cs)

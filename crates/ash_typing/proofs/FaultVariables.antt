@@ -20,14 +20,14 @@ use Rattle.ash_typing.specs.Types.{ty_of}
 use Rattle.ash_typing.specs.Environment.{Environment, Declared, Class, Callee, array_built, construction}
 use Rattle.ash_typing.specs.Expressions.{Typed, all_typed, at_element}
 use Rattle.ash_typing.specs.Terms.{array_parameters}
-use Rattle.ash_typing.specs.Heads.{declared, element_by, element_named, array_named, object_ty, handle_ty, ty_named}
-use Rattle.ash_typing.specs.Heads.{ty_in}
+use Rattle.ash_typing.specs.ModuleDeclarations.{declared, element_by, element_named, array_named, object_ty, handle_ty, ty_named}
+use Rattle.ash_typing.specs.ModuleDeclarations.{ty_in}
 use Rattle.ash_typing.specs.Declarations.{at_type, at_type_name, known_ty, constructed, begun, stored_first, begun_with}
 use Rattle.ash_typing.specs.Declarations.{begun_by_one, begun_by, initialized, decl_typed}
 use Rattle.ash_typing.specs.Scopes.{Scope, with_variables, is_taken}
 use Rattle.ash_typing.specs.Statements.{fresh, decls_typed, vars_typed}
 use Rattle.std.proofs.lemmas.Bool.Decides.{nat_tests}
-use Rattle.ash_typing.specs.Fitting.{fits}
+use Rattle.ash_typing.specs.Coercions.{fits}
 use Rattle.ash_typing.proofs.FaultTokens.{HasToken, HasStart, ElementIn, NamedIn, InitializerIn, DeclIn, VarsIn}
 use Rattle.ash_typing.specs.Phrases as phrases
 use Rattle.ash_typing.specs.Mismatches as mismatches
@@ -37,7 +37,7 @@ use Rattle.ash_typing.specs.FaultMeaning.{argument_count, initial_count, is_cons
 use Rattle.ash_typing.proofs.FaultAnswers.{Script, OccursIn, Wrong, Mismatch, Answers, fine, faulty, Fine, name_taken}
 use Rattle.ash_typing.proofs.FaultAnswers.{bind, bind_by, bind_to, either, type_named, Miswritten, miswritten}
 use Rattle.ash_typing.proofs.FaultPhrases.{sees}
-use Rattle.ash_typing.proofs.FaultOperations.{AllAt, Miscalls, Unfit, fitted_in, called_with_in, called_in}
+use Rattle.ash_typing.proofs.FaultOperations.{AllAt, Miscalls, Unfit, coerced_for_assignment_in, called_with_in, called_in}
 use Rattle.ash_typing.proofs.FaultExpressions.{element_unnamed, typed_in, all_in}
 
 -- types
@@ -93,20 +93,20 @@ Unnamed script env at = (text : List ℕ) → type_named env text ≡ None → W
 
 array_named_at : (script : Script) (env : Environment) (of : written.Element) → ElementIn script.tokens of
     → Unnamed script env (at_element of)
-    → IsNamedAt script (object_ty (array_named env.registered env.heads of)) (at_element of)
+    → IsNamedAt script (object_ty (array_named env.registered env.declarations of)) (at_element of)
 unfolding element_named
 array_named_at script env (written.PrimElement p k) h w = tt
 array_named_at script env (written.HandleElement p text) h w =
-    object_named_at script (array_named env.registered env.heads (written.HandleElement p text)) p.at text h (λ n.
+    object_named_at script (array_named env.registered env.declarations (written.HandleElement p text)) p.at text h (λ n.
     w text (unknown_element env text n))
 
 array_handle_named_at : (script : Script) (env : Environment) (of : written.Element) → ElementIn script.tokens of
     → Unnamed script env (at_element of)
-    → IsNamedAt script (handle_ty (array_named env.registered env.heads of)) (at_element of)
+    → IsNamedAt script (handle_ty (array_named env.registered env.declarations of)) (at_element of)
 unfolding element_named
 array_handle_named_at script env (written.PrimElement p k) h w = tt
 array_handle_named_at script env (written.HandleElement p text) h w =
-    handle_named_at script (array_named env.registered env.heads (written.HandleElement p text)) p.at text h (λ n.
+    handle_named_at script (array_named env.registered env.declarations (written.HandleElement p text)) p.at text h (λ n.
     w text (unknown_element env text n))
 
 -- the name of a type that is written
@@ -150,9 +150,9 @@ unfolding ty_named
 written_at script env (written.Prim p k) h = primitive_written script k p.at
 written_at script env (written.Object p text) h = object_written script (type_named env text) p.at (text, h)
 written_at script env (written.Handle p text) h = handle_written script (type_named env text) p.at
-written_at script env (written.Array p of) h = array_written script (element_named env.registered env.heads of) p.at h.0
+written_at script env (written.Array p of) h = array_written script (element_named env.registered env.declarations of) p.at h.0
 written_at script env (written.ArrayHandle p of) h =
-    handle_written script (array_named env.registered env.heads of) p.at
+    handle_written script (array_named env.registered env.declarations of) p.at
 
 -- a known type, written where it was
 known_ty_in : (script : Script) (of : written.Named) (t : Ty) → IsNamedAt script t (at_type_name of)
@@ -195,11 +195,11 @@ pub record Misbuilds (script : Script) (classes : List Class) (at : ℕ) (found 
 abbrev pub Unbuilt : Script → Environment → ObjectType → List Typed → Type 0
 Unbuilt script env o ts =
     (callee : Callee) (parameters : List Ty) → construction env o (length ts) ≡ Some callee
-    → callee.parameters ≡ Some parameters → Unfit script env.heads.classes parameters ts
+    → callee.parameters ≡ Some parameters → Unfit script env.declarations.classes parameters ts
 
 misbuilds : (script : Script) (env : Environment) (of_at at : ℕ) (o : ObjectType) (i : written.Initializer)
     (ts : List Typed) → OccursIn script (phrases.Initializer env of_at at (ty.Object o) i) → length ts ≡ initial_count i
-    → Unbuilt script env o ts → Misbuilds script env.heads.classes of_at (construction env o (length ts)) ts
+    → Unbuilt script env o ts → Misbuilds script env.declarations.classes of_at (construction env o (length ts)) ts
 misbuilds script env of_at at o i ts r c z = record {
   none = λ m b. meaning.variable_factory r (subst (λ n. is_constructible (construction env o n) ≡ false) c b);
   other = λ m callee parameters e q b.
@@ -242,16 +242,16 @@ array_in script classes at ts e count (inr h) k w =
 
 object_in : (script : Script) (env : Environment) (at : ℕ) (o : ObjectType) (ts : List Typed)
     → IsWrittenAt script (ty.Object o) at → AllAt script.tokens ts
-    → Misbuilds script env.heads.classes at (construction env o (length ts)) ts
-    → Fine script (constructed env.heads.classes at ts (construction env o (length ts)))
+    → Misbuilds script env.declarations.classes at (construction env o (length ts)) ts
+    → Fine script (constructed env.declarations.classes at ts (construction env o (length ts)))
 unfolding construction
-object_in script env at (objects.Array e) ts w k b = array_in script env.heads.classes at ts e (length ts) w k b
+object_in script env at (objects.Array e) ts w k b = array_in script env.declarations.classes at ts e (length ts) w k b
 object_in script env at (objects.Class c) ts w k b =
-    constructed_in script env.heads.classes at ts (construction env (objects.Class c) (length ts)) w k b
+    constructed_in script env.declarations.classes at ts (construction env (objects.Class c) (length ts)) w k b
 object_in script env at (objects.Interface i) ts w k b =
-    constructed_in script env.heads.classes at ts (construction env (objects.Interface i) (length ts)) w k b
+    constructed_in script env.declarations.classes at ts (construction env (objects.Interface i) (length ts)) w k b
 object_in script env at (objects.Host kind) ts w k b =
-    constructed_in script env.heads.classes at ts (construction env (objects.Host kind) (length ts)) w k b
+    constructed_in script env.declarations.classes at ts (construction env (objects.Host kind) (length ts)) w k b
 
 -- where no argument is, none is unfit
 
@@ -271,7 +271,7 @@ unfolding begun
 begun_in script env of_at at (ty.Object o) h r =
     object_in script env of_at o [] h tt
     (misbuilds script env of_at at o written.Default [] r refl (λ callee parameters e q x b.
-    absurd (unfit_one env.heads.classes parameters [] x b)))
+    absurd (unfit_one env.declarations.classes parameters [] x b)))
 begun_in script env of_at at _ h r = fine tt
 
 not_one : (n : ℕ) → nat_eq (suc (suc n)) 1 ≡ false
@@ -279,7 +279,7 @@ not_one n = grind (arith, nat_tests)
 
 stored_first_in : (script : Script) (classes : List Class) (of : Ty) (t : Typed) → HasStart script.tokens t.at
     → (fits classes of t.ty ≡ false → Mismatch script t.at) → Fine script (stored_first classes of t)
-stored_first_in script classes of t h z = bind (fitted_in script classes of t h z) (λ e u. fine tt)
+stored_first_in script classes of t h z = bind (coerced_for_assignment_in script classes of t h z) (λ e u. fine tt)
 
 begun_with_in : (script : Script) (classes : List Class) (at : ℕ) (text : List ℕ) (of : Ty) (t : Typed)
     → HasToken script.tokens (name text) at → HasStart script.tokens t.at
@@ -313,7 +313,7 @@ begun_by_in script env of_at at text (ty.Object o) es ts w h k c a r =
 begun_by_in script env of_at at text (ty.Handle o) es ts w h k c a r =
     faulty (name text, h, refl, meaning.mismatch (mismatches.handle_brackets r))
 begun_by_in script env of_at at text of es ts w h k c a r =
-    begun_by_one_in script env.heads.classes at text of ts h k (λ b. mismatches.brackets r refl a b)
+    begun_by_one_in script env.declarations.classes at text of ts h k (λ b. mismatches.brackets r refl a b)
     (λ t e b. mismatches.initial_argument r (a ∙ ap (λ (us : List Typed). Ok us) e) b)
 
 initialized_in : (script : Script) (env : Environment) (of_at at : ℕ) (text : List ℕ) (of : Ty)
@@ -324,7 +324,7 @@ unfolding initialized
 initialized_in script env of_at at text of written.Default w h k r = begun_in script env of_at at of w r
 initialized_in script env of_at at text of (written.Value e) w h k r =
     bind_by (typed_in script env false e k (phrases.initial_value r)) (λ t a l.
-    begun_with_in script env.heads.classes at text of t h l
+    begun_with_in script env.declarations.classes at text of t h l
     (λ o q. meaning.object_assigned
     (subst (λ u. OccursIn script (phrases.Initializer env of_at at u (written.Value e))) q r))
     (λ b. mismatches.initial_value r a b))

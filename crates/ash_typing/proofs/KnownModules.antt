@@ -11,12 +11,12 @@ use Rattle.ash_typed.specs.declared.types.ObjectType.TheVariants.{Class as OfCla
 use Rattle.ash_typed.specs.declared.types.ObjectType.TheVariants.{Array as OfArray}
 use Rattle.ash_typing.specs.declared.types.Ty.{Ty}
 use Rattle.ash_typing.specs.declared.types.Ty.TheVariants as ty
-use Rattle.ash_typing.specs.Environment.{Environment, Heads, Interface, Class, first_from, is_class, is_interface_named}
+use Rattle.ash_typing.specs.Environment.{Environment, ModuleDeclarations, Interface, Class, first_from, is_class, is_interface_named}
 use Rattle.ash_typing.specs.Environment.{inside}
-use Rattle.ash_typing.specs.Heads.{object_named, element_by, element_named, array_named, object_ty, handle_ty, ty_named}
-use Rattle.ash_typing.specs.Heads.{result_named, variables, parameter_ty, function_head, signature_head, names_in}
-use Rattle.ash_typing.specs.Heads.{heads, ty_in, interface_head, class_head, named_interface, named_class}
-use Rattle.ash_typing.specs.Heads.{all_variables, constructed_by}
+use Rattle.ash_typing.specs.ModuleDeclarations.{object_named, element_by, element_named, array_named, object_ty, handle_ty, ty_named}
+use Rattle.ash_typing.specs.ModuleDeclarations.{result_named, variables, parameter_ty, function_head, signature_head, names_in}
+use Rattle.ash_typing.specs.ModuleDeclarations.{declarations, ty_in, interface_head, class_head, named_interface, named_class}
+use Rattle.ash_typing.specs.ModuleDeclarations.{all_variables, constructed_by}
 use Rattle.ash_typing.specs.Declarations.{Initialization, known_ty}
 use Rattle.ash_typing.specs.Typing.{IsKnown, IsVariableType, IsResultType, IsKnownVariable, IsKnownFunction}
 use Rattle.ash_typing.specs.Typing.{IsKnownInterface, IsKnownClass}
@@ -255,23 +255,23 @@ rules_known env is m ts cs fs vs = (
 
 -- what the items of a module see
 
-types_known : (calls : List host.Call) (named : Heads) (ps : List written.Parameter)
+types_known : (calls : List host.Registration) (named : ModuleDeclarations) (ps : List written.Parameter)
     → AllByRecursion (KnownParameter (ty_named calls named)) ps
     → AllByRecursion IsVariableType (map (parameter_ty calls named) ps)
 types_known calls named [] h = tt
 types_known calls named (p ∷ ps) h = (h.0, types_known calls named ps h.1)
 
-result_known : (calls : List host.Call) (named : Heads) (of : Option written.Named)
+result_known : (calls : List host.Registration) (named : ModuleDeclarations) (of : Option written.Named)
     → KnownResult (ty_named calls named) of → IsResultType (result_named calls named of)
 result_known calls named None h = refl
 result_known calls named (Some of) h = variable_is_result (ty_named calls named of) h
 
-head_known : (calls : List host.Call) (named : Heads) (f : written.Function) → KnownFunction (ty_named calls named) f
+head_known : (calls : List host.Registration) (named : ModuleDeclarations) (f : written.Function) → KnownFunction (ty_named calls named) f
     → IsKnownFunction (function_head calls named f)
 head_known calls named f h =
     record { result = result_known calls named f.result h.0; parameters = types_known calls named f.parameters h.1 }
 
-signatures_seen : (calls : List host.Call) (named : Heads) (ms : List written.InterfaceMethod)
+signatures_seen : (calls : List host.Registration) (named : ModuleDeclarations) (ms : List written.InterfaceMethod)
     → AllByRecursion (KnownSignature (ty_named calls named)) ms
     → AllByRecursion IsKnownFunction (map (signature_head calls named) ms)
 signatures_seen calls named [] h = tt
@@ -283,14 +283,14 @@ signatures_seen calls named (m ∷ ms) h = (
   signatures_seen calls named ms h.1,
 )
 
-interfaces_seen : (calls : List host.Call) (named : Heads) (is : List written.Interface)
+interfaces_seen : (calls : List host.Registration) (named : ModuleDeclarations) (is : List written.Interface)
     → AllByRecursion (KnownInterface (ty_named calls named)) is
     → AllByRecursion IsKnownInterface (map (interface_head calls named) is)
 interfaces_seen calls named [] h = tt
 interfaces_seen calls named (i ∷ is) h =
     (record { methods = signatures_seen calls named i.methods h.0 }, interfaces_seen calls named is h.1)
 
-variables_known : (calls : List host.Call) (named : Heads) (vs : List written.Vars)
+variables_known : (calls : List host.Registration) (named : ModuleDeclarations) (vs : List written.Vars)
     → AllByRecursion (KnownVars (ty_named calls named)) vs
     → AllByRecursion IsKnownVariable (all_variables calls named vs)
 variables_known calls named [] h = tt
@@ -298,19 +298,19 @@ variables_known calls named (v ∷ vs) h =
     all_append IsKnownVariable (variables calls named v) (all_variables calls named vs)
     (decls_known (ty_named calls named v.of) v.decls h.0) (variables_known calls named vs h.1)
 
-functions_known : (calls : List host.Call) (named : Heads) (fs : List written.Function)
+functions_known : (calls : List host.Registration) (named : ModuleDeclarations) (fs : List written.Function)
     → AllByRecursion (KnownFunction (ty_named calls named)) fs
     → AllByRecursion IsKnownFunction (map (function_head calls named) fs)
 functions_known calls named [] h = tt
 functions_known calls named (f ∷ fs) h = (head_known calls named f h.0, functions_known calls named fs h.1)
 
-construction_known : (calls : List host.Call) (named : Heads) (cs : List written.Constructor)
+construction_known : (calls : List host.Registration) (named : ModuleDeclarations) (cs : List written.Constructor)
     → AllByRecursion (KnownConstructor (ty_named calls named)) cs
     → AllByRecursion IsVariableType (constructed_by calls named cs)
 construction_known calls named [] h = tt
 construction_known calls named (c ∷ cs) h = types_known calls named c.parameters h.0
 
-classes_known : (calls : List host.Call) (named : Heads) (cs : List written.Class)
+classes_known : (calls : List host.Registration) (named : ModuleDeclarations) (cs : List written.Class)
     → AllByRecursion (KnownClass (ty_named calls named)) cs
     → AllByRecursion IsKnownClass (map (class_head calls named) cs)
 classes_known calls named [] h = tt
@@ -341,7 +341,7 @@ class_from name i cs = object_at OfClass (first_from (is_class name) i cs)
 abbrev interface_from : List ℕ → ℕ → List Interface → Option ObjectType
 interface_from name i ts = object_at OfInterface (first_from (is_interface_named name) i ts)
 
-same_class : (calls : List host.Call) (named : Heads) (name : List ℕ) (i : ℕ) (cs : List written.Class)
+same_class : (calls : List host.Registration) (named : ModuleDeclarations) (name : List ℕ) (i : ℕ) (cs : List written.Class)
     → class_from name i (map (class_head calls named) cs) ≡ class_from name i (map named_class cs)
 same_class calls named name i [] = refl
 same_class calls named name i (c ∷ cs) =
@@ -349,7 +349,7 @@ same_class calls named name i (c ∷ cs) =
     (first_from (is_class name) (i + 1) (map (class_head calls named) cs))
     (first_from (is_class name) (i + 1) (map named_class cs)) (same_class calls named name (i + 1) cs)
 
-same_interface : (calls : List host.Call) (named : Heads) (name : List ℕ) (i : ℕ) (is : List written.Interface)
+same_interface : (calls : List host.Registration) (named : ModuleDeclarations) (name : List ℕ) (i : ℕ) (is : List written.Interface)
     → interface_from name i (map (interface_head calls named) is) ≡ interface_from name i (map named_interface is)
 same_interface calls named name i [] = refl
 same_interface calls named name i (x ∷ is) =
@@ -357,26 +357,26 @@ same_interface calls named name i (x ∷ is) =
     (first_from (is_interface_named name) (i + 1) (map (interface_head calls named) is))
     (first_from (is_interface_named name) (i + 1) (map named_interface is)) (same_interface calls named name (i + 1) is)
 
-pub same_object : (calls : List host.Call) (is : List written.Item) (name : List ℕ)
-    → object_named calls (heads calls is) name ≡ object_named calls (names_in is) name
-unfolding object_named heads
+pub same_object : (calls : List host.Registration) (is : List written.Item) (name : List ℕ)
+    → object_named calls (declarations calls is) name ≡ object_named calls (names_in is) name
+unfolding object_named declarations
 same_object calls is name =
     rw (
       same_class calls (names_in is) name 0 (classes_of is),
       same_interface calls (names_in is) name 0 (interfaces_of is),
     ) refl
 
-same_element : (calls : List host.Call) (is : List written.Item) (of : written.Element)
-    → element_named calls (heads calls is) of ≡ element_named calls (names_in is) of
+same_element : (calls : List host.Registration) (is : List written.Item) (of : written.Element)
+    → element_named calls (declarations calls is) of ≡ element_named calls (names_in is) of
 unfolding element_named
 same_element calls is (written.PrimElement p k) = refl
 same_element calls is (written.HandleElement p name) = ap (option_and_then element_by) (same_object calls is name)
 
-same_array : (calls : List host.Call) (is : List written.Item) (of : written.Element)
-    → array_named calls (heads calls is) of ≡ array_named calls (names_in is) of
+same_array : (calls : List host.Registration) (is : List written.Item) (of : written.Element)
+    → array_named calls (declarations calls is) of ≡ array_named calls (names_in is) of
 same_array calls is of = ap (option_map OfArray) (same_element calls is of)
 
-pub same_type : (calls : List host.Call) (is : List written.Item) (of : written.Named)
+pub same_type : (calls : List host.Registration) (is : List written.Item) (of : written.Named)
     → ty_in (environment calls is) of ≡ ty_named calls (names_in is) of
 unfolding ty_named
 same_type calls is (written.Prim p k) = refl
@@ -385,9 +385,9 @@ same_type calls is (written.Handle p name) = ap handle_ty (same_object calls is 
 same_type calls is (written.Array p of) = ap object_ty (same_array calls is of)
 same_type calls is (written.ArrayHandle p of) = ap handle_ty (same_array calls is of)
 
-pub module_known : (calls : List host.Call) (is : List written.Item) → KnownItems (ty_in (environment calls is)) is
+pub module_known : (calls : List host.Registration) (is : List written.Item) → KnownItems (ty_in (environment calls is)) is
     → IsKnown (environment calls is)
-unfolding heads
+unfolding declarations
 module_known calls is h =
     let named = names_in is in
     let k = subst (λ (look : written.Named → Ty). KnownItems look is) (fun_ext (same_type calls is)) h in

@@ -1,7 +1,7 @@
 -- The walk of a module answers exactly what the rules say.
 use Rattle.std.proofs.Common.{◌≡◌, ◌↔◌, List, length, Ok, refl, sym, ◌∙◌, ap, subst, arith}
 use Rattle.std.specs.List.{IsDistinct}
-use Rattle.ash_registrations.specs.Calls.{Call}
+use Rattle.ash_registrations.specs.Calls.{Registration}
 use Rattle.ash_tree.specs.Tree.{Item}
 use Rattle.ash_typing.specs.Typing.{IsKnown}
 use Rattle.ash_typing.specs.Items.{nothing, module_walked, items_typed, module_typed}
@@ -13,7 +13,7 @@ use Rattle.ash_typing.proofs.TypedItems.{walked_with, items_sound, items_complet
 use Rattle.ash_typing.proofs.KnownModules.{items_known, rules_known, module_known}
 use Rattle.ash_tree.specs.Items.{item_names, globals_of, variable_names}
 
-sound : (calls : List Call) (is : List Item) (typed : Module) → module_typed calls is ≡ Ok typed
+sound : (calls : List Registration) (is : List Item) (typed : Module) → module_typed calls is ≡ Ok typed
     → IsTyped calls is typed
 unfolding module_typed IsDistinct
 sound calls is typed h =
@@ -36,12 +36,12 @@ sound calls is typed h =
       globals = go.are_globals;
     })
 
-pub typed_known : (calls : List Call) (is : List Item) (typed : Module) → IsTyped calls is typed
+pub typed_known : (calls : List Registration) (is : List Item) (typed : Module) → IsTyped calls is typed
     → IsKnown (environment calls is)
 typed_known calls is typed h =
     module_known calls is (rules_known (environment calls is) is typed h.interfaces h.classes h.functions h.globals)
 
-complete : (calls : List Call) (is : List Item) (typed : Module) → IsTyped calls is typed
+complete : (calls : List Registration) (is : List Item) (typed : Module) → IsTyped calls is typed
     → module_typed calls is ≡ Ok typed
 unfolding module_typed
 complete calls is typed h =
@@ -54,6 +54,6 @@ complete calls is typed h =
     (items_complete env known is (nothing calls) typed.interfaces typed.classes typed.functions typed.globals can
     (omega arith) h.interfaces h.classes h.functions h.globals) refl
 
-pub module_typed-exact : (calls : List Call) (is : List Item) (typed : Module)
+pub module_typed-exact : (calls : List Registration) (is : List Item) (typed : Module)
     → (module_typed calls is ≡ Ok typed) ↔ IsTyped calls is typed
 module_typed-exact calls is typed = (sound calls is typed, complete calls is typed)

@@ -17,7 +17,7 @@ use Rattle.ash_typing.specs.declared.types.Ty.{Ty}
 use Rattle.ash_typing.specs.declared.types.Ty.TheVariants as ty
 use Rattle.ash_typing.specs.Types.{is_same, var_type, result_type}
 use Rattle.ash_typing.specs.Environment.{Environment, Function, Interface, Class, first_from, is_called, inside}
-use Rattle.ash_typing.specs.Heads.{object_named, ty_in}
+use Rattle.ash_typing.specs.ModuleDeclarations.{object_named, ty_in}
 use Rattle.ash_typing.specs.Typing.{IsKnown, IsVariableType, IsKnownFunction, IsKnownInterface, IsKnownClass, is_known}
 use Rattle.ash_typing.specs.Typing.{IsDeclared}
 use Rattle.ash_tree.specs.Items.{constructing, member_names, fields_of, methods_of, constructors_of}
@@ -152,17 +152,17 @@ within_map {A} f xs k h =
     (λ i. let past = i.0 in let long = length-map xs f in absurd (omega arith)) (slice_get_cases xs k).1
 
 implementation_by : (env : Environment) (place : ℕ) (i : modules.Implementation) (t : modules.Class)
-    (declaring : Interface) (c : Class) → IsKnown env → slice_get env.heads.interfaces i.interface ≡ Some declaring
-    → slice_get env.heads.classes place ≡ Some c → signature_of_class c ≡ signatures.signature_of_class t
+    (declaring : Interface) (c : Class) → IsKnown env → slice_get env.declarations.interfaces i.interface ≡ Some declaring
+    → slice_get env.declarations.classes place ≡ Some c → signature_of_class c ≡ signatures.signature_of_class t
     → implemented env place i.interface ≡ Some i.methods → sound.IsImplementation (seen_in env).signatures t.methods i
 unfolding implemented
 implementation_by env place i t declaring c known at_interface at_class same h =
     let of_interface =
-    at_some IsKnownInterface (slice_get env.heads.interfaces i.interface) declaring
-    (if_get IsKnownInterface env.heads.interfaces i.interface known.interfaces) at_interface in
+    at_some IsKnownInterface (slice_get env.declarations.interfaces i.interface) declaring
+    (if_get IsKnownInterface env.declarations.interfaces i.interface known.interfaces) at_interface in
     let of_class =
-    at_some IsKnownClass (slice_get env.heads.classes place) c
-    (if_get IsKnownClass env.heads.classes place known.classes) at_class in
+    at_some IsKnownClass (slice_get env.declarations.classes place) c
+    (if_get IsKnownClass env.declarations.classes place known.classes) at_class in
     let found : methods_for c.methods declaring.methods ≡ Some i.methods =
     subst₂ (λ (one : Option Class) (other : Option Interface).
     methods_for (option_map_or methods_of_class one []) (option_map_or methods_of_interface other [])
@@ -171,7 +171,7 @@ implementation_by env place i t declaring c known at_interface at_class same h =
     let methods : map signature_of c.methods ≡ map signatures.signature_of t.methods =
     ap (λ (s : signatures.ClassSignature). s.methods) same in (
       signatures_of_interface declaring,
-      mapped signatures_of_interface env.heads.interfaces i.interface declaring at_interface,
+      mapped signatures_of_interface env.declarations.interfaces i.interface declaring at_interface,
       implement t.methods (map signature_of declaring.methods) i.methods
           (subst (λ all. AllZip (IsAt all) (map signature_of declaring.methods) i.methods) methods are),
     )
@@ -187,10 +187,10 @@ implementation_sound : (env : Environment) (place : ℕ) (n : written.TypeName) 
 implementation_sound env place n i t known at is =
     let within =
     interface_within (seen_in env).signatures i.interface
-    (at_some (signatures.IsObjectType (seen_in env).signatures) (object_named env.registered env.heads n.name)
-    (objects.Interface i.interface) (object_sound env.registered env.heads n.name) is.interface) in
-    let declaring = within_map signatures_of_interface env.heads.interfaces i.interface within in
-    let class = unmapped signature_of_class env.heads.classes place (signatures.signature_of_class t) at in
+    (at_some (signatures.IsObjectType (seen_in env).signatures) (object_named env.registered env.declarations n.name)
+    (objects.Interface i.interface) (object_sound env.registered env.declarations n.name) is.interface) in
+    let declaring = within_map signatures_of_interface env.declarations.interfaces i.interface within in
+    let class = unmapped signature_of_class env.declarations.classes place (signatures.signature_of_class t) at in
     implementation_by env place i t declaring.0 class.0 known declaring.1 class.1 class.2 is.methods
 
 implementations_sound : (env : Environment) (place : ℕ) (ns : List written.TypeName) (is : List modules.Implementation)

@@ -32,12 +32,12 @@ use Rattle.ash_typing.specs.declared.forms.Callable.{Callable}
 use Rattle.ash_typing.specs.declared.forms.Callable.TheVariants as callables
 use Rattle.ash_typing.specs.declared.forms.Form.{Form}
 use Rattle.ash_typing.specs.declared.forms.Form.TheVariants as form
-use Rattle.ash_typing.specs.declared.forms.Sort.TheVariants as sort
+use Rattle.ash_typing.specs.declared.forms.OperatorClass.TheVariants as sort
 use Rattle.ash_typing.specs.Types.{signed, object_of, result_type, sort_of, binary_of, meets, outcome, ty_of_element}
 use Rattle.ash_typing.specs.Types.{var_type}
 use Rattle.ash_typing.specs.Environment.{Environment, Known, Callee, Invoked, variable_in, callee_in, member_in}
 use Rattle.ash_typing.specs.Environment.{method_in}
-use Rattle.ash_typing.specs.Heads.{object_named, element_named}
+use Rattle.ash_typing.specs.ModuleDeclarations.{object_named, element_named}
 use Rattle.ash_typing.specs.Terms.{conversion, applied, is_stored, call_of, assignable, bracketed, handle_form}
 use Rattle.ash_typing.specs.Terms.{array_parameters, Term, term, read_term, adapted_to, right_by, converted_to}
 use Rattle.ash_typing.specs.Typing.{IsKnown, IsKnownType, IsVariableType, IsResultType, is_known, left_of, right_of}
@@ -137,7 +137,7 @@ abbrev pub IsArgument : Environment → Term → Type 0
 IsArgument env t = GivesType env t.tree t.ty × IsKnownType t.ty
 
 pub arguments_sound : (env : Environment) {parameters : List Ty} {ts : List Term} {trees : Exprs}
-    → AreArguments env.heads.classes parameters ts trees → AllByRecursion IsVariableType parameters
+    → AreArguments env.declarations.classes parameters ts trees → AllByRecursion IsVariableType parameters
     → AllByRecursion (IsArgument env) ts → sound.AreArguments (seen_in env) (map var_type parameters) trees
 arguments_sound env no_arguments known h = sound.no_arguments
 arguments_sound env (argument {of = of} {t = t} e rest) known h =
@@ -302,16 +302,16 @@ mutual
       plain env ty.Bool t.tree (of_type env t.tree t.ty ty.Bool l (term_sound h known).gives)
   term_sound {env} (new_array {of = of} {elements = elements} {ts = ts} {trees = trees} e all args) known =
       let takes = array_takes env elements (length ts)
-      (at_some (IsElement (seen_in env).signatures) (element_named env.registered env.heads of) elements
-      (element_sound env.registered env.heads of) e) in
+      (at_some (IsElement (seen_in env).signatures) (element_named env.registered env.declarations of) elements
+      (element_sound env.registered env.declarations of) e) in
       plain env (ty.Handle (objects.Array elements))
       (Call (targets.Array elements) (map var_type (array_parameters (length ts))) trees)
       (sound.call takes.0 (arguments_sound env args takes.1 (terms_sound all known)))
   term_sound {env} (cast {to = to} {t = t} {o = o} {from = from} n c h i) known =
       plain env (ty.Handle o) (Cast o t.tree)
       (sound.cast (cast_is env o c
-      (at_some (IsObjectType (seen_in env).signatures) (object_named env.registered env.heads to.name) o
-      (object_sound env.registered env.heads to.name) n)) (handle_sound env t from i (term_sound h known).gives))
+      (at_some (IsObjectType (seen_in env).signatures) (object_named env.registered env.declarations to.name) o
+      (object_sound env.registered env.declarations to.name) n)) (handle_sound env t from i (term_sound h known).gives))
   term_sound (postfix h ss) known = suffixes_sound ss known (term_sound h known)
   term_sound {env} (plus {t = t} {k = k} h i) known =
       plain env (ty.Integer k) t.tree (of_type env t.tree t.ty (ty.Integer k) i (term_sound h known).gives)

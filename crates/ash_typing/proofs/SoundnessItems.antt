@@ -15,7 +15,7 @@ use Rattle.ash_typing.specs.declared.types.Ty.{Ty}
 use Rattle.ash_typing.specs.declared.types.Ty.TheVariants as ty
 use Rattle.ash_typing.specs.Types.{var_type, result_type}
 use Rattle.ash_typing.specs.Environment.{Environment, with_locals}
-use Rattle.ash_typing.specs.Heads.{ty_in, result_in}
+use Rattle.ash_typing.specs.ModuleDeclarations.{ty_in, result_in}
 use Rattle.ash_typing.specs.Scopes.{body_scope}
 use Rattle.ash_typing.specs.Typing.{IsKnown, IsKnownType, IsVariableType, IsKnownVariable, IsDeclared}
 use Rattle.ash_typing.specs.TypedStatements.{IsKnownScope}
@@ -49,7 +49,7 @@ named_passed : (env : Environment) (of : written.Named) → IsPassed (ty_in env 
     → signatures.IsPassedType (seen_in env).signatures (var_type (ty_in env of))
 named_passed env of h =
     passed_type (seen_in env).signatures (ty_in env of) h
-    (type_sound env.registered env.heads of (passed_variable (ty_in env of) h))
+    (type_sound env.registered env.declarations of (passed_variable (ty_in env of) h))
 
 parameters_passed : (env : Environment) (ps : List written.Parameter) → AllByRecursion (IsPassedParameter env) ps
     → AllByRecursion (signatures.IsPassedType (seen_in env).signatures) (map (type_of_parameter env) ps)
@@ -222,7 +222,7 @@ vars_sound : (env : Environment) (v : written.Vars) (vs : List Initialization) �
     → AllByRecursion (sound_statements.IsInitialized (seen_in env)) vs
 vars_sound env v vs known is h =
     initialized env (ty_in env v.of) v.decls vs known (variable_is_known (ty_in env v.of) is)
-    (type_sound env.registered env.heads v.of is) h
+    (type_sound env.registered env.declarations v.of is) h
 
 pub fields_sound : (env : Environment) (vs : List written.Vars) (ts : List Initialization) → IsKnown env
     → AreFields env vs ts → AllByRecursion (sound_statements.IsInitialized (seen_in env)) ts

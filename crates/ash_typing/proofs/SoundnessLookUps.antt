@@ -177,14 +177,14 @@ this_is classes (Some i) = go (slice_get classes i) refl
 abbrev IsSoundMember : Environment → ObjectType → Member × Ty → Type 0
 IsSoundMember env o found = operations.IsMember (seen_in env).signatures o found.0 (var_type found.1)
 
-field_sound : (env : Environment) (class : ℕ) (c : Class) (text : List ℕ) → slice_get env.heads.classes class ≡ Some c
+field_sound : (env : Environment) (class : ℕ) (c : Class) (text : List ℕ) → slice_get env.declarations.classes class ≡ Some c
     → IfSome (field_in class c text) (IsSoundMember env (OfClass class))
 field_sound env class c text h =
     if_map (IsSoundMember env (OfClass class))
     (λ (found : ℕ × Declared). (Field class found.0 (var_type found.1.of), found.1.of))
     (first_from (declares text) 0 c.fields)
     (if_weaker (first_from (declares text) 0 c.fields)
-    (λ found k. operations.field {c = signature_of_class c} (mapped signature_of_class env.heads.classes class c h)
+    (λ found k. operations.field {c = signature_of_class c} (mapped signature_of_class env.declarations.classes class c h)
     (mapped type_declared c.fields found.0 found.1 k)) (first_place (declares text) c.fields))
 
 pub variable_sound : (env : Environment) (text : List ℕ)
@@ -201,7 +201,7 @@ variable_sound env text =
     (λ (found : ℕ × Ty). (Read (Stored (variables.Local found.0 (var_type found.1))), found.1))
     (last_named text 0 None env.locals)
     (if_weaker (last_named text 0 None env.locals) (λ found h. (_, refl, sound.local h)) locals) in
-    let own = if_then (λ (c : ℕ × Class). (env.this ≡ Some c.0) × (slice_get env.heads.classes c.0 ≡ Some c.1)) Q
+    let own = if_then (λ (c : ℕ × Class). (env.this ≡ Some c.0) × (slice_get env.declarations.classes c.0 ≡ Some c.1)) Q
     (λ (c : ℕ × Class).
     option_map (λ (found : Member × Ty). (Read (Held (This c.0) found.0), found.1)) (field_in c.0 c.1 text))
     (this_class env)
@@ -209,18 +209,18 @@ variable_sound env text =
     (λ (found : Member × Ty). (Read (Held (This c.0) found.0), found.1)) (field_in c.0 c.1 text)
     (if_weaker (field_in c.0 c.1 text)
     (λ found k. (_, refl, sound.member (sound.this h.0) k)) (field_sound env c.0 c.1 text h.1)))
-    (this_is env.heads.classes env.this) in
+    (this_is env.declarations.classes env.this) in
     let global =
     if_map Q (λ (found : ℕ × Declared).
     (Read (Stored (variables.Global found.0 (var_type found.1.of))), found.1.of))
-    (first_from (declares text) 0 env.heads.globals)
-    (if_weaker (first_from (declares text) 0 env.heads.globals)
-    (λ found h. (_, refl, sound.global (mapped type_declared env.heads.globals found.0 found.1 h)))
-    (first_place (declares text) env.heads.globals)) in
-    if_or Q (local_in env.locals text) (option_or (own_field_in env text) (global_in env.heads.globals text)) local
-    (if_or Q (own_field_in env text) (global_in env.heads.globals text) own global)
+    (first_from (declares text) 0 env.declarations.globals)
+    (if_weaker (first_from (declares text) 0 env.declarations.globals)
+    (λ found h. (_, refl, sound.global (mapped type_declared env.declarations.globals found.0 found.1 h)))
+    (first_place (declares text) env.declarations.globals)) in
+    if_or Q (local_in env.locals text) (option_or (own_field_in env text) (global_in env.declarations.globals text)) local
+    (if_or Q (own_field_in env text) (global_in env.declarations.globals text) own global)
 
-property_found : (env : Environment) (kind : ℕ) (text : List ℕ) (call : host.Call)
+property_found : (env : Environment) (kind : ℕ) (text : List ℕ) (call : host.Registration)
     → host.takes_member (name_of_kind env.registered kind) text call ≡ true
     → ((id : ℕ) (of : Primitive) → property_at (name_of_kind env.registered kind) id call ≡ Some of
     → Contains ((seen_in env).signatures.host.properties kind id) of)
@@ -236,16 +236,16 @@ property_found env kind text _ e among = tt
 pub member_sound : (env : Environment) (o : ObjectType) (text : List ℕ)
     → IfSome (member_in env o text) (λ found. operations.IsMember (seen_in env).signatures o found.0 (var_type found.1))
 unfolding member_in host_member_in
-member_sound env (OfClass i) text = go (slice_get env.heads.classes i) refl
+member_sound env (OfClass i) text = go (slice_get env.declarations.classes i) refl
   where
-    go : (c : Option Class) → slice_get env.heads.classes i ≡ c
+    go : (c : Option Class) → slice_get env.declarations.classes i ≡ c
         → IfSome (option_and_then (λ (c : Class). field_in i c text) c) (IsSoundMember env (OfClass i))
     go None e = tt
     go (Some c) e = field_sound env i c text e
 member_sound env (OfInterface i) text = tt
 member_sound env (OfHost kind) text =
     let name = name_of_kind env.registered kind in
-    if_then (λ (call : host.Call). (host.takes_member name text call ≡ true)
+    if_then (λ (call : host.Registration). (host.takes_member name text call ≡ true)
     × ((id : ℕ) (of : Primitive) → property_at name id call ≡ Some of
     → Contains (filter_map (property_at name id) env.registered) of)) (IsSoundMember env (OfHost kind)) property
     (find (host.takes_member name text) env.registered)

@@ -9,7 +9,7 @@ use Rattle.ash_typed.specs.Signatures as signatures
 use Rattle.ash_typed.specs.SoundModules as sound
 use Rattle.ash_typing.specs.Environment.{Environment}
 use Rattle.ash_tree.specs.Items.{classes_of, interfaces_of, classes_before, functions_of, globals_of, variable_names}
-use Rattle.ash_typing.specs.Heads.{heads, ty_in}
+use Rattle.ash_typing.specs.ModuleDeclarations.{declarations, ty_in}
 use Rattle.ash_typing.specs.Typing.{IsDeclared}
 use Rattle.ash_typing.specs.TypedModules.{AreVariables, environment, IsTyped}
 use Rattle.ash_typing.specs.Nesting.{ItemsDeclareInBlocks}
@@ -40,12 +40,12 @@ globals_length env (v ∷ vs) (t ∷ ts) h =
     ∙ zip_length (IsDeclared env (ty_in env v.of)) v.decls t.values h.0.values) (globals_length env vs ts h.1)
     ∙ sym (count_names v (variable_names vs))
 
-pub module_sound : (calls : List host.Call) (is : List written.Item) (m : modules.Module) → ItemsDeclareInBlocks is
+pub module_sound : (calls : List host.Registration) (is : List written.Item) (m : modules.Module) → ItemsDeclareInBlocks is
     → IsTyped calls is m → sound.IsSound (offered calls) m
 module_sound calls is m nest typed =
     let env = environment calls is in
     let known = typed_known calls is m typed in
-    let same : signatures_in calls (heads calls is) ≡ signatures.signatures_of (offered calls) m =
+    let same : signatures_in calls (declarations calls is) ≡ signatures.signatures_of (offered calls) m =
     sym (same_signatures calls is m typed) in
     let count = classes_length env 0 (classes_of is) m.classes typed.classes in
     let interfaces = interfaces_length env (interfaces_of is) (classes_before 0 is) m.interfaces typed.interfaces in
@@ -74,12 +74,12 @@ module_sound calls is m nest typed =
           (globals_sound env (globals_of is) m.globals known typed.globals);
     }
   where
-    at : (m : modules.Module) → signatures_in calls (heads calls is) ≡ signatures.signatures_of (offered calls) m
+    at : (m : modules.Module) → signatures_in calls (declarations calls is) ≡ signatures.signatures_of (offered calls) m
         → (k : ℕ) (t : modules.Class) → slice_get m.classes k ≡ Some t
-        → slice_get (signatures_in calls (heads calls is)).classes (0 + k) ≡ Some (signatures.signature_of_class t)
+        → slice_get (signatures_in calls (declarations calls is)).classes (0 + k) ≡ Some (signatures.signature_of_class t)
     at m same k t h =
         let here : k ≡ 0 + k = omega arith in
-        subst (λ n. slice_get (signatures_in calls (heads calls is)).classes n ≡ Some (signatures.signature_of_class t))
+        subst (λ n. slice_get (signatures_in calls (declarations calls is)).classes n ≡ Some (signatures.signature_of_class t))
         here
         (subst (λ (s : signatures.Signatures). slice_get s.classes k ≡ Some (signatures.signature_of_class t))
         (sym same) (mapped signatures.signature_of_class m.classes k t h))

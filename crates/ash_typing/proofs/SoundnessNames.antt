@@ -25,14 +25,14 @@ use Rattle.ash_typing.specs.declared.types.Ty.TheVariants as ty
 use Rattle.ash_typing.specs.declared.forms.Callable.{Callable}
 use Rattle.ash_typing.specs.declared.forms.Callable.TheVariants as callables
 use Rattle.ash_typing.specs.Types.{var_type, result_type}
-use Rattle.ash_typing.specs.Environment.{Environment, Function, Interface, Class, Heads, Callee, first_from, is_called}
+use Rattle.ash_typing.specs.Environment.{Environment, Function, Interface, Class, ModuleDeclarations, Callee, first_from, is_called}
 use Rattle.ash_typing.specs.Environment.{is_class, is_interface_named, this_class, service_function, host_type}
 use Rattle.ash_typing.specs.Environment.{factory_in, factory_parameters, host_method, named_in, own_method_in, class_in}
 use Rattle.ash_typing.specs.Environment.{function_in, callee_beside, callee_in, method_in, class_method}
 use Rattle.ash_typing.specs.Environment.{interface_method, method_of_class, method_of_interface, method_of_array}
 use Rattle.ash_typing.specs.Environment.{method_of_kind, array_method_of, is_array_method, host_member_in, name_of_kind}
-use Rattle.ash_typing.specs.Heads.{object_named, class_type, interface_type, host_object, element_of, element_by}
-use Rattle.ash_typing.specs.Heads.{element_named}
+use Rattle.ash_typing.specs.ModuleDeclarations.{object_named, class_type, interface_type, host_object, element_of, element_by}
+use Rattle.ash_typing.specs.ModuleDeclarations.{element_named}
 use Rattle.ash_typing.specs.Typing.{IsKnown, IsKnownFunction, IsKnownInterface, IsKnownClass, IsVariableType}
 use Rattle.ash_typing.specs.Offered.{host_signature, kind_in, factory_at, method_at, function_at}
 use Rattle.ash_typing.specs.Soundness.{signature_of, signatures_of_interface, signature_of_class, signatures_in}
@@ -56,7 +56,7 @@ functions_found test fs known =
     go None h k = tt
     go (Some f) h k = (mapped signature_of fs f.0 f.1 h, k.parameters)
 
-host_method_found : (env : Environment) (kind : ℕ) (text : List ℕ) (call : host.Call)
+host_method_found : (env : Environment) (kind : ℕ) (text : List ℕ) (call : host.Registration)
     → host.takes_member (name_of_kind env.registered kind) text call ≡ true
     → ((id : ℕ) (of : HostSignature) → method_at (name_of_kind env.registered kind) id call ≡ Some of
     → Contains ((seen_in env).signatures.host.methods kind id) of)
@@ -78,9 +78,9 @@ pub method_sound : (env : Environment) (o : ObjectType) (text : List ℕ) → Is
     → IfSome (method_in env o text) (IsSoundMethod env o)
 unfolding method_in method_of_class method_of_interface method_of_array method_of_kind host_member_in
 method_sound env (OfClass i) text known =
-    go (slice_get env.heads.classes i) refl (if_get IsKnownClass env.heads.classes i known.classes)
+    go (slice_get env.declarations.classes i) refl (if_get IsKnownClass env.declarations.classes i known.classes)
   where
-    go : (c : Option Class) → slice_get env.heads.classes i ≡ c → IfSome c IsKnownClass
+    go : (c : Option Class) → slice_get env.declarations.classes i ≡ c → IfSome c IsKnownClass
         → IfSome (option_and_then (class_method i text) c) (IsSoundMethod env (OfClass i))
     go None e k = tt
     go (Some c) e k =
@@ -92,14 +92,14 @@ method_sound env (OfClass i) text known =
           parameters = found.1.parameters;
         }) (first_from (is_called text) 0 c.methods) (if_weaker (first_from (is_called text) 0 c.methods)
         (λ found h. (
-          operations.of_class {c = signature_of_class c} (mapped signature_of_class env.heads.classes i c e)
+          operations.of_class {c = signature_of_class c} (mapped signature_of_class env.declarations.classes i c e)
               h.0,
           h.1,
         )) (functions_found (is_called text) c.methods k.methods))
 method_sound env (OfInterface i) text known =
-    go (slice_get env.heads.interfaces i) refl (if_get IsKnownInterface env.heads.interfaces i known.interfaces)
+    go (slice_get env.declarations.interfaces i) refl (if_get IsKnownInterface env.declarations.interfaces i known.interfaces)
   where
-    go : (of : Option Interface) → slice_get env.heads.interfaces i ≡ of → IfSome of IsKnownInterface
+    go : (of : Option Interface) → slice_get env.declarations.interfaces i ≡ of → IfSome of IsKnownInterface
         → IfSome (option_and_then (interface_method i text) of) (IsSoundMethod env (OfInterface i))
     go None e k = tt
     go (Some of) e k =
@@ -110,11 +110,11 @@ method_sound env (OfInterface i) text known =
           result = found.1.result;
           parameters = found.1.parameters;
         }) (first_from (is_called text) 0 of.methods) (if_weaker (first_from (is_called text) 0 of.methods)
-        (λ found h. (operations.of_interface (mapped signatures_of_interface env.heads.interfaces i of e) h.0, h.1))
+        (λ found h. (operations.of_interface (mapped signatures_of_interface env.declarations.interfaces i of e) h.0, h.1))
         (functions_found (is_called text) of.methods k.methods))
 method_sound env (OfHost kind) text known =
     let name = name_of_kind env.registered kind in
-    if_then (λ (call : host.Call). (host.takes_member name text call ≡ true)
+    if_then (λ (call : host.Registration). (host.takes_member name text call ≡ true)
     × ((id : ℕ) (of : HostSignature) → method_at name id call ≡ Some of
     → Contains (filter_map (method_at name id) env.registered) of)) (IsSoundMethod env (OfHost kind)) host_method
     (find (host.takes_member name text) env.registered)
@@ -143,19 +143,19 @@ IsCalledWith env callee parameters =
 abbrev pub IsSoundCallee : Environment → Callee → Type 0
 IsSoundCallee env callee = IfSome callee.parameters (IsCalledWith env callee)
 
-pub class_takes : (env : Environment) (class : ℕ) (c : Class) → IsKnown env → slice_get env.heads.classes class ≡ Some c
+pub class_takes : (env : Environment) (class : ℕ) (c : Class) → IsKnown env → slice_get env.declarations.classes class ≡ Some c
     → operations.IsTarget (seen_in env).signatures (targets.Class class) (map var_type c.parameters)
     (result_type (ty.Handle (OfClass class))) × AllByRecursion IsVariableType c.parameters
 class_takes env class c known e = (
-  operations.class {c = signature_of_class c} (mapped signature_of_class env.heads.classes class c e),
-  (at_some IsKnownClass (slice_get env.heads.classes class) c
-      (if_get IsKnownClass env.heads.classes class known.classes) e).parameters,
+  operations.class {c = signature_of_class c} (mapped signature_of_class env.declarations.classes class c e),
+  (at_some IsKnownClass (slice_get env.declarations.classes class) c
+      (if_get IsKnownClass env.declarations.classes class known.classes) e).parameters,
 )
 
-abbrev function_by : ℕ × ℕ → host.Call → Option HostSignature
+abbrev function_by : ℕ × ℕ → host.Registration → Option HostSignature
 function_by key call = function_at key.0 key.1 call
 
-service_found : (env : Environment) (call : host.Call)
+service_found : (env : Environment) (call : host.Registration)
     → ((key : ℕ × ℕ) (of : HostSignature) → function_by key call ≡ Some of
     → Contains (filter_map (function_by key) env.registered) of) → IfSome (service_function call) (IsSoundCallee env)
 service_found env (host.AFunction service id operation) among =
@@ -180,7 +180,7 @@ factory_found : (env : Environment) (name : List ℕ) (kind : ℕ)
 unfolding factory_in
 factory_found env name kind among = go (find (host.is_factory_of name) env.registered) refl
   where
-    go : (found : Option host.Call) → find (host.is_factory_of name) env.registered ≡ found
+    go : (found : Option host.Registration) → find (host.is_factory_of name) env.registered ≡ found
         → IfSome (option_and_then factory_parameters found) (λ parameters.
         operations.IsTarget (seen_in env).signatures (targets.Host kind) (map var_type parameters)
         (Some (var_type (ty.Handle (OfHost kind)))) × AllByRecursion IsVariableType parameters)
@@ -196,7 +196,7 @@ factory_found env name kind among = go (find (host.is_factory_of name) env.regis
         )
     go (Some _) e = tt
 
-pub host_found : (env : Environment) (call : host.Call)
+pub host_found : (env : Environment) (call : host.Registration)
     → ((k : ℕ) (of : List Primitive) → factory_at env.registered k call ≡ Some of
     → Contains ((seen_in env).signatures.host.factories k) of)
     → IfSome (host_type env.registered call) (IsSoundCallee env)
@@ -204,7 +204,7 @@ host_found env (host.AType name kind) among = factory_found env name kind among
 host_found env _ among = tt
 
 own_found : (env : Environment) (text : List ℕ) (class : ℕ) (c : Class) → IsKnown env → env.this ≡ Some class
-    → slice_get env.heads.classes class ≡ Some c
+    → slice_get env.declarations.classes class ≡ Some c
     → IfSome (first_from (is_called text) 0 c.methods) (λ found.
     IsSoundCallee env (record {
       target = callables.OwnMethod class found.0 (result_type found.1.result);
@@ -213,13 +213,13 @@ own_found : (env : Environment) (text : List ℕ) (class : ℕ) (c : Class) → 
     }))
 own_found env text class c known this e =
     let of_class =
-    at_some IsKnownClass (slice_get env.heads.classes class) c
-    (if_get IsKnownClass env.heads.classes class known.classes) e in
+    at_some IsKnownClass (slice_get env.declarations.classes class) c
+    (if_get IsKnownClass env.declarations.classes class known.classes) e in
     if_weaker (first_from (is_called text) 0 c.methods)
     (λ found h. (
       (
         this,
-        operations.of_class {c = signature_of_class c} (mapped signature_of_class env.heads.classes class c e) h.0,
+        operations.of_class {c = signature_of_class c} (mapped signature_of_class env.declarations.classes class c e) h.0,
       ),
       h.1,
     )) (functions_found (is_called text) c.methods of_class.methods)
@@ -228,7 +228,7 @@ pub callee_sound : (env : Environment) (text : List ℕ) → IsKnown env → IfS
 unfolding callee_in
 callee_sound env text known =
     let Q = IsSoundCallee env in
-    let own = if_then (λ (c : ℕ × Class). (env.this ≡ Some c.0) × (slice_get env.heads.classes c.0 ≡ Some c.1)) Q
+    let own = if_then (λ (c : ℕ × Class). (env.this ≡ Some c.0) × (slice_get env.declarations.classes c.0 ≡ Some c.1)) Q
     (λ (c : ℕ × Class).
     option_map (λ (found : ℕ × Function).
     record {
@@ -243,19 +243,19 @@ callee_sound env text known =
       result = found.1.result;
       parameters = Some found.1.parameters;
     }) (first_from (is_called text) 0 c.1.methods) (own_found env text c.0 c.1 known h.0 h.1))
-    (this_is env.heads.classes env.this) in
+    (this_is env.declarations.classes env.this) in
     let function =
     if_map Q (λ (found : ℕ × Function).
     record {
       target = callables.Target (targets.Function found.0 (result_type found.1.result));
       result = found.1.result;
       parameters = Some found.1.parameters;
-    }) (first_from (is_called text) 0 env.heads.functions)
-    (if_weaker (first_from (is_called text) 0 env.heads.functions)
+    }) (first_from (is_called text) 0 env.declarations.functions)
+    (if_weaker (first_from (is_called text) 0 env.declarations.functions)
     (λ found h. (operations.function h.0, h.1))
-    (functions_found (is_called text) env.heads.functions known.functions)) in
+    (functions_found (is_called text) env.declarations.functions known.functions)) in
     let service =
-    if_then (λ (call : host.Call). (host.takes_name text call ≡ true)
+    if_then (λ (call : host.Registration). (host.takes_name text call ≡ true)
     × ((key : ℕ × ℕ) (of : HostSignature) → function_by key call ≡ Some of
     → Contains (filter_map (function_by key) env.registered) of)) Q service_function (named_in env.registered text)
     (λ call h. service_found env call h.1) (found_with (host.takes_name text) function_by env.registered) in
@@ -265,61 +265,61 @@ callee_sound env text known =
       target = callables.Target (targets.Class found.0);
       result = ty.Handle (OfClass found.0);
       parameters = Some found.1.parameters;
-    }) (first_from (is_class text) 0 env.heads.classes) (if_weaker (first_from (is_class text) 0 env.heads.classes)
-    (λ found h. class_takes env found.0 found.1 known h) (first_place (is_class text) env.heads.classes)) in
+    }) (first_from (is_class text) 0 env.declarations.classes) (if_weaker (first_from (is_class text) 0 env.declarations.classes)
+    (λ found h. class_takes env found.0 found.1 known h) (first_place (is_class text) env.declarations.classes)) in
     let kind = if_then
-    (λ (call : host.Call). (host.takes_name text call ≡ true)
+    (λ (call : host.Registration). (host.takes_name text call ≡ true)
     × ((k : ℕ) (of : List Primitive) → factory_at env.registered k call ≡ Some of
     → Contains (filter_map (factory_at env.registered k) env.registered) of)) Q (host_type env.registered)
     (named_in env.registered text)
     (λ call h. host_found env call h.1)
     (found_with (host.takes_name text) (factory_at env.registered) env.registered) in
-    if_or Q (own_method_in env text) (option_or (function_in env.heads.functions text) (callee_beside env text)) own
-    (if_or Q (function_in env.heads.functions text) (callee_beside env text) function
+    if_or Q (own_method_in env text) (option_or (function_in env.declarations.functions text) (callee_beside env text)) own
+    (if_or Q (function_in env.declarations.functions text) (callee_beside env text) function
     (if_or Q (option_and_then service_function (named_in env.registered text))
-    (option_or (class_in env.heads.classes text)
+    (option_or (class_in env.declarations.classes text)
     (option_and_then (host_type env.registered) (named_in env.registered text))) service
-    (if_or Q (class_in env.heads.classes text)
+    (if_or Q (class_in env.declarations.classes text)
     (option_and_then (host_type env.registered) (named_in env.registered text)) class kind)))
 
 -- types that are named
 
-kind_found : (calls : List host.Call) (heads : Heads) (call : host.Call)
+kind_found : (calls : List host.Registration) (declarations : ModuleDeclarations) (call : host.Registration)
     → ((kind : ℕ) → kind_in call ≡ Some kind → Contains (filter_map kind_in calls) kind)
-    → IfSome (host_object call) (IsObjectType (signatures_in calls heads))
-kind_found calls heads (host.AType name kind) among = object_host (among kind refl)
-kind_found calls heads _ among = tt
+    → IfSome (host_object call) (IsObjectType (signatures_in calls declarations))
+kind_found calls declarations (host.AType name kind) among = object_host (among kind refl)
+kind_found calls declarations _ among = tt
 
-pub object_sound : (calls : List host.Call) (heads : Heads) (name : List ℕ)
-    → IfSome (object_named calls heads name) (IsObjectType (signatures_in calls heads))
+pub object_sound : (calls : List host.Registration) (declarations : ModuleDeclarations) (name : List ℕ)
+    → IfSome (object_named calls declarations name) (IsObjectType (signatures_in calls declarations))
 unfolding object_named
-object_sound calls heads name =
-    let s = signatures_in calls heads in
+object_sound calls declarations name =
+    let s = signatures_in calls declarations in
     let Q = IsObjectType s in
     let class = if_map Q
-    (λ (found : ℕ × Class). OfClass found.0) (first_from (is_class name) 0 heads.classes)
-    (if_weaker (first_from (is_class name) 0 heads.classes)
+    (λ (found : ℕ × Class). OfClass found.0) (first_from (is_class name) 0 declarations.classes)
+    (if_weaker (first_from (is_class name) 0 declarations.classes)
     (λ found h. object_class
     (slice_get_within s.classes found.0 (signature_of_class found.1)
-    (mapped signature_of_class heads.classes found.0 found.1 h))) (first_place (is_class name) heads.classes)) in
+    (mapped signature_of_class declarations.classes found.0 found.1 h))) (first_place (is_class name) declarations.classes)) in
     let interface =
     if_map Q (λ (found : ℕ × Interface). OfInterface found.0)
-    (first_from (is_interface_named name) 0 heads.interfaces)
-    (if_weaker (first_from (is_interface_named name) 0 heads.interfaces)
+    (first_from (is_interface_named name) 0 declarations.interfaces)
+    (if_weaker (first_from (is_interface_named name) 0 declarations.interfaces)
     (λ found h. object_interface
     (slice_get_within s.interfaces found.0 (signatures_of_interface found.1)
-    (mapped signatures_of_interface heads.interfaces found.0 found.1 h)))
-    (first_place (is_interface_named name) heads.interfaces)) in
+    (mapped signatures_of_interface declarations.interfaces found.0 found.1 h)))
+    (first_place (is_interface_named name) declarations.interfaces)) in
     let kind = if_then
-    (λ (call : host.Call). (host.takes_name name call ≡ true)
+    (λ (call : host.Registration). (host.takes_name name call ≡ true)
     × ((key : Unit {0}) (kind : ℕ) → kind_in call ≡ Some kind → Contains (filter_map kind_in calls) kind)) Q
     host_object (find (host.takes_name name) calls)
-    (λ call h. kind_found calls heads call (h.1 tt))
+    (λ call h. kind_found calls declarations call (h.1 tt))
     (found_with (host.takes_name name) (λ (key : Unit {0}). kind_in) calls) in
-    if_or Q (class_type heads.classes name)
-    (option_or (interface_type heads.interfaces name)
+    if_or Q (class_type declarations.classes name)
+    (option_or (interface_type declarations.interfaces name)
     (option_and_then host_object (find (host.takes_name name) calls))) class
-    (if_or Q (interface_type heads.interfaces name)
+    (if_or Q (interface_type declarations.interfaces name)
     (option_and_then host_object (find (host.takes_name name) calls)) interface kind)
 
 primitive_element : (s : Signatures) (of : Primitive) → IsElement s (element_of of)
@@ -335,10 +335,10 @@ object_element s (OfInterface interface) (object_interface h) = element_interfac
 object_element s (OfHost kind) (object_host h) = element_host h
 object_element s (OfArray of) h = tt
 
-pub element_sound : (calls : List host.Call) (heads : Heads) (of : written.Element)
-    → IfSome (element_named calls heads of) (IsElement (signatures_in calls heads))
+pub element_sound : (calls : List host.Registration) (declarations : ModuleDeclarations) (of : written.Element)
+    → IfSome (element_named calls declarations of) (IsElement (signatures_in calls declarations))
 unfolding element_named
-element_sound calls heads (written.PrimElement p primitive) = primitive_element (signatures_in calls heads) primitive
-element_sound calls heads (written.HandleElement p name) =
-    if_then (IsObjectType (signatures_in calls heads)) (IsElement (signatures_in calls heads)) element_by
-    (object_named calls heads name) (object_element (signatures_in calls heads)) (object_sound calls heads name)
+element_sound calls declarations (written.PrimElement p primitive) = primitive_element (signatures_in calls declarations) primitive
+element_sound calls declarations (written.HandleElement p name) =
+    if_then (IsObjectType (signatures_in calls declarations)) (IsElement (signatures_in calls declarations)) element_by
+    (object_named calls declarations name) (object_element (signatures_in calls declarations)) (object_sound calls declarations name)

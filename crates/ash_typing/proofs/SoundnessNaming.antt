@@ -8,10 +8,10 @@ use Rattle.ash_typed.specs.Modules as modules
 use Rattle.ash_typed.specs.SoundModules.{name_of_function, name_of_variable, names_of_globals}
 use Rattle.ash_typing.specs.declared.types.Ty.{Ty}
 use Rattle.ash_typing.specs.Environment.{Environment}
-use Rattle.ash_typing.specs.Heads.{ty_in}
+use Rattle.ash_typing.specs.ModuleDeclarations.{ty_in}
 use Rattle.ash_typing.specs.Typing.{IsDeclared, declared as is_declared}
 use Rattle.ash_typing.specs.TypedModules.{AreVariables, IsFunction}
-use Rattle.ash_typing.proofs.TakenNames.{all_append, all_front, all_rest}
+use Rattle.ash_typing.proofs.TakenNames.{all_append, all_prefix, all_rest}
 use Rattle.ash_tree.specs.Items.{functions_of, globals_of, decl_name, names_of, variable_names, item_names}
 
 abbrev Distinct : List (List ℕ) → Type 0
@@ -29,7 +29,7 @@ unfolding IsDistinct
 distinct_fewer [] ys zs fewer d h = d
 distinct_fewer (x ∷ xs) ys zs fewer d h =
     let other : List ℕ → Type 0 = λ y. bytes_eq x y ≡ false in (
-      all_append other xs zs (all_front other xs ys h.0) (fewer other (all_rest other xs ys h.0)),
+      all_append other xs zs (all_prefix other xs ys h.0) (fewer other (all_rest other xs ys h.0)),
       distinct_fewer xs ys zs fewer d h.1,
     )
 
@@ -73,7 +73,7 @@ globals_among : (P : List ℕ → Type 0) (is : List written.Item) → AllByRecu
     → AllByRecursion P (variable_names (globals_of is))
 globals_among P [] h = tt
 globals_among P (written.AGlobal v ∷ is) h =
-    all_append P (names_of v) (variable_names (globals_of is)) (all_front P (names_of v) (item_names is) h)
+    all_append P (names_of v) (variable_names (globals_of is)) (all_prefix P (names_of v) (item_names is) h)
     (globals_among P is (all_rest P (names_of v) (item_names is) h))
 globals_among P (written.AFunction f ∷ is) h = globals_among P is h.1
 globals_among P (written.AClass c ∷ is) h = globals_among P is h.1

@@ -9,11 +9,11 @@ use Rattle.ash_typed.specs.Modules as modules
 use Rattle.ash_typed.specs.Signatures as signatures
 use Rattle.ash_typing.specs.declared.types.Ty.{Ty}
 use Rattle.ash_typing.specs.Types.{var_type, result_type}
-use Rattle.ash_typing.specs.Environment.{Environment, Heads, inside, type_declared}
-use Rattle.ash_typing.specs.Heads.{object_named, ty_named, result_named, declared, variables, parameter_ty}
-use Rattle.ash_typing.specs.Heads.{function_head, signature_head, interface_head, class_head, interface_place}
-use Rattle.ash_typing.specs.Heads.{with_place, listed_in, names_in, heads, ty_in, result_in, all_variables}
-use Rattle.ash_typing.specs.Heads.{constructed_by}
+use Rattle.ash_typing.specs.Environment.{Environment, ModuleDeclarations, inside, type_declared}
+use Rattle.ash_typing.specs.ModuleDeclarations.{object_named, ty_named, result_named, declared, variables, parameter_ty}
+use Rattle.ash_typing.specs.ModuleDeclarations.{function_head, signature_head, interface_head, class_head, interface_place}
+use Rattle.ash_typing.specs.ModuleDeclarations.{with_place, listed_in, names_in, declarations, ty_in, result_in, all_variables}
+use Rattle.ash_typing.specs.ModuleDeclarations.{constructed_by}
 use Rattle.ash_tree.specs.Items.{classes_of, interfaces_of, classes_before, functions_of, globals_of, fields_of}
 use Rattle.ash_tree.specs.Items.{methods_of, constructors_of}
 use Rattle.ash_typing.specs.Typing.{IsDeclared, declared as is_declared}
@@ -43,27 +43,27 @@ map-same f g one [] = refl
 map-same f g one (x ∷ xs) = ap₂ (λ y ys. y ∷ ys) (one x) (map-same f g one xs)
 
 -- what is written is looked up by these names as the environment does
-pub record NamesAgree (env : Environment) (calls : List host.Call) (named : Heads) : Type 0 where
+pub record NamesAgree (env : Environment) (calls : List host.Registration) (named : ModuleDeclarations) : Type 0 where
   pub types : (of : written.Named) → ty_in env of ≡ ty_named calls named of
-  pub names : (name : List ℕ) → object_named env.registered env.heads name ≡ object_named calls named name
+  pub names : (name : List ℕ) → object_named env.registered env.declarations name ≡ object_named calls named name
 
-within_class : {env : Environment} {calls : List host.Call} {named : Heads} → NamesAgree env calls named → (place : ℕ)
+within_class : {env : Environment} {calls : List host.Registration} {named : ModuleDeclarations} → NamesAgree env calls named → (place : ℕ)
     → NamesAgree (inside env place) calls named
 within_class agree place = record { types = agree.types; names = agree.names }
 
 -- functions and signatures
 
-same_result : {env : Environment} {calls : List host.Call} {named : Heads} → NamesAgree env calls named
+same_result : {env : Environment} {calls : List host.Registration} {named : ModuleDeclarations} → NamesAgree env calls named
     → (of : Option written.Named) → result_in env of ≡ result_named calls named of
 same_result agree None = refl
 same_result agree (Some of) = agree.types of
 
-same_parameters : {env : Environment} {calls : List host.Call} {named : Heads} → NamesAgree env calls named
+same_parameters : {env : Environment} {calls : List host.Registration} {named : ModuleDeclarations} → NamesAgree env calls named
     → (ps : List written.Parameter) → map (type_of_parameter env) ps ≡ map var_type (map (parameter_ty calls named) ps)
 same_parameters agree [] = refl
 same_parameters agree (p ∷ ps) = ap₂ (λ of rest. var_type of ∷ rest) (agree.types p.of) (same_parameters agree ps)
 
-same_function : {env : Environment} {calls : List host.Call} {named : Heads} → NamesAgree env calls named
+same_function : {env : Environment} {calls : List host.Registration} {named : ModuleDeclarations} → NamesAgree env calls named
     → (f : written.Function) (t : modules.Function) → IsFunction env f t
     → signatures.signature_of t ≡ signature_of (function_head calls named f)
 same_function agree f t is = λ i. record {
@@ -72,7 +72,7 @@ same_function agree f t is = λ i. record {
   parameters = (is.routine.parameters ∙ same_parameters agree f.parameters) i;
 }
 
-same_signature : {env : Environment} {calls : List host.Call} {named : Heads} → NamesAgree env calls named
+same_signature : {env : Environment} {calls : List host.Registration} {named : ModuleDeclarations} → NamesAgree env calls named
     → (m : written.InterfaceMethod) (t : modules.Signature) → IsSignature env m t
     → t ≡ signature_of (signature_head calls named m)
 same_signature agree m t is = λ i. record {
@@ -81,7 +81,7 @@ same_signature agree m t is = λ i. record {
   parameters = (is.parameters ∙ same_parameters agree m.parameters) i;
 }
 
-same_methods : {env : Environment} {calls : List host.Call} {named : Heads} → NamesAgree env calls named
+same_methods : {env : Environment} {calls : List host.Registration} {named : ModuleDeclarations} → NamesAgree env calls named
     → (fs : List written.Function) (ts : List modules.Function) → AllZip (IsFunction env) fs ts
     → map signatures.signature_of ts ≡ map signature_of (map (function_head calls named) fs)
 same_methods {env} {calls} {named} agree fs ts h =
@@ -101,7 +101,7 @@ same_variables env of ds vs h =
         → signatures.type_declared v ≡ type_declared (declared of d)
     one d v (is_declared i) = refl
 
-same_decls : {env : Environment} {calls : List host.Call} {named : Heads} → NamesAgree env calls named
+same_decls : {env : Environment} {calls : List host.Registration} {named : ModuleDeclarations} → NamesAgree env calls named
     → (v : written.Vars) (vs : List Initialization) → AllZip (IsDeclared env (ty_in env v.of)) v.decls vs
     → map signatures.type_declared vs ≡ map type_declared (variables calls named v)
 same_decls {env} agree v vs h =
@@ -110,7 +110,7 @@ same_decls {env} agree v vs h =
 
 -- classes
 
-same_fields : {env : Environment} {calls : List host.Call} {named : Heads} → NamesAgree env calls named
+same_fields : {env : Environment} {calls : List host.Registration} {named : ModuleDeclarations} → NamesAgree env calls named
     → (vs : List written.Vars) (ts : List Initialization) → AreFields env vs ts
     → map signatures.type_declared ts ≡ map type_declared (all_variables calls named vs)
 same_fields agree [] ts h = ap (map signatures.type_declared) h
@@ -119,7 +119,7 @@ same_fields {env} {calls} {named} agree (v ∷ vs) ts h =
     ∙ ap₂ (λ xs ys. xs ++ ys) (same_decls agree v h.0 h.3) (same_fields agree vs h.1 h.4)
     ∙ sym (map-append type_declared (variables calls named v) (all_variables calls named vs))
 
-same_construction : {env : Environment} {calls : List host.Call} {named : Heads} → NamesAgree env calls named
+same_construction : {env : Environment} {calls : List host.Registration} {named : ModuleDeclarations} → NamesAgree env calls named
     → (class : List ℕ) (cs : List written.Constructor) (t : Option modules.Function) → HasConstructor env class cs t
     → signatures.parameters_of t ≡ map var_type (constructed_by calls named cs)
 same_construction agree class [] None h = refl
@@ -128,7 +128,7 @@ same_construction agree class (c ∷ []) None h = absurd h
 same_construction agree class (c ∷ []) (Some t) h = h.routine.parameters ∙ same_parameters agree c.parameters
 same_construction agree class (c ∷ (d ∷ cs)) t h = absurd h
 
-same_listed : {env : Environment} {calls : List host.Call} {named : Heads} → NamesAgree env calls named
+same_listed : {env : Environment} {calls : List host.Registration} {named : ModuleDeclarations} → NamesAgree env calls named
     → (place : ℕ) (ns : List written.TypeName) (is : List modules.Implementation) → AllZip (IsListed env place) ns is
     → map signatures.place_of_interface is ≡ listed_in calls named ns
 same_listed agree place [] [] h = refl
@@ -139,7 +139,7 @@ same_listed {env} {calls} {named} agree place (n ∷ ns) (i ∷ is) h =
     ∙ ap (λ (o : Option ObjectType). with_place (interface_place o) (listed_in calls named ns))
     (sym h.0.interface ∙ agree.names n.name)
 
-same_class : {env : Environment} {calls : List host.Call} {named : Heads} → NamesAgree env calls named
+same_class : {env : Environment} {calls : List host.Registration} {named : ModuleDeclarations} → NamesAgree env calls named
     → (place : ℕ) (c : written.Class) (t : modules.Class) → IsClass env place c t
     → signatures.signature_of_class t ≡ signature_of_class (class_head calls named c)
 same_class {env} {calls} {named} agree place c t is =
@@ -152,7 +152,7 @@ same_class {env} {calls} {named} agree place c t is =
 
 -- modules
 
-same_interface : {env : Environment} {calls : List host.Call} {named : Heads} → NamesAgree env calls named
+same_interface : {env : Environment} {calls : List host.Registration} {named : ModuleDeclarations} → NamesAgree env calls named
     → (i : written.Interface) (classes : ℕ) (t : modules.Interface) → IsInterface env i classes t
     → signatures.methods_of_interface t ≡ signatures_of_interface (interface_head calls named i)
 same_interface {env} {calls} {named} agree i classes t is =
@@ -165,7 +165,7 @@ same_interface {env} {calls} {named} agree i classes t is =
     map-itself [] = refl
     map-itself (m ∷ ms) = ap (λ rest. m ∷ rest) (map-itself ms)
 
-same_interfaces : {env : Environment} {calls : List host.Call} {named : Heads} → NamesAgree env calls named
+same_interfaces : {env : Environment} {calls : List host.Registration} {named : ModuleDeclarations} → NamesAgree env calls named
     → (is : List written.Interface) (ns : List ℕ) (ts : List modules.Interface) → AreInterfaces env is ns ts
     → map signatures.methods_of_interface ts ≡ map signatures_of_interface (map (interface_head calls named) is)
 same_interfaces agree [] [] [] h = refl
@@ -176,7 +176,7 @@ same_interfaces agree (i ∷ is) (n ∷ ns) [] h = absurd h
 same_interfaces agree (i ∷ is) (n ∷ ns) (t ∷ ts) h =
     ap₂ (λ x xs. x ∷ xs) (same_interface agree i n t h.0) (same_interfaces agree is ns ts h.1)
 
-same_classes : {env : Environment} {calls : List host.Call} {named : Heads} → NamesAgree env calls named
+same_classes : {env : Environment} {calls : List host.Registration} {named : ModuleDeclarations} → NamesAgree env calls named
     → (place : ℕ) (cs : List written.Class) (ts : List modules.Class) → AreClasses env place cs ts
     → map signatures.signature_of_class ts ≡ map signature_of_class (map (class_head calls named) cs)
 same_classes agree place [] [] h = refl
@@ -185,7 +185,7 @@ same_classes agree place (c ∷ cs) [] h = absurd h
 same_classes agree place (c ∷ cs) (t ∷ ts) h =
     ap₂ (λ x xs. x ∷ xs) (same_class agree place c t h.0) (same_classes agree (place + 1) cs ts h.1)
 
-same_globals : {env : Environment} {calls : List host.Call} {named : Heads} → NamesAgree env calls named
+same_globals : {env : Environment} {calls : List host.Registration} {named : ModuleDeclarations} → NamesAgree env calls named
     → (vs : List written.Vars) (ts : List modules.Variables) → AllZip (AreVariables env) vs ts
     → signatures.types_of_globals ts ≡ map type_declared (all_variables calls named vs)
 same_globals agree [] [] h = refl
@@ -196,9 +196,9 @@ same_globals {env} {calls} {named} agree (v ∷ vs) (t ∷ ts) h =
     ∙ sym (map-append type_declared (variables calls named v) (all_variables calls named vs))
 
 -- what the items of a module see
-pub same_signatures : (calls : List host.Call) (is : List written.Item) (m : modules.Module) → IsTyped calls is m
-    → signatures.signatures_of (offered calls) m ≡ signatures_in calls (heads calls is)
-unfolding heads
+pub same_signatures : (calls : List host.Registration) (is : List written.Item) (m : modules.Module) → IsTyped calls is m
+    → signatures.signatures_of (offered calls) m ≡ signatures_in calls (declarations calls is)
+unfolding declarations
 same_signatures calls is m typed =
     let named = names_in is in
     let agree : NamesAgree (environment calls is) calls named =

@@ -1,4 +1,4 @@
--- What the rules of typing type is a sound statement, where variables are declared in blocks and in heads of loops
+-- What the rules of typing type is a sound statement, where variables are declared in blocks and in declarations of loops
 -- alone.
 use Rattle.std.specs.List.{AllByRecursion, list_any}
 use Rattle.std.proofs.lemmas.Bool.{eqb-true, eq-eqb, leb-true}
@@ -20,8 +20,8 @@ use Rattle.ash_typing.specs.declared.types.Ty.{Ty}
 use Rattle.ash_typing.specs.declared.types.Ty.TheVariants as ty
 use Rattle.ash_typing.specs.Types.{var_type, result_type}
 use Rattle.ash_typing.specs.Environment.{Environment, Class, type_declared}
-use Rattle.ash_typing.specs.Fitting.{fits}
-use Rattle.ash_typing.specs.Heads.{ty_in}
+use Rattle.ash_typing.specs.Coercions.{fits}
+use Rattle.ash_typing.specs.ModuleDeclarations.{ty_in}
 use Rattle.ash_typing.specs.Returning.{is_default}
 use Rattle.ash_typing.specs.Labels.{holds_minus, holds_label, is_same_constant, is_last}
 use Rattle.ash_typing.specs.Typing.{IsKnown, AllHaveType, none_left, each}
@@ -40,7 +40,7 @@ use Rattle.ash_typing.proofs.StatementsSound.{decls_known, more_known}
 use Rattle.ash_typing.proofs.SoundnessTypes.{of_type, within, fits_sound}
 use Rattle.ash_typing.proofs.SoundnessExpressions.{term_sound}
 use Rattle.ash_typing.proofs.SoundnessVariables.{type_sound, seen_with, variables_sound}
-use Rattle.ash_typing.specs.Scopes.{Scope, block_of, loop_of, switch_of, with_variables, declared_in, behind}
+use Rattle.ash_typing.specs.Scopes.{Scope, block_of, loop_of, switch_of, with_variables, declared_in, after}
 
 -- scopes
 
@@ -108,8 +108,8 @@ steps_sound (each h rest) known = ((_, (term_sound h known).gives), steps_sound 
 record IsSoundHead (scope : Scope) (f : written.Stmt) (h : Head) : Type 0 where
   types : List VarType
   head : sound_statements.IsHead (seen_in scope.env) h types
-  known : IsKnownScope (behind scope f)
-  seen : seen_at (behind scope f) ≡ sound_statements.declaring (seen_at scope) types
+  known : IsKnownScope (after scope f)
+  seen : seen_at (after scope f) ≡ sound_statements.declaring (seen_at scope) types
 
 head_sound : {scope : Scope} {f : written.Stmt} {h : Head} → IsHead scope f h → IsKnownScope scope
     → IsSoundHead scope f h
@@ -119,7 +119,7 @@ head_sound {scope} (head_declares {v = v} is are) known = record {
   types = map type_declared (declared_in scope v);
   head = sound_statements.head_declares
       (variables_sound are known is (variable_is_known (ty_in scope.env v.of) is)
-      (type_sound scope.env.registered scope.env.heads v.of is));
+      (type_sound scope.env.registered scope.env.declarations v.of is));
   known = more_known scope (declared_in scope v) known (decls_known (ty_in scope.env v.of) v.decls is);
   seen = declaring_is scope v;
 }
@@ -203,11 +203,11 @@ no_rows (more_cases l ss rest) h = absurd (cc)
 -- a statement, by itself and with what follows it in its block
 record IsSoundStmt (scope : Scope) (s : written.Stmt) (t : Stmt) : Type 0 where
   alone : IsNoDeclaration s → sound_statements.IsStmt (seen_at scope) t
-  followed : (ts : Stmts) → sound_statements.AreStmts (seen_at (behind scope s)) ts
+  followed : (ts : Stmts) → sound_statements.AreStmts (seen_at (after scope s)) ts
       → sound_statements.AreStmts (seen_at scope) (stmt t ts)
-  known : IsKnownScope (behind scope s)
+  known : IsKnownScope (after scope s)
 
-plain : (scope : Scope) (s : written.Stmt) (t : Stmt) → behind scope s ≡ scope → IsKnownScope scope
+plain : (scope : Scope) (s : written.Stmt) (t : Stmt) → after scope s ≡ scope → IsKnownScope scope
     → sound_statements.IsStmt (seen_at scope) t → IsSoundStmt scope s t
 plain scope s t e known h = record {
   alone = λ n. h;
@@ -217,7 +217,7 @@ plain scope s t e known h = record {
 }
 
 -- what is no declaration changes nothing of what is seen
-same_after : (scope : Scope) (s : written.Stmt) → IsNoDeclaration s → behind scope s ≡ scope
+same_after : (scope : Scope) (s : written.Stmt) → IsNoDeclaration s → after scope s ≡ scope
 same_after scope (written.Declare p v) h = absurd h
 same_after scope _ h = refl
 
@@ -235,7 +235,7 @@ mutual
     followed = λ ts more.
         sound_statements.declare
         (variables_sound are known is (variable_is_known (ty_in scope.env v.of) is)
-        (type_sound scope.env.registered scope.env.heads v.of is))
+        (type_sound scope.env.registered scope.env.declarations v.of is))
         (subst (λ next. sound_statements.AreStmts next ts) (declaring_is scope v) more);
     known = more_known scope (declared_in scope v) known (decls_known (ty_in scope.env v.of) v.decls is);
   }
@@ -268,7 +268,7 @@ mutual
       let head = head_sound i (block_known scope known) in
       let inside =
       sound_statements.loop {test = First} (maybe_sound m head.known.env) (steps_sound all head.known.env)
-      ((stmt_sound body (loop_known (behind (block_of scope) f) head.known) nest.1).alone nest.0) in
+      ((stmt_sound body (loop_known (after (block_of scope) f) head.known) nest.1).alone nest.0) in
       plain scope (written.For p f c es s) (For p.line g (repeated First tree (map tree_of_term ts) t)) refl known
       (sound_statements.for head.head
       (subst (λ next. sound_statements.IsLoop next (repeated First tree (map tree_of_term ts) t)) head.seen inside))
@@ -286,7 +286,7 @@ mutual
       (sound_statements.return_nothing (ap result_type h))
   stmt_sound {scope} (return_value {p = p} {e = e} {t = t} h i) known nest =
       plain scope (written.Return p (Some e)) (Return p.line (Some (converted_to scope.gives t))) refl known
-      (sound_statements.return_value (returned_type scope.env.heads.classes scope.gives t.ty i)
+      (sound_statements.return_value (returned_type scope.env.declarations.classes scope.gives t.ty i)
       (fits_sound scope.env scope.gives t known.gives (known_type h known.env) (term_sound h known.env).gives i))
 
   pub stmts_sound : {scope : Scope} {ss : written.Stmts} {ts : Stmts} → AreStmts scope ss ts → IsKnownScope scope

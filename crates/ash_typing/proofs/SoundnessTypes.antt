@@ -22,14 +22,14 @@ use Rattle.ash_typed.specs.SoundOperations as operations
 use Rattle.ash_typed.specs.SoundExpressions as sound
 use Rattle.ash_typing.specs.declared.types.Ty.{Ty}
 use Rattle.ash_typing.specs.declared.types.Ty.TheVariants as ty
-use Rattle.ash_typing.specs.declared.forms.Sort.{Sort}
-use Rattle.ash_typing.specs.declared.forms.Sort.TheVariants as sort
+use Rattle.ash_typing.specs.declared.forms.OperatorClass.{OperatorClass}
+use Rattle.ash_typing.specs.declared.forms.OperatorClass.TheVariants as sort
 use Rattle.ash_typing.specs.declared.forms.Form.{Form}
 use Rattle.ash_typing.specs.declared.forms.Form.TheVariants as form
 use Rattle.ash_typing.specs.Types.{is_same_kind, is_same_element, is_same_object, holds, kind_of, meeting, common}
 use Rattle.ash_typing.specs.Types.{gives_object, agrees, sort_of, meets, outcome, var_type, value_type}
 use Rattle.ash_typing.specs.Environment.{Environment, Class}
-use Rattle.ash_typing.specs.Fitting.{has_interface, lists, is_of, fits}
+use Rattle.ash_typing.specs.Coercions.{has_interface, lists, is_of, fits}
 use Rattle.ash_typing.specs.Terms.{conversion, operand_type, applied, Term, converted_to, taking, adapted_to, right_by}
 use Rattle.ash_typing.specs.Typing.{is_known, IsKnownType}
 use Rattle.ash_typing.specs.Soundness.{signature_of_class, seen_in}
@@ -115,13 +115,13 @@ taking_sound env a (ty.Integer k) (form.Number n) t h = taken_sound env k n t (h
 taking_sound env a of b t h = h
 
 -- the operand of an operator whose other operand is this
-pub adapted_sound : (env : Environment) (s : Sort) (other t : Term) → GivesType env t.tree t.ty
+pub adapted_sound : (env : Environment) (s : OperatorClass) (other t : Term) → GivesType env t.tree t.ty
     → GivesType env (adapted_to s other t).tree (adapted_to s other t).ty
 adapted_sound env sort.Shift other t h = h
 adapted_sound env _ other t h = taking_sound env other.form other.ty t.form t h
 
 -- what the operands of an operator give, by what it is of
-abbrev AreOperands : Environment → Sort → Operands → Expr → Expr → Type 0
+abbrev AreOperands : Environment → OperatorClass → Operands → Expr → Expr → Type 0
 AreOperands env sort.Arithmetic (operands.Integers k) a b =
     GivesType env a (ty.Integer k) × GivesType env b (ty.Integer k)
 AreOperands env sort.Shift (operands.Integers k) a b =
@@ -137,7 +137,7 @@ AreOperands env sort.Identity operands.Handles a b =
 AreOperands env _ _ _ _ = ⊥
 
 -- what becomes of two terms
-abbrev AreMet : Environment → Sort → Operands → Ty → Ty → Form → Expr → Expr → Type 0
+abbrev AreMet : Environment → OperatorClass → Operands → Ty → Ty → Form → Expr → Expr → Type 0
 AreMet env s o a b f x y =
     AreOperands env s o (converted (conversion (operand_type o) a) x)
     (right_by s o (record { ty = b; form = f; tree = y }))
@@ -226,7 +226,7 @@ identity_sound env a b f x y o k l h i e =
     subst (λ o. AreMet env sort.Identity o a b f x y) c.1
     (value_type a, value_type b, h, reference_operand a r.0, i, reference_operand b r.1)
 
-met_sound : (env : Environment) (s : Sort) (a b : Ty) (f : Form) (x y : Expr) (o : Operands) → is_known a ≡ true
+met_sound : (env : Environment) (s : OperatorClass) (a b : Ty) (f : Form) (x y : Expr) (o : Operands) → is_known a ≡ true
     → is_known b ≡ true → GivesType env x a → GivesType env y b → meets s a b ≡ Some o → AreMet env s o a b f x y
 met_sound env sort.Arithmetic a b f x y o k l h i e = arithmetic_sound env a b f x y o h i e
 met_sound env sort.Shift a b f x y o k l h i e = shift_sound env a b f x y o h i e
@@ -338,20 +338,20 @@ abbrev IsObjectOf : Environment → ObjectType → ObjectType → Type 0
 IsObjectOf env o p = IsSubtype (seen_in env).signatures (value (vars.Handle p)) (value (vars.Handle o))
 
 listed_in_class : (env : Environment) (interface class : ℕ) (found : Option Class)
-    → slice_get env.heads.classes class ≡ found → option_map_or (has_interface interface) found false ≡ true
+    → slice_get env.declarations.classes class ≡ found → option_map_or (has_interface interface) found false ≡ true
     → IsObjectOf env (objects.Interface interface) (objects.Class class)
 listed_in_class env interface class None e h = absurd (cc)
 listed_in_class env interface class (Some c) e h =
-    listed {c = signature_of_class c} (mapped signature_of_class env.heads.classes class c e)
+    listed {c = signature_of_class c} (mapped signature_of_class env.declarations.classes class c e)
     (Contains-from_any eqb-true interface c.interfaces h)
 
 same_subtype : (env : Environment) (o p : ObjectType) → is_same_object o p ≡ true → IsObjectOf env o p
 same_subtype env o p h = subst (λ q. IsObjectOf env q p) (sym (equal_objects o p h)) same
 
-subtype : (env : Environment) (o p : ObjectType) → is_of env.heads.classes o p ≡ true → IsObjectOf env o p
+subtype : (env : Environment) (o p : ObjectType) → is_of env.declarations.classes o p ≡ true → IsObjectOf env o p
 unfolding lists
 subtype env (objects.Interface interface) (objects.Class class) h =
-    listed_in_class env interface class (slice_get env.heads.classes class) refl h
+    listed_in_class env interface class (slice_get env.declarations.classes class) refl h
 subtype env o p h = same_subtype env o p h
 
 -- An expression that fits a type may be stored in a variable of it, once it is converted.
@@ -359,7 +359,7 @@ abbrev IsStored : Environment → Ty → Ty → Expr → Type 0
 IsStored env of t tree = sound.Fits (seen_in env) (var_type of) (converted (conversion of t) tree)
 
 object_stored : (env : Environment) (o : ObjectType) (t : Ty) (tree : Expr) → is_known t ≡ true → GivesType env tree t
-    → fits env.heads.classes (ty.Handle o) t ≡ true → IsStored env (ty.Handle o) t tree
+    → fits env.declarations.classes (ty.Handle o) t ≡ true → IsStored env (ty.Handle o) t tree
 object_stored env o (ty.Object p) tree k h e = sound.fits h (subtype env o p e)
 object_stored env o (ty.Handle p) tree k h e = sound.fits h (subtype env o p e)
 object_stored env o ty.Null tree k h e = sound.fits h null
@@ -369,7 +369,7 @@ object_stored env o (ty.Integer j) tree k h e = absurd (cc)
 object_stored env o ty.Void tree k h e = absurd (cc)
 
 stored_sound : (env : Environment) (of t : Ty) (tree : Expr) → is_known of ≡ true → is_known t ≡ true
-    → GivesType env tree t → fits env.heads.classes of t ≡ true → IsStored env of t tree
+    → GivesType env tree t → fits env.declarations.classes of t ≡ true → IsStored env of t tree
 stored_sound env ty.Unknown t tree v k h e = absurd (cc)
 stored_sound env (ty.Object o) t tree v k h e = handle_of_object (object_stored env o t tree k h e)
   where
@@ -384,6 +384,6 @@ stored_sound env (ty.Integer j) ty.Unknown tree v k h e = absurd (cc)
 stored_sound env of t tree v k h e = absurd (cc)
 
 pub fits_sound : (env : Environment) (of : Ty) (t : Term) → IsKnownType of → IsKnownType t.ty
-    → GivesType env t.tree t.ty → fits env.heads.classes of t.ty ≡ true
+    → GivesType env t.tree t.ty → fits env.declarations.classes of t.ty ≡ true
     → sound.Fits (seen_in env) (var_type of) (converted_to of t)
 fits_sound env of t v k h e = stored_sound env of t.ty t.tree v k h e

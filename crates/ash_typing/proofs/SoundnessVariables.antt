@@ -26,10 +26,10 @@ use Rattle.ash_typing.specs.declared.types.Ty.{Ty}
 use Rattle.ash_typing.specs.declared.types.Ty.TheVariants as ty
 use Rattle.ash_typing.specs.declared.forms.Callable.TheVariants as callables
 use Rattle.ash_typing.specs.Types.{is_interface, object_of, var_type, ty_of}
-use Rattle.ash_typing.specs.Environment.{Environment, Declared, Class, Heads, Callee, host_type, with_locals}
+use Rattle.ash_typing.specs.Environment.{Environment, Declared, Class, ModuleDeclarations, Callee, host_type, with_locals}
 use Rattle.ash_typing.specs.Environment.{class_built, class_construction, kind_construction, construction}
 use Rattle.ash_typing.specs.Environment.{type_declared}
-use Rattle.ash_typing.specs.Heads.{object_named, element_named, array_named, object_ty, handle_ty, ty_named, declared}
+use Rattle.ash_typing.specs.ModuleDeclarations.{object_named, element_named, array_named, object_ty, handle_ty, ty_named, declared}
 use Rattle.ash_typing.specs.Terms.{call_of, Term}
 use Rattle.ash_typing.specs.Scopes.{Scope}
 use Rattle.ash_typing.specs.Typing.{IsKnown, IsKnownType, IsVariableType, is_object, IsConstructed, construct}
@@ -70,29 +70,29 @@ handle_type : (s : signatures.Signatures) (o : Option ObjectType) → IfSome o (
 handle_type s None h v = absurd (cc)
 handle_type s (Some o) h v = signatures.handle h
 
-array_sound : (calls : List host.Call) (heads : Heads) (of : written.Element)
-    → IfSome (array_named calls heads of) (signatures.IsObjectType (signatures_in calls heads))
-array_sound calls heads of = go (element_named calls heads of) (element_sound calls heads of)
+array_sound : (calls : List host.Registration) (declarations : ModuleDeclarations) (of : written.Element)
+    → IfSome (array_named calls declarations of) (signatures.IsObjectType (signatures_in calls declarations))
+array_sound calls declarations of = go (element_named calls declarations of) (element_sound calls declarations of)
   where
-    go : (found : Option Element) → IfSome found (signatures.IsElement (signatures_in calls heads))
-        → IfSome (option_map OfArray found) (signatures.IsObjectType (signatures_in calls heads))
+    go : (found : Option Element) → IfSome found (signatures.IsElement (signatures_in calls declarations))
+        → IfSome (option_map OfArray found) (signatures.IsObjectType (signatures_in calls declarations))
     go None h = tt
     go (Some e) h = signatures.array h
 
 -- a type of variables is in range
-pub type_sound : (calls : List host.Call) (heads : Heads) (of : written.Named)
-    → IsVariableType (ty_named calls heads of)
-    → signatures.IsVariableType (signatures_in calls heads) (var_type (ty_named calls heads of))
+pub type_sound : (calls : List host.Registration) (declarations : ModuleDeclarations) (of : written.Named)
+    → IsVariableType (ty_named calls declarations of)
+    → signatures.IsVariableType (signatures_in calls declarations) (var_type (ty_named calls declarations of))
 unfolding ty_named
-type_sound calls heads (written.Prim p primitive) v = primitive_type (signatures_in calls heads) primitive
-type_sound calls heads (written.Object p name) v =
-    object_type (signatures_in calls heads) (object_named calls heads name) (object_sound calls heads name) v
-type_sound calls heads (written.Handle p name) v =
-    handle_type (signatures_in calls heads) (object_named calls heads name) (object_sound calls heads name) v
-type_sound calls heads (written.Array p of) v =
-    object_type (signatures_in calls heads) (array_named calls heads of) (array_sound calls heads of) v
-type_sound calls heads (written.ArrayHandle p of) v =
-    handle_type (signatures_in calls heads) (array_named calls heads of) (array_sound calls heads of) v
+type_sound calls declarations (written.Prim p primitive) v = primitive_type (signatures_in calls declarations) primitive
+type_sound calls declarations (written.Object p name) v =
+    object_type (signatures_in calls declarations) (object_named calls declarations name) (object_sound calls declarations name) v
+type_sound calls declarations (written.Handle p name) v =
+    handle_type (signatures_in calls declarations) (object_named calls declarations name) (object_sound calls declarations name) v
+type_sound calls declarations (written.Array p of) v =
+    object_type (signatures_in calls declarations) (array_named calls declarations of) (array_sound calls declarations of) v
+type_sound calls declarations (written.ArrayHandle p of) v =
+    handle_type (signatures_in calls declarations) (array_named calls declarations of) (array_sound calls declarations of) v
 
 -- objects
 
@@ -105,7 +105,7 @@ record Builds (env : Environment) (o : ObjectType) (callee : Callee) : Type 0 wh
       operations.IsTarget (seen_in env).signatures target (map var_type parameters) (Some (vars.Handle o))
       × AllByRecursion IsVariableType parameters)
 
-host_built : (env : Environment) (kind : ℕ) (call : host.Call) → host.takes_kind kind call ≡ true
+host_built : (env : Environment) (kind : ℕ) (call : host.Registration) → host.takes_kind kind call ≡ true
     → ((k : ℕ) (of : List Primitive) → factory_at env.registered k call ≡ Some of
     → Contains (filter_map (factory_at env.registered k) env.registered) of)
     → IfSome (host_type env.registered call) (Builds env (OfHost kind))
@@ -122,9 +122,9 @@ host_built env kind _ e among = tt
 construction_builds : (env : Environment) (o : ObjectType) (count : ℕ) → IsKnown env
     → signatures.IsObjectType (seen_in env).signatures o → IfSome (construction env o count) (Builds env o)
 unfolding construction class_construction kind_construction
-construction_builds env (OfClass place) count known h = go (slice_get env.heads.classes place) refl
+construction_builds env (OfClass place) count known h = go (slice_get env.declarations.classes place) refl
   where
-    go : (c : Option Class) → slice_get env.heads.classes place ≡ c
+    go : (c : Option Class) → slice_get env.declarations.classes place ≡ c
         → IfSome (option_map (class_built place) c) (Builds env (OfClass place))
     go None e = tt
     go (Some c) e = record {
@@ -135,7 +135,7 @@ construction_builds env (OfClass place) count known h = go (slice_get env.heads.
     }
 construction_builds env (OfInterface place) count known h = tt
 construction_builds env (OfHost kind) count known h =
-    if_then (λ (call : host.Call). (host.takes_kind kind call ≡ true)
+    if_then (λ (call : host.Registration). (host.takes_kind kind call ≡ true)
     × ((k : ℕ) (of : List Primitive) → factory_at env.registered k call ≡ Some of
     → Contains (filter_map (factory_at env.registered k) env.registered) of)) (Builds env (OfHost kind))
     (host_type env.registered) (find (host.takes_kind kind) env.registered)
@@ -220,7 +220,7 @@ map-append f (x ∷ xs) ys = ap (λ zs. f x ∷ zs) (map-append f xs ys)
 pub seen_with : (env : Environment) (vs : List Declared)
     → seen_in (with_locals env (env.locals ++ vs)) ≡ sound_statements.with_locals (seen_in env) (map type_declared vs)
 seen_with env vs =
-    ap (λ locals. record { signatures = signatures_in env.registered env.heads; this = env.this; locals = locals })
+    ap (λ locals. record { signatures = signatures_in env.registered env.declarations; this = env.this; locals = locals })
     (map-append type_declared env.locals vs)
 
 is_of : {env : Environment} {of : Ty} {d : written.Decl} {v : Initialization} → IsDeclared env of d v

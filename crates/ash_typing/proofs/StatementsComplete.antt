@@ -9,8 +9,8 @@ use Rattle.ash_tree.specs.Tree as written
 use Rattle.ash_typed.specs.declared.types.Kind.{Kind}
 use Rattle.ash_typing.specs.declared.types.Ty.{Ty}
 use Rattle.ash_typing.specs.declared.types.Ty.TheVariants as ty
-use Rattle.ash_typing.specs.Fitting.{fits}
-use Rattle.ash_typing.specs.Checking.{Checking}
+use Rattle.ash_typing.specs.Coercions.{fits}
+use Rattle.ash_typing.specs.TypingResult.{TypingResult}
 use Rattle.ash_typed.specs.declared.tree.statements.Test.TheVariants.{First, Last}
 use Rattle.ash_typed.specs.Tree.{Expr}
 use Rattle.ash_typed.specs.StatementTree.{Initialization, Stmt, If, no_branch, branch, Head, Repeat, For, repeated}
@@ -18,7 +18,7 @@ use Rattle.ash_typed.specs.StatementTree.{Switch, Break, Continue, Return, Stmts
 use Rattle.ash_typing.specs.Environment.{Environment, Class}
 use Rattle.ash_typing.specs.Expressions.{Typed, typed, all_typed, integer_of, bool_of, is_void, first_at, placed}
 use Rattle.ash_typing.specs.Expressions.{all_placed}
-use Rattle.ash_typing.specs.Heads.{declared, ty_in}
+use Rattle.ash_typing.specs.ModuleDeclarations.{declared, ty_in}
 use Rattle.ash_typing.specs.Declarations.{at_type, known_ty, decl_typed}
 use Rattle.ash_typing.specs.Returning.{is_default}
 use Rattle.ash_typing.specs.Switches.{kind_in, is_within, constant_typed, label_typed}
@@ -34,11 +34,11 @@ use Rattle.ash_typing.specs.TypedStatements.{switch, break_out, continue_on, ret
 use Rattle.ash_typing.specs.TypedStatements.{no_more_stmts, more_stmts, AreCases, no_more_cases, more_cases}
 use Rattle.ash_typing.proofs.Bindings.{bind_is}
 use Rattle.ash_typing.proofs.TypedVariables.{known_complete}
-use Rattle.ash_typing.proofs.TypingComplete.{complete, all_complete, all_terms, terms, fitted_is}
+use Rattle.ash_typing.proofs.TypingComplete.{complete, all_complete, all_terms, terms, coerced_for_assignment_is}
 use Rattle.ash_typing.proofs.TypingVariables.{declared_complete}
 use Rattle.ash_typing.specs.Terms.{Term, converted_to}
 use Rattle.ash_typing.specs.Labels.{holds_label, is_same_constant, is_last}
-use Rattle.ash_typing.specs.Scopes.{Scope, behind, block_of, loop_of, switch_of, with_variables, is_taken}
+use Rattle.ash_typing.specs.Scopes.{Scope, after, block_of, loop_of, switch_of, with_variables, is_taken}
 
 -- variables
 
@@ -105,7 +105,7 @@ pub trees_of : (ts : List Typed) → map tree_of ts ≡ map tree_of_term (terms 
 trees_of [] = refl
 trees_of (t ∷ ts) = ap (λ (es : List Expr). t.tree ∷ es) (trees_of ts)
 
--- heads
+-- declarations
 
 head_complete : {scope : Scope} {f : written.Stmt} {g : Head} → IsHead scope f g → head_typed scope f ≡ Ok g
 unfolding head_typed
@@ -118,30 +118,30 @@ head_complete (head_evaluates {scope = scope} {e = e} {t = t} h) =
 
 -- statements of which the parts are typed
 
-if_is : (line : ℕ) (o : Checking Typed) (b : Checking Stmt) (c : Typed) (s : Stmt) (tree : Expr) → o ≡ Ok c
+if_is : (line : ℕ) (o : TypingResult Typed) (b : TypingResult Stmt) (c : Typed) (s : Stmt) (tree : Expr) → o ≡ Ok c
     → condition_is c ≡ Ok true → c.tree ≡ tree → b ≡ Ok s → if_typed line o b ≡ Ok (If line tree s no_branch)
 unfolding if_typed
 if_is line o b c s tree h i j k = rw (h, k, i, sym j) refl
 
-if_else_is : (line : ℕ) (o : Checking Typed) (b r : Checking Stmt) (c : Typed) (s t : Stmt) (tree : Expr) → o ≡ Ok c
+if_else_is : (line : ℕ) (o : TypingResult Typed) (b r : TypingResult Stmt) (c : Typed) (s t : Stmt) (tree : Expr) → o ≡ Ok c
     → condition_is c ≡ Ok true → c.tree ≡ tree → b ≡ Ok s → r ≡ Ok t
     → if_else_typed line o b r ≡ Ok (If line tree s (branch t))
 unfolding if_else_typed
 if_else_is line o b r c s t tree h i j k l = rw (h, k, l, i, sym j) refl
 
-while_is : (line : ℕ) (o : Checking Typed) (b : Checking Stmt) (c : Typed) (s : Stmt) (tree : Expr) → o ≡ Ok c
+while_is : (line : ℕ) (o : TypingResult Typed) (b : TypingResult Stmt) (c : Typed) (s : Stmt) (tree : Expr) → o ≡ Ok c
     → condition_is c ≡ Ok true → c.tree ≡ tree → b ≡ Ok s
     → while_typed line o b ≡ Ok (Repeat line (repeated First (Some tree) [] s))
 unfolding while_typed
 while_is line o b c s tree h i j k = rw (h, k, i, sym j) refl
 
-do_while_is : (line : ℕ) (o : Checking Typed) (b : Checking Stmt) (c : Typed) (s : Stmt) (tree : Expr) → o ≡ Ok c
+do_while_is : (line : ℕ) (o : TypingResult Typed) (b : TypingResult Stmt) (c : Typed) (s : Stmt) (tree : Expr) → o ≡ Ok c
     → condition_is c ≡ Ok true → c.tree ≡ tree → b ≡ Ok s
     → do_while_typed line b o ≡ Ok (Repeat line (repeated Last (Some tree) [] s))
 unfolding do_while_typed
 do_while_is line o b c s tree h i j k = rw (h, k, i, sym j) refl
 
-for_is : (line : ℕ) (f : Checking Head) (b : Checking Stmt) (o : Checking (Option Typed)) (es : Checking (List Typed))
+for_is : (line : ℕ) (f : TypingResult Head) (b : TypingResult Stmt) (o : TypingResult (Option Typed)) (es : TypingResult (List Typed))
     (g : Head) (s : Stmt) (c : Option Typed) (ts : List Typed) (tree : Option Expr) (trees : List Expr) → f ≡ Ok g
     → o ≡ Ok c → maybe_condition_is c ≡ Ok true → option_map tree_of c ≡ tree → es ≡ Ok ts → map tree_of ts ≡ trees
     → b ≡ Ok s → for_typed line f o es b ≡ Ok (For line g (repeated First tree trees s))
@@ -172,13 +172,13 @@ no_void classes ty.Null t h = refl
 returned_is : (classes : List Class) (of : Ty) (at a : ℕ) (t : Term) → fits classes of t.ty ≡ true
     → returned classes of at (placed a t) ≡ Ok (converted_to of t)
 unfolding returned
-returned_is classes of at a t h = rw (no_void classes of t.ty h) (fitted_is classes of a t h)
+returned_is classes of at a t h = rw (no_void classes of t.ty h) (coerced_for_assignment_is classes of a t h)
 
 value_is : (scope : Scope) (p : Place) (e : written.Expr) (t : Term)
-    → typed scope.env false e ≡ Ok (placed (first_at e) t) → fits scope.env.heads.classes scope.gives t.ty ≡ true
+    → typed scope.env false e ≡ Ok (placed (first_at e) t) → fits scope.env.declarations.classes scope.gives t.ty ≡ true
     → return_typed scope p (Some e) ≡ Ok (Return p.line (Some (converted_to scope.gives t)))
 unfolding return_typed
-value_is scope p e t h fit = rw (h, returned_is scope.env.heads.classes scope.gives p.at (first_at e) t fit) refl
+value_is scope p e t h fit = rw (h, returned_is scope.env.declarations.classes scope.gives p.at (first_at e) t fit) refl
 
 -- labels
 
@@ -252,7 +252,7 @@ mutual
   stmt_complete
       (for_loop {scope = scope} {p = p} {f = f} {s = s} {c = c} {es = es} {h = g} {t = t} {tree = tree} {ts = ts} h i j
       k) =
-      let within = behind (block_of scope) f in
+      let within = after (block_of scope) f in
       let m = maybe_tested i in
       let us = all_placed (written.exprs es) ts in
       for_is p.line (head_typed (block_of scope) f) (stmt_typed (loop_of within) s) (maybe_typed within.env c)
@@ -270,7 +270,7 @@ mutual
   stmts_complete no_more_stmts = refl
   stmts_complete (more_stmts {scope = scope} {s = s} {ss = ss} {t = t} {ts = ts} h i) =
       bind_is (stmt_typed scope s) _ t _ (stmt_complete h)
-      (bind_is (stmts_typed (behind scope s) ss) _ ts _ (stmts_complete i) refl)
+      (bind_is (stmts_typed (after scope s) ss) _ ts _ (stmts_complete i) refl)
 
   pub cases_complete : {scope : Scope} {k : Kind} {before : List Label} {cs : written.Cases} {rows : Cases}
       → AreCases scope k before cs rows → cases_typed scope (Some k) before cs ≡ Ok rows

@@ -9,15 +9,15 @@ use Rattle.ash_tree.specs.Tree as written
 use Rattle.ash_typed.specs.declared.types.Kind.{Kind}
 use Rattle.ash_typing.specs.declared.types.Ty.{Ty}
 use Rattle.ash_typing.specs.declared.types.Ty.TheVariants as ty
-use Rattle.ash_typing.specs.Fitting.{fits}
-use Rattle.ash_typing.specs.Checking.{Checking}
+use Rattle.ash_typing.specs.Coercions.{fits}
+use Rattle.ash_typing.specs.TypingResult.{TypingResult}
 use Rattle.ash_typed.specs.declared.tree.statements.Test.TheVariants.{First, Last}
 use Rattle.ash_typed.specs.Tree.{Expr}
 use Rattle.ash_typed.specs.StatementTree.{Initialization, Stmt, Declare, If, no_branch, branch, Head, Repeat, For}
 use Rattle.ash_typed.specs.StatementTree.{repeated, Return, Stmts, labelled, Cases, next_case}
 use Rattle.ash_typing.specs.Environment.{Environment, Declared, Class}
 use Rattle.ash_typing.specs.Expressions.{Typed, typed, all_typed, integer_of, bool_of, is_void, term_of}
-use Rattle.ash_typing.specs.Heads.{declared, ty_in}
+use Rattle.ash_typing.specs.ModuleDeclarations.{declared, ty_in}
 use Rattle.ash_typing.specs.Declarations.{at_type, known_ty, decl_typed}
 use Rattle.ash_typing.specs.Typing.{AllHaveType, IsKnown, IsKnownType, IsVariableType, IsKnownVariable}
 use Rattle.ash_typing.specs.Returning.{is_default}
@@ -38,12 +38,12 @@ use Rattle.ash_typing.proofs.TypedVariables.{known_sound}
 use Rattle.ash_typing.proofs.TypingKnown.{known_type}
 use Rattle.ash_typing.proofs.TypingComplete.{terms}
 use Rattle.ash_typing.proofs.TypingSound.{sound, all_sound}
-use Rattle.ash_typing.proofs.TypingSoundCalls.{fitted_ok}
+use Rattle.ash_typing.proofs.TypingSoundCalls.{coerced_for_assignment_ok}
 use Rattle.ash_typing.proofs.TypingVariables.{declared_sound}
 use Rattle.ash_typing.proofs.StatementsComplete.{trees_of}
 use Rattle.ash_typing.specs.Terms.{converted_to}
 use Rattle.ash_typing.specs.Labels.{holds_label, is_same_constant, is_last}
-use Rattle.ash_typing.specs.Scopes.{Scope, behind, block_of, loop_of, switch_of, with_variables, is_taken}
+use Rattle.ash_typing.specs.Scopes.{Scope, after, block_of, loop_of, switch_of, with_variables, is_taken}
 
 -- scopes whose types are known
 
@@ -75,7 +75,7 @@ switch_known : (scope : Scope) → IsKnownScope scope → IsKnownScope (switch_o
 switch_known scope k = record { env = k.env; gives = k.gives }
 
 known_after : (scope : Scope) (s : written.Stmt) (t : Stmt) → IsKnownScope scope → stmt_typed scope s ≡ Ok t
-    → IsKnownScope (behind scope s)
+    → IsKnownScope (after scope s)
 unfolding vars_typed
 known_after scope (written.Declare p v) t k h =
     let v_is = bind_ok (vars_typed scope v) _ t h in
@@ -85,7 +85,7 @@ known_after scope (written.Declare p v) t k h =
 known_after scope _ t k h = k
 
 head_known : (scope : Scope) (f : written.Stmt) (g : Head) → IsKnownScope scope → head_typed scope f ≡ Ok g
-    → IsKnownScope (behind scope f)
+    → IsKnownScope (after scope f)
 unfolding head_typed vars_typed
 head_known scope (written.Declare p v) g k h =
     let v_is = bind_ok (vars_typed scope v) _ g h in
@@ -203,7 +203,7 @@ steps_sound env k es ts h = all_sound env k (written.exprs es) ts h
 
 -- statements, taken apart
 
-if_parts : {P : Type 0} (line : ℕ) (o : Checking Typed) (b : Checking Stmt) (r : Stmt) → if_typed line o b ≡ Ok r
+if_parts : {P : Type 0} (line : ℕ) (o : TypingResult Typed) (b : TypingResult Stmt) (r : Stmt) → if_typed line o b ≡ Ok r
     → ((c : Typed) (s : Stmt) (fit : Bool) → o ≡ Ok c → b ≡ Ok s → condition_is c ≡ Ok fit
     → If line c.tree s no_branch ≡ r → P) → P
 unfolding if_typed
@@ -213,7 +213,7 @@ if_parts line o b r h k =
     let y = bind_ok (condition_is c.0) _ r s.2 in
     k c.0 s.0 y.0 c.1 s.1 y.1 (ok_is _ r y.2)
 
-if_else_parts : {P : Type 0} (line : ℕ) (o : Checking Typed) (b e : Checking Stmt) (r : Stmt)
+if_else_parts : {P : Type 0} (line : ℕ) (o : TypingResult Typed) (b e : TypingResult Stmt) (r : Stmt)
     → if_else_typed line o b e ≡ Ok r
     → ((c : Typed) (s t : Stmt) (fit : Bool) → o ≡ Ok c → b ≡ Ok s → e ≡ Ok t → condition_is c ≡ Ok fit
     → If line c.tree s (branch t) ≡ r → P) → P
@@ -225,7 +225,7 @@ if_else_parts line o b e r h k =
     let y = bind_ok (condition_is c.0) _ r t.2 in
     k c.0 s.0 t.0 y.0 c.1 s.1 t.1 y.1 (ok_is _ r y.2)
 
-while_parts : {P : Type 0} (line : ℕ) (o : Checking Typed) (b : Checking Stmt) (r : Stmt) → while_typed line o b ≡ Ok r
+while_parts : {P : Type 0} (line : ℕ) (o : TypingResult Typed) (b : TypingResult Stmt) (r : Stmt) → while_typed line o b ≡ Ok r
     → ((c : Typed) (s : Stmt) (fit : Bool) → o ≡ Ok c → b ≡ Ok s → condition_is c ≡ Ok fit
     → Repeat line (repeated First (Some c.tree) [] s) ≡ r → P) → P
 unfolding while_typed
@@ -235,7 +235,7 @@ while_parts line o b r h k =
     let y = bind_ok (condition_is c.0) _ r s.2 in
     k c.0 s.0 y.0 c.1 s.1 y.1 (ok_is _ r y.2)
 
-do_parts : {P : Type 0} (line : ℕ) (b : Checking Stmt) (o : Checking Typed) (r : Stmt) → do_while_typed line b o ≡ Ok r
+do_parts : {P : Type 0} (line : ℕ) (b : TypingResult Stmt) (o : TypingResult Typed) (r : Stmt) → do_while_typed line b o ≡ Ok r
     → ((s : Stmt) (c : Typed) (fit : Bool) → b ≡ Ok s → o ≡ Ok c → condition_is c ≡ Ok fit
     → Repeat line (repeated Last (Some c.tree) [] s) ≡ r → P) → P
 unfolding do_while_typed
@@ -245,8 +245,8 @@ do_parts line b o r h k =
     let y = bind_ok (condition_is c.0) _ r c.2 in
     k s.0 c.0 y.0 s.1 c.1 y.1 (ok_is _ r y.2)
 
-for_parts : {P : Type 0} (line : ℕ) (f : Checking Head) (o : Checking (Option Typed)) (es : Checking (List Typed))
-    (b : Checking Stmt) (r : Stmt) → for_typed line f o es b ≡ Ok r
+for_parts : {P : Type 0} (line : ℕ) (f : TypingResult Head) (o : TypingResult (Option Typed)) (es : TypingResult (List Typed))
+    (b : TypingResult Stmt) (r : Stmt) → for_typed line f o es b ≡ Ok r
     → ((g : Head) (c : Option Typed) (ts : List Typed) (s : Stmt) (fit : Bool) → f ≡ Ok g → o ≡ Ok c → es ≡ Ok ts
     → b ≡ Ok s → maybe_condition_is c ≡ Ok fit
     → For line g (repeated First (option_map tree_of c) (map tree_of ts) s) ≡ r → P) → P
@@ -282,7 +282,7 @@ returned_sound : (classes : List Class) (of : Ty) (at : ℕ) (t : Typed) (e : Ex
     → (fits classes of t.ty ≡ true) × (converted_to of (term_of t) ≡ e)
 unfolding returned
 returned_sound classes of at t e h =
-    if_ok (is_void of) _ _ (Ok e) h (λ b k. absurd (no_err _ e k)) (λ b k. fitted_ok classes of t e k)
+    if_ok (is_void of) _ _ (Ok e) h (λ b k. absurd (no_err _ e k)) (λ b k. coerced_for_assignment_ok classes of t e k)
 
 return_sound : (scope : Scope) → IsKnownScope scope → (p : Place) (e : Option written.Expr) (t : Stmt)
     → return_typed scope p e ≡ Ok t → IsStmt scope (written.Return p e) t
@@ -294,8 +294,8 @@ return_sound scope k p None t h =
     (λ b e. absurd (no_err _ t e))
 return_sound scope k p (Some e) t h =
     let v = bind_ok (typed scope.env false e) _ t h in
-    let r = bind_ok (returned scope.env.heads.classes scope.gives p.at v.0) _ t v.2 in
-    let s = returned_sound scope.env.heads.classes scope.gives p.at v.0 r.0 r.1 in
+    let r = bind_ok (returned scope.env.declarations.classes scope.gives p.at v.0) _ t v.2 in
+    let s = returned_sound scope.env.declarations.classes scope.gives p.at v.0 r.0 r.1 in
     subst (IsStmt scope (written.Return p (Some e))) (ap (λ (x : Expr). Return p.line (Some x)) s.1 ∙ ok_is _ t r.2)
     (return_value (sound scope.env k.env false e v.0 v.1) s.0)
 
@@ -357,7 +357,7 @@ mutual
       (do_loop (stmt_sound (loop_of scope) (loop_known scope k) s u f)
       (condition_sound scope.env k.env c v fit e g)))
   stmt_sound scope k (written.For p f c es s) t h =
-      let within = behind (block_of scope) f in
+      let within = after (block_of scope) f in
       for_parts p.line (head_typed (block_of scope) f) (maybe_typed within.env c)
       (all_typed within.env (written.exprs es)) (stmt_typed (loop_of within) s) t h (λ g v us u fit i e j l m is.
       let inner = head_known (block_of scope) f g (block_known scope k) i in
@@ -385,10 +385,10 @@ mutual
   stmts_sound scope k written.no_stmt ts h = subst (AreStmts scope written.no_stmt) (ok_is _ ts h) no_more_stmts
   stmts_sound scope k (written.stmt s ss) ts h =
       let t = bind_ok (stmt_typed scope s) _ ts h in
-      let r = bind_ok (stmts_typed (behind scope s) ss) _ ts t.2 in
+      let r = bind_ok (stmts_typed (after scope s) ss) _ ts t.2 in
       subst (AreStmts scope (written.stmt s ss)) (ok_is _ ts r.2)
       (more_stmts (stmt_sound scope k s t.0 t.1)
-      (stmts_sound (behind scope s) (known_after scope s t.0 k t.1) ss r.0 r.1))
+      (stmts_sound (after scope s) (known_after scope s t.0 k t.1) ss r.0 r.1))
 
   pub cases_sound : (scope : Scope) → IsKnownScope scope
       → (k : Kind) (before : List Label) (cs : written.Cases) (rows : Cases)

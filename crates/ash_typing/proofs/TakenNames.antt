@@ -19,9 +19,9 @@ pub all_append : {A : Type 0} (P : A → Type 0) (xs ys : List A) → AllByRecur
 all_append P [] ys h k = k
 all_append P (x ∷ xs) ys h k = (h.0, all_append P xs ys h.1 k)
 
-pub all_front : {A : Type 0} (P : A → Type 0) (xs ys : List A) → AllByRecursion P (xs ++ ys) → AllByRecursion P xs
-all_front P [] ys h = tt
-all_front P (x ∷ xs) ys h = (h.0, all_front P xs ys h.1)
+pub all_prefix : {A : Type 0} (P : A → Type 0) (xs ys : List A) → AllByRecursion P (xs ++ ys) → AllByRecursion P xs
+all_prefix P [] ys h = tt
+all_prefix P (x ∷ xs) ys h = (h.0, all_prefix P xs ys h.1)
 
 pub all_rest : {A : Type 0} (P : A → Type 0) (xs ys : List A) → AllByRecursion P (xs ++ ys) → AllByRecursion P ys
 all_rest P [] ys h = h
@@ -32,10 +32,10 @@ all_rest P (x ∷ xs) ys h = all_rest P xs ys h.1
 abbrev pub Distinct : List (List ℕ) → Type 0
 Distinct = IsDistinct bytes_eq
 
-pub distinct_front : (xs ys : List (List ℕ)) → Distinct (xs ++ ys) → Distinct xs
+pub distinct_prefix : (xs ys : List (List ℕ)) → Distinct (xs ++ ys) → Distinct xs
 unfolding IsDistinct
-distinct_front [] ys h = tt
-distinct_front (x ∷ xs) ys h = (all_front _ xs ys h.0, distinct_front xs ys h.1)
+distinct_prefix [] ys h = tt
+distinct_prefix (x ∷ xs) ys h = (all_prefix _ xs ys h.0, distinct_prefix xs ys h.1)
 
 pub distinct_push : (xs : List (List ℕ)) (y : List ℕ) → Distinct xs → list_any (bytes_eq y) xs ≡ false
     → Distinct (xs ++ y ∷ [])
@@ -100,8 +100,8 @@ pub takes_first : (n : Names) (xs ys : List (List ℕ)) (j k l : ℕ) → l ≡ 
 takes_first n xs ys j k l e a =
     let r = a.room in
     record {
-      free = all_front (IsFree n.registered) xs ys a.free;
-      distinct = distinct_front (n.taken ++ xs) ys (subst Distinct (sym (append_assoc n.taken xs ys)) a.distinct);
+      free = all_prefix (IsFree n.registered) xs ys a.free;
+      distinct = distinct_prefix (n.taken ++ xs) ys (subst Distinct (sym (append_assoc n.taken xs ys)) a.distinct);
       room = omega arith;
     }
 

@@ -24,7 +24,7 @@ use Rattle.ash_typing.proofs.TypedInterfaces.{listed_with, listed_sound, listed_
 use Rattle.ash_typing.proofs.TypedRoutines.{routine_sound, routine_complete, result_complete, function_sound}
 use Rattle.ash_tree.specs.Items.{Routine, routine_of, constructing, decl_name, names_of, fields_of, methods_of}
 use Rattle.ash_tree.specs.Items.{constructors_of, member_names}
-use Rattle.ash_typing.specs.Heads.{result_in}
+use Rattle.ash_typing.specs.ModuleDeclarations.{result_in}
 
 -- a class so far
 

@@ -11,7 +11,7 @@ use Rattle.ash_typed.specs.Modules.{Signature, Interface, Implementation}
 use Rattle.ash_typing.specs.declared.types.Ty.{Ty}
 use Rattle.ash_typing.specs.Types.{result_type}
 use Rattle.ash_typing.specs.Environment.{Environment, Declared, type_declared}
-use Rattle.ash_typing.specs.Heads.{object_named, result_in}
+use Rattle.ash_typing.specs.ModuleDeclarations.{object_named, result_in}
 use Rattle.ash_typing.specs.Items.{Names, untaken, placed, result_typed, parameters_typed, Signatures, signature_of}
 use Rattle.ash_typing.specs.Items.{signature_typed, signatures_typed, no_signatures, interface_of, interface_typed}
 use Rattle.ash_typing.specs.Items.{listed_at, implemented_at, Listed, listed_typed, all_listed}
@@ -230,7 +230,7 @@ listed_sound env class [] listed after d h = record {
 }
 listed_sound env class (n ∷ ns) listed after d h =
     let m = bind_ok (listed_typed env class listed n) _ after h in
-    let p = bind_ok (listed_at n.place.at (object_named env.registered env.heads n.name)) _ m.0 m.1 in
+    let p = bind_ok (listed_at n.place.at (object_named env.registered env.declarations n.name)) _ m.0 m.1 in
     let u = bind_ok (untaken listed.names n.place.at n.name) _ m.0 p.2 in
     let i = bind_ok (implemented_at n.place.at p.0 (implemented env class p.0)) _ m.0 u.2 in
     let s = untaken_sound listed.names n.place.at n.name u.0 d u.1 in
@@ -240,7 +240,7 @@ listed_sound env class (n ∷ ns) listed after d h =
     let go = listed_sound env class ns next after s.0.distinct
     (subst (λ (x : Listed). all_listed env class x ns ≡ Ok after) step m.2) in
     let is : IsListed env class n i.0 = record {
-      interface = listed_at_sound n.place.at (object_named env.registered env.heads n.name) p.0 p.1
+      interface = listed_at_sound n.place.at (object_named env.registered env.declarations n.name) p.0 p.1
           ∙ ap (λ place. Some (OfInterface place)) (sym t.0);
       methods = ap (implemented env class) t.0 ∙ t.1;
     } in
@@ -265,8 +265,8 @@ listed_complete env class (n ∷ ns) listed (t ∷ ts) can are =
     let rest = takes_rest listed.names (n.name ∷ []) names 0 0 0 refl can in
     let next : Listed = listed_with listed (n.name ∷ []) (t ∷ []) in
     bind_is (listed_typed env class listed n) _ next _
-    (bind_is (listed_at n.place.at (object_named env.registered env.heads n.name)) _ t.interface next
-    (listed_at_complete n.place.at (object_named env.registered env.heads n.name) t.interface is.interface)
+    (bind_is (listed_at n.place.at (object_named env.registered env.declarations n.name)) _ t.interface next
+    (listed_at_complete n.place.at (object_named env.registered env.declarations n.name) t.interface is.interface)
     (bind_is (untaken listed.names n.place.at n.name) _ next.names next
     (untaken_complete listed.names n.place.at n.name first)
     (bind_is (implemented_at n.place.at t.interface (implemented env class t.interface)) _ t next

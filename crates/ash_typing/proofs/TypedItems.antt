@@ -20,7 +20,7 @@ use Rattle.ash_typing.proofs.TypedInterfaces.{interface_sound, interface_complet
 use Rattle.ash_typing.proofs.TypedClasses.{count_names, class_sound, class_complete}
 use Rattle.ash_tree.specs.Items.{routine_of, names_of, variable_names, item_names, classes_of, interfaces_of}
 use Rattle.ash_tree.specs.Items.{classes_before, functions_of, globals_of}
-use Rattle.ash_typing.specs.Heads.{result_in}
+use Rattle.ash_typing.specs.ModuleDeclarations.{result_in}
 
 -- a module so far
 

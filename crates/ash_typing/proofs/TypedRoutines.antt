@@ -14,7 +14,7 @@ use Rattle.ash_typing.specs.declared.types.Ty.TheVariants as ty
 use Rattle.ash_typing.specs.Types.{ty_of, var_type}
 use Rattle.ash_typing.specs.Environment.{Environment, Declared, with_locals, declares, type_declared}
 use Rattle.ash_typing.specs.Expressions.{is_void}
-use Rattle.ash_typing.specs.Heads.{object_named, array_named, object_ty, handle_ty, ty_named, ty_in, result_in}
+use Rattle.ash_typing.specs.ModuleDeclarations.{object_named, array_named, object_ty, handle_ty, ty_named, ty_in, result_in}
 use Rattle.ash_typing.specs.Typing.{IsKnown, IsKnownType, IsVariableType, IsKnownVariable}
 use Rattle.ash_typed.specs.StatementTree.{Body}
 use Rattle.ash_typing.specs.Statements.{body_typed}
@@ -82,10 +82,10 @@ pub passed_sound : (env : Environment) (at of : written.Named) (t : Ty) → pass
     → IsPassed (ty_in env of) × (t ≡ ty_in env of)
 unfolding ty_named
 passed_sound env at (written.Prim p k) t h = primitive_passed at k t h
-passed_sound env at (written.Object p name) t h = object_passed at (object_named env.registered env.heads name) t h
-passed_sound env at (written.Handle p name) t h = handle_passed at (object_named env.registered env.heads name) t h
-passed_sound env at (written.Array p of) t h = object_passed at (array_named env.registered env.heads of) t h
-passed_sound env at (written.ArrayHandle p of) t h = handle_passed at (array_named env.registered env.heads of) t h
+passed_sound env at (written.Object p name) t h = object_passed at (object_named env.registered env.declarations name) t h
+passed_sound env at (written.Handle p name) t h = handle_passed at (object_named env.registered env.declarations name) t h
+passed_sound env at (written.Array p of) t h = object_passed at (array_named env.registered env.declarations of) t h
+passed_sound env at (written.ArrayHandle p of) t h = handle_passed at (array_named env.registered env.declarations of) t h
 
 -- parameters
 

@@ -12,7 +12,7 @@ use Rattle.ash_typing.specs.declared.types.Ty.{Ty}
 use Rattle.ash_typing.specs.declared.types.Ty.TheVariants as ty
 use Rattle.ash_typing.specs.Types.{ty_of}
 use Rattle.ash_typing.specs.Environment.{Environment}
-use Rattle.ash_typing.specs.Heads.{object_named, array_named, object_ty, handle_ty, ty_named, ty_in}
+use Rattle.ash_typing.specs.ModuleDeclarations.{object_named, array_named, object_ty, handle_ty, ty_named, ty_in}
 use Rattle.ash_typing.specs.Typing.{IsKnown, IsVariableType, IsDeclared}
 use Rattle.ash_typing.specs.Declarations.{Initialization, at_type, known_ty, decl_typed}
 use Rattle.ash_typed.specs.Modules.{Variables}
@@ -79,10 +79,10 @@ pub known_sound : (env : Environment) (at of : written.Named) (t : Ty) → known
     → IsVariableType (ty_in env of) × (t ≡ ty_in env of)
 unfolding ty_named
 known_sound env at (written.Prim p k) t h = primitive_sound at k t h
-known_sound env at (written.Object p name) t h = some_object_sound at (object_named env.registered env.heads name) t h
-known_sound env at (written.Handle p name) t h = some_handle_sound at (object_named env.registered env.heads name) t h
-known_sound env at (written.Array p of) t h = some_object_sound at (array_named env.registered env.heads of) t h
-known_sound env at (written.ArrayHandle p of) t h = some_handle_sound at (array_named env.registered env.heads of) t h
+known_sound env at (written.Object p name) t h = some_object_sound at (object_named env.registered env.declarations name) t h
+known_sound env at (written.Handle p name) t h = some_handle_sound at (object_named env.registered env.declarations name) t h
+known_sound env at (written.Array p of) t h = some_object_sound at (array_named env.registered env.declarations of) t h
+known_sound env at (written.ArrayHandle p of) t h = some_handle_sound at (array_named env.registered env.declarations of) t h
 
 -- more variables after those so far
 

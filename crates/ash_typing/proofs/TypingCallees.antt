@@ -76,24 +76,24 @@ variable_type env text =
     let global =
     if_map IsTyped
     (λ (found : ℕ × Declared). (Read (Stored (variables.Global found.0 (var_type found.1.of))), found.1.of))
-    (first_from (declares text) 0 env.heads.globals)
-    (if_all (first_from (declares text) 0 env.heads.globals) (λ found. refl)) in
-    if_or IsTyped (local_in env.locals text) (option_or (own_field_in env text) (global_in env.heads.globals text))
-    local (if_or IsTyped (own_field_in env text) (global_in env.heads.globals text) own global)
+    (first_from (declares text) 0 env.declarations.globals)
+    (if_all (first_from (declares text) 0 env.declarations.globals) (λ found. refl)) in
+    if_or IsTyped (local_in env.locals text) (option_or (own_field_in env text) (global_in env.declarations.globals text))
+    local (if_or IsTyped (own_field_in env text) (global_in env.declarations.globals text) own global)
 
-service_type : (call : host.Call) → IfSome (service_function call) IsTypedCallee
+service_type : (call : host.Registration) → IfSome (service_function call) IsTypedCallee
 service_type (host.AFunction service id operation) = refl
 service_type _ = tt
 
-host_result : (calls : List host.Call) (call : host.Call) → IfSome (host_type calls call) IsTypedCallee
+host_result : (calls : List host.Registration) (call : host.Registration) → IfSome (host_type calls call) IsTypedCallee
 host_result calls (host.AType text kind) = refl
 host_result calls _ = tt
 
-property_type : (call : host.Call) → IfSome (property call) IsTypedMember
+property_type : (call : host.Registration) → IfSome (property call) IsTypedMember
 property_type (host.AProperty of id primitive text) = refl
 property_type _ = tt
 
-host_method_type : (call : host.Call) → IfSome (host_method call) IsTypedMethod
+host_method_type : (call : host.Registration) → IfSome (host_method call) IsTypedMethod
 host_method_type (host.AMethod of id operation) = refl
 host_method_type _ = tt
 
@@ -123,8 +123,8 @@ callee_type env text =
       target = callables.Target (targets.Function found.0 (result_type found.1.result));
       result = found.1.result;
       parameters = Some found.1.parameters;
-    }) (first_from (is_called text) 0 env.heads.functions)
-    (if_all (first_from (is_called text) 0 env.heads.functions) (λ found. refl)) in
+    }) (first_from (is_called text) 0 env.declarations.functions)
+    (if_all (first_from (is_called text) 0 env.declarations.functions) (λ found. refl)) in
     let service = if_any IsTypedCallee service_function (named_in env.registered text) service_type in
     let class = if_map IsTypedCallee
     (λ (found : ℕ × Class).
@@ -132,17 +132,17 @@ callee_type env text =
       target = callables.Target (targets.Class found.0);
       result = ty.Handle (OfClass found.0);
       parameters = Some found.1.parameters;
-    }) (first_from (is_class text) 0 env.heads.classes)
-    (if_all (first_from (is_class text) 0 env.heads.classes) (λ found. refl)) in
+    }) (first_from (is_class text) 0 env.declarations.classes)
+    (if_all (first_from (is_class text) 0 env.declarations.classes) (λ found. refl)) in
     let kind = if_any IsTypedCallee (host_type env.registered) (named_in env.registered text)
     (host_result env.registered) in
     if_or IsTypedCallee (own_method_in env text)
-    (option_or (function_in env.heads.functions text) (callee_beside env text)) own
-    (if_or IsTypedCallee (function_in env.heads.functions text) (callee_beside env text) function
+    (option_or (function_in env.declarations.functions text) (callee_beside env text)) own
+    (if_or IsTypedCallee (function_in env.declarations.functions text) (callee_beside env text) function
     (if_or IsTypedCallee (option_and_then service_function (named_in env.registered text))
-    (option_or (class_in env.heads.classes text)
+    (option_or (class_in env.declarations.classes text)
     (option_and_then (host_type env.registered) (named_in env.registered text))) service
-    (if_or IsTypedCallee (class_in env.heads.classes text)
+    (if_or IsTypedCallee (class_in env.declarations.classes text)
     (option_and_then (host_type env.registered) (named_in env.registered text)) class kind)))
 
 array_method_type : (of : Element) (m : ArrayMethod) → IsTypedMethod (array_method_of of m)
@@ -162,7 +162,7 @@ element_type (elements.Host kind) = refl
 pub member_type : (env : Environment) (o : ObjectType) (text : List ℕ) → IfSome (member_in env o text) IsTypedMember
 unfolding member_in
 member_type env (OfClass i) text =
-    if_any IsTypedMember (λ (c : Class). field_in i c text) (slice_get env.heads.classes i) (λ c. field_type i c text)
+    if_any IsTypedMember (λ (c : Class). field_in i c text) (slice_get env.declarations.classes i) (λ c. field_type i c text)
 member_type env (OfInterface i) text = tt
 member_type env (OfArray of) text = tt
 member_type env (OfHost i) text = if_any IsTypedMember property (host_member_in env.registered i text) property_type
@@ -170,7 +170,7 @@ member_type env (OfHost i) text = if_any IsTypedMember property (host_member_in 
 pub method_type : (env : Environment) (o : ObjectType) (text : List ℕ) → IfSome (method_in env o text) IsTypedMethod
 unfolding method_in method_of_class method_of_interface method_of_array method_of_kind
 method_type env (OfClass i) text =
-    if_any IsTypedMethod (class_method i text) (slice_get env.heads.classes i) (λ c.
+    if_any IsTypedMethod (class_method i text) (slice_get env.declarations.classes i) (λ c.
     if_map IsTypedMethod
     (λ (found : ℕ × Function).
     record {
@@ -179,7 +179,7 @@ method_type env (OfClass i) text =
       parameters = found.1.parameters;
     }) (first_from (is_called text) 0 c.methods) (if_all (first_from (is_called text) 0 c.methods) (λ found. refl)))
 method_type env (OfInterface i) text =
-    if_any IsTypedMethod (interface_method i text) (slice_get env.heads.interfaces i) (λ of.
+    if_any IsTypedMethod (interface_method i text) (slice_get env.declarations.interfaces i) (λ of.
     if_map IsTypedMethod
     (λ (found : ℕ × Function).
     record {

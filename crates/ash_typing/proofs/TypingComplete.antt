@@ -29,11 +29,11 @@ use Rattle.ash_typing.specs.Types.{var_type, signed, common, object_of, ty_of, t
 use Rattle.ash_typing.specs.Types.{binary_of}
 use Rattle.ash_typed.specs.Tree.{Expr, Exprs, Null, Read, Invoke, Cast, Alter, Conditional, Assign, Update, Count, Call}
 use Rattle.ash_typed.specs.Tree.{Place, Held, Indexed, no_expr, expr}
-use Rattle.ash_typing.specs.Fitting.{fits}
-use Rattle.ash_typing.specs.Heads.{element_named}
+use Rattle.ash_typing.specs.Coercions.{fits}
+use Rattle.ash_typing.specs.ModuleDeclarations.{element_named}
 use Rattle.ash_typing.specs.Environment.{Environment, Class, Callee, Invoked, callee_in, member_in, method_in}
 use Rattle.ash_typing.specs.Expressions.{Typed, typed, all_typed, links_typed, suffixes_typed, suffix_typed, call_typed}
-use Rattle.ash_typing.specs.Expressions.{invocation_typed, called, arguments_at, all_fitted, fitted, operate, counted}
+use Rattle.ash_typing.specs.Expressions.{invocation_typed, called, arguments_at, all_coerced, coerced_for_assignment, operate, counted}
 use Rattle.ash_typing.specs.Expressions.{unary_at, convert_at, choice, assigned, stored, is_assign, field_of, method_of}
 use Rattle.ash_typing.specs.Expressions.{invoked, made, read_at, indexed, array_typed, cast_type, cast_at, placed}
 use Rattle.ash_typing.specs.Expressions.{all_placed, term_of, first_at}
@@ -55,10 +55,10 @@ length_is : {classes : List Class} {parameters : List Ty} {ts : List Term} {tree
 length_is no_arguments = refl
 length_is (argument h rest) = ap suc (length_is rest)
 
-pub fitted_is : (classes : List Class) (of : Ty) (at : ℕ) (t : Term) → fits classes of t.ty ≡ true
-    → fitted classes of (placed at t) ≡ Ok (converted_to of t)
-unfolding fitted
-fitted_is classes of at t h = rw h refl
+pub coerced_for_assignment_is : (classes : List Class) (of : Ty) (at : ℕ) (t : Term) → fits classes of t.ty ≡ true
+    → coerced_for_assignment classes of (placed at t) ≡ Ok (converted_to of t)
+unfolding coerced_for_assignment
+coerced_for_assignment_is classes of at t h = rw h refl
 
 abbrev pub terms : List Typed → List Term
 terms = map term_of
@@ -72,32 +72,32 @@ out_first (argument h rest) = (h, (_, rest, refl))
 out_none : {classes : List Class} {trees : Exprs} → AreArguments classes [] [] trees → no_expr ≡ trees
 out_none no_arguments = refl
 
-all_fitted_is : (classes : List Class) (parameters : List Ty) (us : List Typed) (trees : Exprs)
-    → AreArguments classes parameters (terms us) trees → all_fitted classes parameters us ≡ Ok trees
-all_fitted_is classes [] [] trees h = ap Ok (out_none h)
-all_fitted_is classes [] (u ∷ us) trees h = elim h [ ]
-all_fitted_is classes (of ∷ parameters) [] trees h = elim h [ ]
-all_fitted_is classes (of ∷ parameters) (u ∷ us) trees h =
+all_coerced_is : (classes : List Class) (parameters : List Ty) (us : List Typed) (trees : Exprs)
+    → AreArguments classes parameters (terms us) trees → all_coerced classes parameters us ≡ Ok trees
+all_coerced_is classes [] [] trees h = ap Ok (out_none h)
+all_coerced_is classes [] (u ∷ us) trees h = elim h [ ]
+all_coerced_is classes (of ∷ parameters) [] trees h = elim h [ ]
+all_coerced_is classes (of ∷ parameters) (u ∷ us) trees h =
     let o = out_first h in
-    rw (fitted_is classes of u.at (term_of u) o.0, all_fitted_is classes parameters us (o.1).0 (o.1).1, (o.1).2) refl
+    rw (coerced_for_assignment_is classes of u.at (term_of u) o.0, all_coerced_is classes parameters us (o.1).0 (o.1).1, (o.1).2) refl
 
 pub arguments_is : (classes : List Class) (at : ℕ) (parameters : List Ty) (us : List Typed) (trees : Exprs)
     → AreArguments classes parameters (terms us) trees → arguments_at classes at parameters us ≡ Ok trees
 unfolding arguments_at
 arguments_is classes at parameters us trees h =
     rw (eq-eqb (length parameters) (length us) (length_is h ∙ length-map us term_of))
-    (all_fitted_is classes parameters us trees h)
+    (all_coerced_is classes parameters us trees h)
 
 -- phrases
 
 call_is : (env : Environment) (at : ℕ) (text : List ℕ) (es : written.Exprs) (callee : Callee) (parameters : List Ty)
     (us : List Typed) (trees : Exprs) → callee_in env text ≡ Some callee → callee.parameters ≡ Some parameters
-    → all_typed env es ≡ Ok us → AreArguments env.heads.classes parameters (terms us) trees
+    → all_typed env es ≡ Ok us → AreArguments env.declarations.classes parameters (terms us) trees
     → call_typed env at text (all_typed env es)
     ≡ Ok (made at callee.result (call_of callee.target (map var_type parameters) trees))
 unfolding called
 call_is env at text es callee parameters us trees c p e a =
-    rw (c, e, p, arguments_is env.heads.classes at parameters us trees a) refl
+    rw (c, e, p, arguments_is env.declarations.classes at parameters us trees a) refl
 
 integer_is : (env : Environment) (e : written.Expr) (at : ℕ) (to : Primitive) (t : Term) (j k : Kind)
     → ty_of to ≡ ty.Integer k → t.ty ≡ ty.Integer j
@@ -185,7 +185,7 @@ assign_is : (classes : List Class) (t u : Term) (a b : ℕ) (target : Place) →
     → assigned classes (placed a t) assigns.Assign (placed b u)
     ≡ Ok (placed a (term t.ty (Assign target (converted_to t.ty u))))
 unfolding assigned stored
-assign_is classes t u a b target p s h = rw (p, s, fitted_is classes t.ty b u h) refl
+assign_is classes t u a b target p s h = rw (p, s, coerced_for_assignment_is classes t.ty b u h) refl
 
 update_is : (classes : List Class) (op : AssignOp) (c : Calculator) (t u : Term) (a b : ℕ) (target : Place) (j k : Kind)
     → operator_of op ≡ Some c → assignable t.form t.tree ≡ Some target → is_stored t.form t.ty ≡ true
@@ -219,7 +219,7 @@ object_method env at t _ text o m h i = absurd (none-some o h)
 
 method_is : (env : Environment) (at b : ℕ) (t : Term) (text : List ℕ) (es : written.Exprs) (o : ObjectType)
     (m : Invoked) (us : List Typed) (trees : Exprs) → object_of t.ty ≡ Some o → method_in env o text ≡ Some m
-    → all_typed env es ≡ Ok us → AreArguments env.heads.classes m.parameters (terms us) trees
+    → all_typed env es ≡ Ok us → AreArguments env.declarations.classes m.parameters (terms us) trees
     → invocation_typed env (placed b t) at text (all_typed env es)
     ≡ Ok (placed b (term m.result (Invoke t.tree m.method (map var_type m.parameters) trees)))
 unfolding invoked
@@ -227,21 +227,21 @@ method_is env at b t text es o m us trees h i e a =
     rw (
       object_method env at (placed b t) t.ty text o m h i,
       e,
-      arguments_is env.heads.classes at m.parameters us trees a,
+      arguments_is env.declarations.classes at m.parameters us trees a,
     ) refl
 
 -- arrays and handles
 
 array_is : (env : Environment) (at : ℕ) (of : written.Element) (es : written.Exprs) (elements : Element)
-    (us : List Typed) (count : ℕ) (trees : Exprs) → element_named env.registered env.heads of ≡ Some elements
+    (us : List Typed) (count : ℕ) (trees : Exprs) → element_named env.registered env.declarations of ≡ Some elements
     → all_typed env es ≡ Ok us → length us ≡ count
-    → AreArguments env.heads.classes (array_parameters count) (terms us) trees
+    → AreArguments env.declarations.classes (array_parameters count) (terms us) trees
     → array_typed env at of (all_typed env es)
     ≡ Ok (made at (ty.Handle (objects.Array elements))
     (Call (targets.Array elements) (map var_type (array_parameters count)) trees))
 unfolding called
 array_is env at of es elements us count trees n e c a =
-    rw (n, e, c, arguments_is env.heads.classes at (array_parameters count) us trees a) refl
+    rw (n, e, c, arguments_is env.declarations.classes at (array_parameters count) us trees a) refl
 
 cast_type_is : {o : ObjectType} (at : ℕ) → IsCastType o → cast_type at (Some o) ≡ Ok o
 cast_type_is at to_class = refl
@@ -315,10 +315,10 @@ mutual
   complete (conditional {c = c} {a = a} {b = b} {t = t} {x = x} {y = y} {of = of} h i k l m) =
       rw (complete h, complete k, complete l) (choice_is t x y (first_at c) (first_at a) (first_at b) of i m)
   complete {env} (assign {e = e} {v = v} {t = t} {u = u} {at = at} h i s k l) =
-      rw (complete h, complete k) (assign_is env.heads.classes t u (first_at e) (first_at v) at i s l)
+      rw (complete h, complete k) (assign_is env.declarations.classes t u (first_at e) (first_at v) at i s l)
   complete {env} (update {op = op} {c = c} {e = e} {v = v} {t = t} {u = u} {at = at} {j = j} {k = k} f h i s l m n) =
       rw (updates op c f, complete h, complete m)
-      (update_is env.heads.classes op c t u (first_at e) (first_at v) at j k f i s l n)
+      (update_is env.declarations.classes op c t u (first_at e) (first_at v) at j k f i s l n)
 
   pub all_complete : {env : Environment} {es : written.Exprs} {ts : List Term} → AllHaveType env es ts
       → all_typed env es ≡ Ok (all_placed es ts)

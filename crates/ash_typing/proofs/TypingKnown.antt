@@ -17,8 +17,8 @@ use Rattle.ash_typed.specs.declared.tree.operations.ArrayMethod.{ArrayMethod}
 use Rattle.ash_typed.specs.declared.tree.operations.ArrayMethod.TheVariants as arrays
 use Rattle.ash_typing.specs.declared.types.Ty.{Ty}
 use Rattle.ash_typing.specs.declared.types.Ty.TheVariants as ty
-use Rattle.ash_typing.specs.declared.forms.Sort.{Sort}
-use Rattle.ash_typing.specs.declared.forms.Sort.TheVariants as sort
+use Rattle.ash_typing.specs.declared.forms.OperatorClass.{OperatorClass}
+use Rattle.ash_typing.specs.declared.forms.OperatorClass.TheVariants as sort
 use Rattle.ash_typing.specs.declared.forms.Form.{Form}
 use Rattle.ash_typing.specs.declared.forms.Form.TheVariants as form
 use Rattle.ash_typed.specs.declared.tree.operations.Member.{Member}
@@ -143,7 +143,7 @@ result_known : (of : Option Primitive) → is_result (result_of of) ≡ true
 result_known None = refl
 result_known (Some of) = variable_is_result (ty_of of) (primitive_known of)
 
-pub outcome_known : (s : Sort) (o : Operands) → is_known (outcome s o) ≡ true
+pub outcome_known : (s : OperatorClass) (o : Operands) → is_known (outcome s o) ≡ true
 outcome_known sort.Arithmetic (operands.Integers k) = refl
 outcome_known sort.Shift (operands.Integers k) = refl
 outcome_known _ _ = refl
@@ -176,7 +176,7 @@ taking_known (form.Number m) of (form.Number n) t h = h
 taking_known a (ty.Integer k) (form.Number n) t h = taken_known (holds k n) k n t h
 taking_known a of b t h = h
 
-pub adapted_known : (s : Sort) (other t : Term) → is_known t.ty ≡ true → is_known (adapted_to s other t).ty ≡ true
+pub adapted_known : (s : OperatorClass) (other t : Term) → is_known t.ty ≡ true → is_known (adapted_to s other t).ty ≡ true
 adapted_known sort.Shift other t h = h
 adapted_known _ other t h = taking_known other.form other.ty t.form t h
 
@@ -185,9 +185,9 @@ adapted_known _ other t h = taking_known other.form other.ty t.form t h
 class_known : (env : Environment) → IsKnown env → IfSome (this_class env) (λ c. IsKnownClass c.1)
 class_known env known =
     if_any (λ (c : ℕ × Class). IsKnownClass c.1)
-    (λ (i : ℕ). option_map (λ (c : Class). (i, c)) (slice_get env.heads.classes i)) env.this (λ i.
+    (λ (i : ℕ). option_map (λ (c : Class). (i, c)) (slice_get env.declarations.classes i)) env.this (λ i.
     if_map (λ (c : ℕ × Class). IsKnownClass c.1)
-    (λ (c : Class). (i, c)) (slice_get env.heads.classes i) (if_get IsKnownClass env.heads.classes i known.classes))
+    (λ (c : Class). (i, c)) (slice_get env.declarations.classes i) (if_get IsKnownClass env.declarations.classes i known.classes))
 
 field_known : (class : ℕ) (c : Class) (text : List ℕ) → IsKnownClass c
     → IfSome (field_in class c text) (λ found. IsVariableType found.1)
@@ -214,10 +214,10 @@ variable_known env text known =
     let global =
     if_map Q (λ (found : ℕ × Declared).
     (Read (Stored (variables.Global found.0 (var_type found.1.of))), found.1.of))
-    (first_from (declares text) 0 env.heads.globals)
-    (if_first IsKnownVariable (declares text) 0 env.heads.globals known.globals) in
-    if_or Q (local_in env.locals text) (option_or (own_field_in env text) (global_in env.heads.globals text)) local
-    (if_or Q (own_field_in env text) (global_in env.heads.globals text) own global)
+    (first_from (declares text) 0 env.declarations.globals)
+    (if_first IsKnownVariable (declares text) 0 env.declarations.globals known.globals) in
+    if_or Q (local_in env.locals text) (option_or (own_field_in env text) (global_in env.declarations.globals text)) local
+    (if_or Q (own_field_in env text) (global_in env.declarations.globals text) own global)
 
 function_known : (text : List ℕ) (fs : List Function) → AllByRecursion IsKnownFunction fs
     → IfSome (first_from (is_called text) 0 fs) (λ found. IsResultType found.1.result)
@@ -225,20 +225,20 @@ function_known text fs known =
     if_weaker (first_from (is_called text) 0 fs)
     (λ found h. h.result) (if_first IsKnownFunction (is_called text) 0 fs known)
 
-service_known : (call : host.Call) → IfSome (service_function call) (λ callee. IsResultType callee.result)
+service_known : (call : host.Registration) → IfSome (service_function call) (λ callee. IsResultType callee.result)
 service_known (host.AFunction service id operation) = result_known operation.result
 service_known _ = tt
 
-host_known : (calls : List host.Call) (call : host.Call)
+host_known : (calls : List host.Registration) (call : host.Registration)
     → IfSome (host_type calls call) (λ callee. IsResultType callee.result)
 host_known calls (host.AType text kind) = refl
 host_known calls _ = tt
 
-property_known : (call : host.Call) → IfSome (property call) (λ found. IsVariableType found.1)
+property_known : (call : host.Registration) → IfSome (property call) (λ found. IsVariableType found.1)
 property_known (host.AProperty of id value text) = primitive_known value
 property_known _ = tt
 
-host_method_known : (call : host.Call) → IfSome (host_method call) (λ m. IsResultType m.result)
+host_method_known : (call : host.Registration) → IfSome (host_method call) (λ m. IsResultType m.result)
 host_method_known (host.AMethod of id operation) = result_known operation.result
 host_method_known _ = tt
 
@@ -269,8 +269,8 @@ callee_known env text known =
       target = callables.Target (targets.Function found.0 (result_type found.1.result));
       result = found.1.result;
       parameters = Some found.1.parameters;
-    }) (first_from (is_called text) 0 env.heads.functions)
-    (function_known text env.heads.functions known.functions) in
+    }) (first_from (is_called text) 0 env.declarations.functions)
+    (function_known text env.declarations.functions known.functions) in
     let service = if_any Q service_function (named_in env.registered text) service_known in
     let class = if_map Q
     (λ (found : ℕ × Class).
@@ -278,15 +278,15 @@ callee_known env text known =
       target = callables.Target (targets.Class found.0);
       result = ty.Handle (OfClass found.0);
       parameters = Some found.1.parameters;
-    }) (first_from (is_class text) 0 env.heads.classes)
-    (if_all (first_from (is_class text) 0 env.heads.classes) (λ found. refl)) in
+    }) (first_from (is_class text) 0 env.declarations.classes)
+    (if_all (first_from (is_class text) 0 env.declarations.classes) (λ found. refl)) in
     let kind = if_any Q (host_type env.registered) (named_in env.registered text) (host_known env.registered) in
-    if_or Q (own_method_in env text) (option_or (function_in env.heads.functions text) (callee_beside env text)) own
-    (if_or Q (function_in env.heads.functions text) (callee_beside env text) function
+    if_or Q (own_method_in env text) (option_or (function_in env.declarations.functions text) (callee_beside env text)) own
+    (if_or Q (function_in env.declarations.functions text) (callee_beside env text) function
     (if_or Q (option_and_then service_function (named_in env.registered text))
-    (option_or (class_in env.heads.classes text)
+    (option_or (class_in env.declarations.classes text)
     (option_and_then (host_type env.registered) (named_in env.registered text))) service
-    (if_or Q (class_in env.heads.classes text)
+    (if_or Q (class_in env.declarations.classes text)
     (option_and_then (host_type env.registered) (named_in env.registered text)) class kind)))
 
 array_result_known : (of : Element) (m : ArrayMethod) → IsResultType (array_method_of of m).result
@@ -301,8 +301,8 @@ pub member_known : (env : Environment) (o : ObjectType) (text : List ℕ) → Is
 unfolding member_in
 member_known env (OfClass i) text known =
     if_then IsKnownClass (λ (found : Member × Ty). IsVariableType found.1)
-    (λ (c : Class). field_in i c text) (slice_get env.heads.classes i)
-    (λ c h. field_known i c text h) (if_get IsKnownClass env.heads.classes i known.classes)
+    (λ (c : Class). field_in i c text) (slice_get env.declarations.classes i)
+    (λ c h. field_known i c text h) (if_get IsKnownClass env.declarations.classes i known.classes)
 member_known env (OfInterface i) text known = tt
 member_known env (OfArray of) text known = tt
 member_known env (OfHost i) text known =
@@ -313,7 +313,7 @@ pub method_known : (env : Environment) (o : ObjectType) (text : List ℕ) → Is
     → IfSome (method_in env o text) (λ m. IsResultType m.result)
 unfolding method_in method_of_class method_of_interface method_of_array method_of_kind
 method_known env (OfClass i) text known =
-    if_then IsKnownClass (λ (m : Invoked). IsResultType m.result) (class_method i text) (slice_get env.heads.classes i)
+    if_then IsKnownClass (λ (m : Invoked). IsResultType m.result) (class_method i text) (slice_get env.declarations.classes i)
     (λ c h. if_map (λ (m : Invoked). IsResultType m.result)
     (λ (found : ℕ × Function).
     record {
@@ -321,10 +321,10 @@ method_known env (OfClass i) text known =
       result = found.1.result;
       parameters = found.1.parameters;
     }) (first_from (is_called text) 0 c.methods) (function_known text c.methods h.methods))
-    (if_get IsKnownClass env.heads.classes i known.classes)
+    (if_get IsKnownClass env.declarations.classes i known.classes)
 method_known env (OfInterface i) text known =
     if_then IsKnownInterface
-    (λ (m : Invoked). IsResultType m.result) (interface_method i text) (slice_get env.heads.interfaces i)
+    (λ (m : Invoked). IsResultType m.result) (interface_method i text) (slice_get env.declarations.interfaces i)
     (λ of h. if_map (λ (m : Invoked). IsResultType m.result)
     (λ (found : ℕ × Function).
     record {
@@ -332,7 +332,7 @@ method_known env (OfInterface i) text known =
       result = found.1.result;
       parameters = found.1.parameters;
     }) (first_from (is_called text) 0 of.methods) (function_known text of.methods h.methods))
-    (if_get IsKnownInterface env.heads.interfaces i known.interfaces)
+    (if_get IsKnownInterface env.declarations.interfaces i known.interfaces)
 method_known env (OfArray of) text known = let found =
     find (is_array_method text)
     (arrays.Length ∷ arrays.Resize ∷ arrays.InsertLast ∷ arrays.RemoveLast ∷ arrays.IsEmpty ∷ []) in

@@ -14,13 +14,13 @@ use Rattle.ash_typed.specs.declared.tree.operations.Calculator.{Calculator}
 use Rattle.ash_typed.specs.declared.tree.operations.Operands.{Operands}
 use Rattle.ash_typed.specs.declared.tree.operations.Operands.TheVariants as operands
 use Rattle.ash_typed.specs.declared.tree.operations.Step.TheVariants as steps
-use Rattle.ash_typing.specs.Checking.{Checking, ◌>>=◌, broken}
+use Rattle.ash_typing.specs.TypingResult.{TypingResult, ◌>>=◌, broken}
 use Rattle.ash_typing.specs.Types.{var_type, object_of, binary_of, integers_in}
 use Rattle.ash_typed.specs.Tree.{Truth, Null, Read, Invoke, Assign, Update, Place, Held}
-use Rattle.ash_typing.specs.Heads.{object_named}
+use Rattle.ash_typing.specs.ModuleDeclarations.{object_named}
 use Rattle.ash_typing.specs.Environment.{Environment, Class, Invoked, variable_in, member_in, method_in}
-use Rattle.ash_typing.specs.Expressions.{Typed, Met, typed, all_typed, links_typed, suffixes_typed, suffix_typed}
-use Rattle.ash_typing.specs.Expressions.{invocation_typed, arguments_at, fitted, met, unary_at, integer_of, convert_at}
+use Rattle.ash_typing.specs.Expressions.{Typed, UnifiedOperands, typed, all_typed, links_typed, suffixes_typed, suffix_typed}
+use Rattle.ash_typing.specs.Expressions.{invocation_typed, arguments_at, coerced_for_assignment, met, unary_at, integer_of, convert_at}
 use Rattle.ash_typing.specs.Expressions.{choice, assigned, assigned_to, stored, updated, is_assign, field_of, member_at}
 use Rattle.ash_typing.specs.Expressions.{method_of, invoked, invoked_at, made, read_at, indexed, cast_type, cast_at}
 use Rattle.ash_typing.specs.Expressions.{placed, term_of}
@@ -33,7 +33,7 @@ use Rattle.ash_typing.proofs.TypingKnown.{known_type, suffix_known}
 use Rattle.ash_typing.proofs.TypingComplete.{terms}
 use Rattle.ash_typing.specs.Terms.{operator_of, is_stored, assignable, term, number_term}
 use Rattle.ash_typing.proofs.TypingSoundCalls.{AllSound, Sound, arguments_ok, array_sound, at_ok, brackets_sound}
-use Rattle.ash_typing.proofs.TypingSoundCalls.{call_sound, cast_sound, cast_type_ok, convert_sound, fitted_ok, index_ok}
+use Rattle.ash_typing.proofs.TypingSoundCalls.{call_sound, cast_sound, cast_type_ok, convert_sound, coerced_for_assignment_ok, index_ok}
 use Rattle.ash_typing.proofs.TypingSoundCalls.{integer_ok, name_sound, this_sound}
 use Rattle.ash_typing.proofs.TypingSoundOperators.{conditional_sound, counted_ok, met_ok, one_link, unary_sound}
 
@@ -55,25 +55,25 @@ assigned_ok classes t u op (Some target) r h = go (is_stored t.form t.ty) refl h
 
 plain_sound : (env : Environment) (left : Bool) (p : place.Place) (e v : written.Expr) (t u r : Typed)
     → HasType env true e (term_of t) → HasType env false v (term_of u)
-    → assigned env.heads.classes t assigns.Assign u ≡ Ok r
+    → assigned env.declarations.classes t assigns.Assign u ≡ Ok r
     → HasType env left (written.Assign p e assigns.Assign v) (term_of r)
 unfolding assigned stored
 plain_sound env left p e v t u r d f h =
-    let a = assigned_ok env.heads.classes t u assigns.Assign (assignable t.form t.tree) r h in
-    let tree = bind_ok (fitted env.heads.classes t.ty u) (λ e. Ok (made t.at t.ty (Assign a.0 e))) r ((a.2).1) in
-    let fit = fitted_ok env.heads.classes t.ty u tree.0 tree.1 in
+    let a = assigned_ok env.declarations.classes t u assigns.Assign (assignable t.form t.tree) r h in
+    let tree = bind_ok (coerced_for_assignment env.declarations.classes t.ty u) (λ e. Ok (made t.at t.ty (Assign a.0 e))) r ((a.2).1) in
+    let fit = coerced_for_assignment_ok env.declarations.classes t.ty u tree.0 tree.1 in
     at_ok (λ r. HasType env left (written.Assign p e assigns.Assign v) (term_of r)) (made t.at t.ty (Assign a.0 tree.0))
     r tree.2 (rw (← fit.1) (assign d a.1 ((a.2).0) f fit.0))
 
 update_sound : (env : Environment) (left : Bool) (p : place.Place) (op : AssignOp) (c : Calculator) (e v : written.Expr)
     (t u r : Typed) → operator_of op ≡ Some c → HasType env false e (term_of t) → HasType env false v (term_of u)
-    → is_known t.ty ≡ true → is_known u.ty ≡ true → assigned env.heads.classes t op u ≡ Ok r
+    → is_known t.ty ≡ true → is_known u.ty ≡ true → assigned env.declarations.classes t op u ≡ Ok r
     → HasType env left (written.Assign p e op v) (term_of r)
 unfolding assigned stored
 update_sound env left p op c e v t u r is d f known as_value h =
-    let a = assigned_ok env.heads.classes t u op (assignable t.form t.tree) r h in
+    let a = assigned_ok env.declarations.classes t u op (assignable t.form t.tree) r h in
     let whole : updated t.at t.ty a.0 c u ≡ Ok r =
-    subst (λ q. stored env.heads.classes t.at t.ty a.0 q u ≡ Ok r) is ((a.2).1) in
+    subst (λ q. stored env.declarations.classes t.at t.ty a.0 q u ≡ Ok r) is ((a.2).1) in
     let m = bind_ok (met (binary_of c) (made t.at t.ty Null) u)
     (λ m. integer_of t.at t.ty
     >>= λ k. Ok (made t.at (ty.Integer k)
@@ -96,7 +96,7 @@ update_sound env left p op c e v t u r is d f known as_value h =
     (term of (Update a.0 k.0 (record { operator = c; of = integers_in n.0 })
     (right_of (binary_of c) n.0 (term t.ty Null) (term_of u))))) i back in
     let all = subst
-    (λ (m : Met).
+    (λ (m : UnifiedOperands).
     HasType env left (written.Assign p e op v)
     (term (ty.Integer k.0) (Update a.0 k.0 (record { operator = c; of = integers_in m.operands }) m.right))) n.2
     kind in
@@ -106,7 +106,7 @@ update_sound env left p op c e v t u r is d f known as_value h =
 
 assign_sound : (env : Environment) (left : Bool) (p : place.Place) (op : AssignOp) (e v : written.Expr) (t u r : Typed)
     → HasType env (is_assign op) e (term_of t) → HasType env false v (term_of u) → is_known t.ty ≡ true
-    → is_known u.ty ≡ true → assigned env.heads.classes t op u ≡ Ok r
+    → is_known u.ty ≡ true → assigned env.declarations.classes t op u ≡ Ok r
     → HasType env left (written.Assign p e op v) (term_of r)
 assign_sound env left p assigns.Assign e v t u r d f known as_value h = plain_sound env left p e v t u r d f h
 assign_sound env left p _ e v t u r d f known as_value h =
@@ -149,22 +149,22 @@ method_sound : (env : Environment) (t : Typed) (p : place.Place) (text : List �
 unfolding invoked
 method_sound env t p text es r known all h =
     let m = bind_ok (method_of env t t.ty p.at text)
-    (λ m. all_typed env es >>= λ ts. invoked env.heads.classes t p.at ts m) r h in
+    (λ m. all_typed env es >>= λ ts. invoked env.declarations.classes t p.at ts m) r h in
     let i = method_ok env t t.ty p.at text m.0 known m.1 in
-    let a = bind_ok (all_typed env es) (λ ts. invoked env.heads.classes t p.at ts m.0) r m.2 in
+    let a = bind_ok (all_typed env es) (λ ts. invoked env.declarations.classes t p.at ts m.0) r m.2 in
     let found = (i.2).0 in
-    let called : invoked env.heads.classes t p.at a.0 (Some found) ≡ Ok r =
-    subst (λ m. invoked env.heads.classes t p.at a.0 m ≡ Ok r) (sym ((i.2).2)) a.2 in
-    let b = bind_ok (arguments_at env.heads.classes p.at found.parameters a.0)
+    let called : invoked env.declarations.classes t p.at a.0 (Some found) ≡ Ok r =
+    subst (λ m. invoked env.declarations.classes t p.at a.0 m ≡ Ok r) (sym ((i.2).2)) a.2 in
+    let b = bind_ok (arguments_at env.declarations.classes p.at found.parameters a.0)
     (λ es. Ok (made t.at found.result (Invoke t.tree found.method (map var_type found.parameters) es))) r called in
     at_ok (λ r. SuffixHasType env (term_of t) (written.Method p text es) (term_of r))
     (made t.at found.result (Invoke t.tree found.method (map var_type found.parameters) b.0)) r b.2
-    (method i.1 ((i.2).1) (all a.0 a.1) (arguments_ok env.heads.classes p.at found.parameters a.0 b.0 b.1))
+    (method i.1 ((i.2).1) (all a.0 a.1) (arguments_ok env.declarations.classes p.at found.parameters a.0 b.0 b.1))
 
 -- the walk
 
 -- an expression that is walked first
-walked : (env : Environment) (left : Bool) (e : written.Expr) (f : Typed → Checking Typed) (r : Typed) (Q : Type 0)
+walked : (env : Environment) (left : Bool) (e : written.Expr) (f : Typed → TypingResult Typed) (r : Typed) (Q : Type 0)
     → IsKnown env → Sound env left e → (typed env left e >>= f) ≡ Ok r
     → ((u : Typed) → HasType env left e (term_of u) → is_known u.ty ≡ true → f u ≡ Ok r → Q) → Q
 walked env left e f r Q known sound h go =
@@ -190,9 +190,9 @@ mutual
       (sound env known false e) h (λ u d k g. convert_sound env left p to e u r d k g)
   sound env known left (written.NewArray p of es) r h = array_sound env left p of es r (all_sound env known es) h
   sound env known left (written.Cast p to e) r h =
-      let o = bind_ok (cast_type to.place.at (object_named env.registered env.heads to.name))
+      let o = bind_ok (cast_type to.place.at (object_named env.registered env.declarations to.name))
       (λ o. typed env false e >>= λ t. cast_at p.at o t) r h in
-      let c = cast_type_ok to.place.at (object_named env.registered env.heads to.name) o.0 o.1 in
+      let c = cast_type_ok to.place.at (object_named env.registered env.declarations to.name) o.0 o.1 in
       walked env false e
       (λ t. cast_at p.at o.0 t) r (HasType env left (written.Cast p to e) (term_of r)) known
       (sound env known false e) o.2 (λ u d k g. cast_sound env left p to e o.0 u r c.0 c.1 d k g)
@@ -220,10 +220,10 @@ mutual
   sound env known left (written.Assign p e op v) r h =
       let Q : Type 0 = HasType env left (written.Assign p e op v) (term_of r) in
       walked env (is_assign op) e
-      (λ target. typed env false v >>= λ value. assigned env.heads.classes target op value) r Q known
+      (λ target. typed env false v >>= λ value. assigned env.declarations.classes target op value) r Q known
       (sound env known (is_assign op) e) h (λ t d k g.
       walked env false v
-      (λ value. assigned env.heads.classes t op value) r Q known (sound env known false v) g (λ u f l i.
+      (λ value. assigned env.declarations.classes t op value) r Q known (sound env known false v) g (λ u f l i.
       assign_sound env left p op e v t u r d f k l i))
 
   pub all_sound : (env : Environment) → IsKnown env → (es : written.Exprs) → AllSound env es

@@ -16,14 +16,14 @@ use Rattle.ash_typed.specs.declared.types.Element.{Element}
 use Rattle.ash_typed.specs.declared.tree.operations.Target.TheVariants as targets
 use Rattle.ash_typing.specs.declared.types.Ty.{Ty}
 use Rattle.ash_typing.specs.declared.types.Ty.TheVariants as ty
-use Rattle.ash_typing.specs.Checking.{Checking, ◌>>=◌, broken}
+use Rattle.ash_typing.specs.TypingResult.{TypingResult, ◌>>=◌, broken}
 use Rattle.ash_typing.specs.Types.{var_type, object_of, ty_of, ty_of_element}
 use Rattle.ash_typed.specs.Tree.{Expr, Exprs, This, Read, Cast, Call, Indexed, no_expr, expr}
-use Rattle.ash_typing.specs.Fitting.{fits}
-use Rattle.ash_typing.specs.Heads.{object_named, element_named}
+use Rattle.ash_typing.specs.Coercions.{fits}
+use Rattle.ash_typing.specs.ModuleDeclarations.{object_named, element_named}
 use Rattle.ash_typing.specs.Environment.{Environment, Class, Known, Callee, variable_in, callee_in, array_built}
 use Rattle.ash_typing.specs.Expressions.{Typed, typed, all_typed, call_typed, called, callee_at, known_at, this_at}
-use Rattle.ash_typing.specs.Expressions.{arguments_at, all_fitted, fitted, brought, integer_of, bool_of, handle_of}
+use Rattle.ash_typing.specs.Expressions.{arguments_at, all_coerced, coerced_for_assignment, coerced, integer_of, bool_of, handle_of}
 use Rattle.ash_typing.specs.Expressions.{convert_at, converting, made, read_at, integer_at, in_brackets, index_in}
 use Rattle.ash_typing.specs.Expressions.{indexed_object, indexed, at_element, known_element, array_typed, cast_type}
 use Rattle.ash_typing.specs.Expressions.{cast_at, term_of}
@@ -35,7 +35,7 @@ use Rattle.ash_typing.proofs.TypingComplete.{terms}
 use Rattle.ash_typing.specs.Terms.{call_of, array_parameters, Term, term, converted_to}
 
 -- what holds of what is answered holds of its equal
-pub at_ok : {A : Type 0} (Q : A → Type 0) (x y : A) → ◌≡◌ {A = Checking A} (Ok x) (Ok y) → Q x → Q y
+pub at_ok : {A : Type 0} (Q : A → Type 0) (x y : A) → ◌≡◌ {A = TypingResult A} (Ok x) (Ok y) → Q x → Q y
 at_ok Q x y h q = subst Q (same_ok x y h) q
 
 -- what an operand is
@@ -59,31 +59,31 @@ object_ok at _ h known e = absurd (no_fault _ h e)
 
 -- arguments
 
-pub fitted_ok : (classes : List Class) (of : Ty) (t : Typed) (e : Expr) → fitted classes of t ≡ Ok e
+pub coerced_for_assignment_ok : (classes : List Class) (of : Ty) (t : Typed) (e : Expr) → coerced_for_assignment classes of t ≡ Ok e
     → (fits classes of t.ty ≡ true) × (converted_to of (term_of t) ≡ e)
-unfolding fitted
-fitted_ok classes of t e h = go (fits classes of t.ty) h
+unfolding coerced_for_assignment
+coerced_for_assignment_ok classes of t e h = go (fits classes of t.ty) h
   where
-    go : (b : Bool) → cond b (Ok (brought of t)) (broken rules.TypeMismatch t.at) ≡ Ok e
+    go : (b : Bool) → cond b (Ok (coerced of t)) (broken rules.TypeMismatch t.at) ≡ Ok e
         → (b ≡ true) × (converted_to of (term_of t) ≡ e)
-    go true h = (refl, same_ok (brought of t) e h)
+    go true h = (refl, same_ok (coerced of t) e h)
     go false h = absurd (no_fault _ e h)
 
-all_fitted_ok : (classes : List Class) (parameters : List Ty) (ts : List Typed) (trees : Exprs)
-    → length parameters ≡ length ts → all_fitted classes parameters ts ≡ Ok trees
+all_coerced_ok : (classes : List Class) (parameters : List Ty) (ts : List Typed) (trees : Exprs)
+    → length parameters ≡ length ts → all_coerced classes parameters ts ≡ Ok trees
     → AreArguments classes parameters (terms ts) trees
-all_fitted_ok classes [] [] trees n h = at_ok (λ trees. AreArguments classes [] [] trees) no_expr trees h no_arguments
-all_fitted_ok classes [] (t ∷ ts) trees n h = cc
-all_fitted_ok classes (of ∷ parameters) [] trees n h = cc
-all_fitted_ok classes (of ∷ parameters) (t ∷ ts) trees n h =
-    let first = bind_ok (fitted classes of t)
-    (λ e. all_fitted classes parameters ts >>= λ es. Ok (expr e es)) trees h in
-    let rest = bind_ok (all_fitted classes parameters ts) (λ es. Ok (expr first.0 es)) trees first.2 in
-    let fit = fitted_ok classes of t first.0 first.1 in
+all_coerced_ok classes [] [] trees n h = at_ok (λ trees. AreArguments classes [] [] trees) no_expr trees h no_arguments
+all_coerced_ok classes [] (t ∷ ts) trees n h = cc
+all_coerced_ok classes (of ∷ parameters) [] trees n h = cc
+all_coerced_ok classes (of ∷ parameters) (t ∷ ts) trees n h =
+    let first = bind_ok (coerced_for_assignment classes of t)
+    (λ e. all_coerced classes parameters ts >>= λ es. Ok (expr e es)) trees h in
+    let rest = bind_ok (all_coerced classes parameters ts) (λ es. Ok (expr first.0 es)) trees first.2 in
+    let fit = coerced_for_assignment_ok classes of t first.0 first.1 in
     at_ok (λ trees. AreArguments classes (of ∷ parameters) (term_of t ∷ terms ts) trees) (expr first.0 rest.0) trees
     rest.2 (subst
     (λ x. AreArguments classes (of ∷ parameters) (term_of t ∷ terms ts) (expr x rest.0)) fit.1
-    (argument fit.0 (all_fitted_ok classes parameters ts rest.0 (ap pred n) rest.1)))
+    (argument fit.0 (all_coerced_ok classes parameters ts rest.0 (ap pred n) rest.1)))
 
 pub arguments_ok : (classes : List Class) (at : ℕ) (parameters : List Ty) (ts : List Typed) (trees : Exprs)
     → arguments_at classes at parameters ts ≡ Ok trees → AreArguments classes parameters (terms ts) trees
@@ -91,9 +91,9 @@ unfolding arguments_at
 arguments_ok classes at parameters ts trees h = go (nat_eq (length parameters) (length ts)) refl h
   where
     go : (b : Bool) → nat_eq (length parameters) (length ts) ≡ b
-        → cond b (all_fitted classes parameters ts) (broken rules.WrongArgumentCount at) ≡ Ok trees
+        → cond b (all_coerced classes parameters ts) (broken rules.WrongArgumentCount at) ≡ Ok trees
         → AreArguments classes parameters (terms ts) trees
-    go true n h = all_fitted_ok classes parameters ts trees (eqb-true (length parameters) (length ts) n) h
+    go true n h = all_coerced_ok classes parameters ts trees (eqb-true (length parameters) (length ts) n) h
     go false n h = absurd (no_fault _ trees h)
 
 -- phrases
@@ -149,9 +149,9 @@ pub call_sound : (env : Environment) (left : Bool) (p : place.Place) (text : Lis
     → HasType env left (written.Call p text es) (term_of r)
 call_sound env left p text es r all h =
     let c = bind_ok (callee_at p.at (callee_in env text))
-    (λ callee. all_typed env es >>= λ ts. called env.heads.classes p.at callee ts callee.parameters) r h in
-    let a = bind_ok (all_typed env es) (λ ts. called env.heads.classes p.at c.0 ts (c.0).parameters) r c.2 in
-    let d = called_ok env.heads.classes p.at c.0 a.0 (c.0).parameters r a.2 in
+    (λ callee. all_typed env es >>= λ ts. called env.declarations.classes p.at callee ts callee.parameters) r h in
+    let a = bind_ok (all_typed env es) (λ ts. called env.declarations.classes p.at c.0 ts (c.0).parameters) r c.2 in
+    let d = called_ok env.declarations.classes p.at c.0 a.0 (c.0).parameters r a.2 in
     subst (λ r. HasType env left (written.Call p text es) (term_of r)) ((d.2).2)
     (call (callee_ok p.at (callee_in env text) c.0 c.1) d.1 (all a.0 a.1) ((d.2).1))
 
@@ -190,13 +190,13 @@ element_ok at (Some found) e h = ap Some (same_ok found e h)
 
 array_by : (env : Environment) (left : Bool) (p : place.Place) (of : written.Element) (es : written.Exprs)
     (elements : Element) (ts : List Term) (count : ℕ) (trees : Exprs) → length ts ≡ count
-    → element_named env.registered env.heads of ≡ Some elements → AllHaveType env es ts
-    → AreArguments env.heads.classes (array_parameters count) ts trees
+    → element_named env.registered env.declarations of ≡ Some elements → AllHaveType env es ts
+    → AreArguments env.declarations.classes (array_parameters count) ts trees
     → HasType env left (written.NewArray p of es)
     (term (ty.Handle (objects.Array elements))
     (Call (targets.Array elements) (map var_type (array_parameters count)) trees))
 array_by env left p of es elements ts count trees c n all args =
-    subst (λ (count : ℕ). AreArguments env.heads.classes (array_parameters count) ts trees
+    subst (λ (count : ℕ). AreArguments env.declarations.classes (array_parameters count) ts trees
     → HasType env left (written.NewArray p of es)
     (term (ty.Handle (objects.Array elements))
     (Call (targets.Array elements) (map var_type (array_parameters count)) trees))) c
@@ -206,18 +206,18 @@ pub array_sound : (env : Environment) (left : Bool) (p : place.Place) (of : writ
     (r : Typed) → AllSound env es → array_typed env p.at of (all_typed env es) ≡ Ok r
     → HasType env left (written.NewArray p of es) (term_of r)
 array_sound env left p of es r all h =
-    let e = bind_ok (known_element (at_element of) (element_named env.registered env.heads of))
+    let e = bind_ok (known_element (at_element of) (element_named env.registered env.declarations of))
     (λ e. all_typed env es
-    >>= λ ts. called env.heads.classes p.at (array_built e (length ts)) ts (Some (array_parameters (length ts)))) r
+    >>= λ ts. called env.declarations.classes p.at (array_built e (length ts)) ts (Some (array_parameters (length ts)))) r
     h in
     let a = bind_ok (all_typed env es)
-    (λ ts. called env.heads.classes p.at (array_built e.0 (length ts)) ts (Some (array_parameters (length ts)))) r
+    (λ ts. called env.declarations.classes p.at (array_built e.0 (length ts)) ts (Some (array_parameters (length ts)))) r
     e.2 in
-    let d = called_with env.heads.classes p.at (array_built e.0 (length a.0)) a.0 (array_parameters (length a.0)) r
+    let d = called_with env.declarations.classes p.at (array_built e.0 (length a.0)) a.0 (array_parameters (length a.0)) r
     a.2 in
     subst (λ r. HasType env left (written.NewArray p of es) (term_of r)) d.2
     (array_by env left p of es e.0 (terms a.0) (length a.0) d.0 (length-map a.0 term_of)
-    (element_ok (at_element of) (element_named env.registered env.heads of) e.0 e.1) (all a.0 a.1) d.1)
+    (element_ok (at_element of) (element_named env.registered env.declarations of) e.0 e.1) (all a.0 a.1) d.1)
 
 index_object_ok : (t i : Typed) (o : ObjectType) (r : Typed) → is_known i.ty ≡ true → indexed_object t i o ≡ Ok r
     → (e : Element) × (o ≡ objects.Array e)
@@ -225,8 +225,8 @@ index_object_ok : (t i : Typed) (o : ObjectType) (r : Typed) → is_known i.ty �
     × (read_at t.at (ty_of_element e) (Read (Indexed t.tree (converted_to (ty.Integer kinds.Uint) (term_of i)) e)) ≡ r))
 index_object_ok t i (objects.Array e) r known h =
     let x = bind_ok (index_in i) (λ index. Ok (read_at t.at (ty_of_element e) (Read (Indexed t.tree index e)))) r h in
-    let k = bind_ok (integer_of i.at i.ty) (λ k. Ok (brought (ty.Integer kinds.Uint) i)) x.0 x.1 in
-    let tree = same_ok (brought (ty.Integer kinds.Uint) i) x.0 k.2 in (
+    let k = bind_ok (integer_of i.at i.ty) (λ k. Ok (coerced (ty.Integer kinds.Uint) i)) x.0 x.1 in
+    let tree = same_ok (coerced (ty.Integer kinds.Uint) i) x.0 k.2 in (
       e,
       refl,
       (
@@ -261,7 +261,7 @@ cast_type_ok at (Some (objects.Interface interface)) o h = (
 cast_type_ok at (Some _) o h = absurd (no_fault _ o h)
 
 pub cast_sound : (env : Environment) (left : Bool) (p : place.Place) (to : written.TypeName) (e : written.Expr)
-    (o : ObjectType) (u r : Typed) → object_named env.registered env.heads to.name ≡ Some o → IsCastType o
+    (o : ObjectType) (u r : Typed) → object_named env.registered env.declarations to.name ≡ Some o → IsCastType o
     → HasType env false e (term_of u) → is_known u.ty ≡ true → cast_at p.at o u ≡ Ok r
     → HasType env left (written.Cast p to e) (term_of r)
 unfolding cast_at

@@ -8,17 +8,17 @@ use Rattle.ash_tree.specs.Tree as written
 use Rattle.ash_typed.specs.declared.types.Kind.{Kind}
 use Rattle.ash_typing.specs.declared.types.Ty.{Ty}
 use Rattle.ash_typing.specs.declared.types.Ty.TheVariants as ty
-use Rattle.ash_typing.specs.declared.forms.Sort.{Sort}
+use Rattle.ash_typing.specs.declared.forms.OperatorClass.{OperatorClass}
 use Rattle.ash_typed.specs.declared.tree.operations.Change.TheVariants as changes
 use Rattle.ash_typed.specs.declared.tree.operations.Operands.{Operands}
 use Rattle.ash_typed.specs.declared.tree.operations.Step.{Step}
 use Rattle.ash_typed.specs.declared.tree.operations.Step.TheVariants as steps
-use Rattle.ash_typing.specs.Checking.{◌>>=◌}
+use Rattle.ash_typing.specs.TypingResult.{◌>>=◌}
 use Rattle.ash_typing.specs.Types.{signed, common, sort_of, outcome, meets, assumed}
 use Rattle.ash_typed.specs.Tree.{Expr, Alter, Conditional, Count, Place}
 use Rattle.ash_typing.specs.Environment.{Environment}
-use Rattle.ash_typing.specs.Expressions.{Typed, Met, typed, links_typed, brought, operate, operated as joined, met}
-use Rattle.ash_typing.specs.Expressions.{met_as, met_by, counted, altered, unary_at, integer_of, bool_of, handle_of}
+use Rattle.ash_typing.specs.Expressions.{Typed, UnifiedOperands, typed, links_typed, coerced, operate, operated as joined, met}
+use Rattle.ash_typing.specs.Expressions.{unified_as, unified_by, counted, altered, unary_at, integer_of, bool_of, handle_of}
 use Rattle.ash_typing.specs.Expressions.{handle_at, choice, chosen, made, integer_at, placed, term_of}
 use Rattle.ash_typing.specs.Typing.{IsKnown, is_known, HasType, LinksHaveType, plus, minus, complement, not, increment}
 use Rattle.ash_typing.specs.Typing.{decrement, handle, handle_written, conditional, operated, Meet, left_of, right_of}
@@ -86,28 +86,28 @@ unary_sound env left p unary.Handle e u r d known h = handle_sound env left p e 
 
 -- operators between two operands
 
-met_as_ok : (s : Sort) (x y : Typed) (found : Option Operands) (m : Met) → met_as s x y found ≡ Ok m
+met_as_ok : (s : OperatorClass) (x y : Typed) (found : Option Operands) (m : UnifiedOperands) → unified_as s x y found ≡ Ok m
     → (o : Operands) × (found ≡ Some o) × (record { left = x; operands = o; right = right_by s o (term_of y) } ≡ m)
 met_as_ok s x y None m h = absurd (no_fault _ m h)
 met_as_ok s x y (Some o) m h = (o, refl, same_ok _ m h)
 
-met_by_ok : (s : Sort) (t u : Term) (a b : ℕ) (m : Met) → is_known t.ty ≡ true → is_known u.ty ≡ true
-    → met_by s (placed a t) (placed b u) ≡ Ok m
+met_by_ok : (s : OperatorClass) (t u : Term) (a b : ℕ) (m : UnifiedOperands) → is_known t.ty ≡ true → is_known u.ty ≡ true
+    → unified_by s (placed a t) (placed b u) ≡ Ok m
     → (o : Operands) × (meets s t.ty u.ty ≡ Some o)
     × (record { left = placed a t; operands = o; right = right_by s o u } ≡ m)
 met_by_ok s t u a b m known as_value h =
     let as_known : meets s (assumed s u.ty t.ty) (assumed s t.ty u.ty) ≡ meets s t.ty u.ty =
     rw (known_alone s u.ty t.ty known, known_alone s t.ty u.ty as_value) refl in
     let f = met_as_ok s (placed a t) (placed b u) (meets s t.ty u.ty) m
-    (subst (λ found. met_as s (placed a t) (placed b u) found ≡ Ok m) as_known h) in (
+    (subst (λ found. unified_as s (placed a t) (placed b u) found ≡ Ok m) as_known h) in (
       f.0,
       f.1,
       subst
-          (λ (x : Expr). ◌≡◌ {A = Met} (record { left = placed a t; operands = f.0; right = x }) m) (right_is s f.0 b u)
+          (λ (x : Expr). ◌≡◌ {A = UnifiedOperands} (record { left = placed a t; operands = f.0; right = x }) m) (right_is s f.0 b u)
           f.2,
     )
 
-pub met_ok : (op : BinaryOp) (t u : Typed) (m : Met) → is_known t.ty ≡ true → is_known u.ty ≡ true → met op t u ≡ Ok m
+pub met_ok : (op : BinaryOp) (t u : Typed) (m : UnifiedOperands) → is_known t.ty ≡ true → is_known u.ty ≡ true → met op t u ≡ Ok m
     → (o : Operands) × Meet op (term_of t) (term_of u) o
     × (record {
       left = placed t.at (adapted_to (sort_of op) (term_of u) (term_of t));
@@ -155,7 +155,7 @@ one_link env t op e ls r known as_value sound rest h =
 -- `c ? a : b`
 
 chosen_ok : (c a b : Typed) (found : Option Ty) (r : Typed) → chosen c a b found ≡ Ok r
-    → (of : Ty) × (found ≡ Some of) × (made c.at of (Conditional c.tree (brought of a) (brought of b)) ≡ r)
+    → (of : Ty) × (found ≡ Some of) × (made c.at of (Conditional c.tree (coerced of a) (coerced of b)) ≡ r)
 chosen_ok c a b None r h = absurd (no_fault _ r h)
 chosen_ok c a b (Some of) r h = (of, refl, same_ok _ r h)
 

@@ -14,8 +14,8 @@ use Rattle.ash_typed.specs.declared.tree.operations.Variable.TheVariants as vari
 use Rattle.ash_typed.specs.declared.tree.operations.Member.{Member}
 use Rattle.ash_typed.specs.declared.tree.operations.Operands.{Operands}
 use Rattle.ash_typed.specs.declared.tree.operations.Operands.TheVariants as operands
-use Rattle.ash_typing.specs.declared.forms.Sort.{Sort}
-use Rattle.ash_typing.specs.declared.forms.Sort.TheVariants as sort
+use Rattle.ash_typing.specs.declared.forms.OperatorClass.{OperatorClass}
+use Rattle.ash_typing.specs.declared.forms.OperatorClass.TheVariants as sort
 use Rattle.ash_typed.specs.Tree.{Expr, This, Read, Place, Stored, Held, place_in, converted}
 use Rattle.ash_typed.specs.TypeOf.{type_of, type_of_place, value, value_of_result, as_value, chosen_type}
 use Rattle.ash_typed.specs.declared.types.VarType.{VarType}
@@ -88,7 +88,7 @@ assigned_type _ e at h = absurd (none-some at h)
 
 -- operators
 
-calculated_type : (s : Sort) (o : Operands) → ((k : Kind) → outcome s (operands.Integers k) ≡ ty.Integer k)
+calculated_type : (s : OperatorClass) (o : Operands) → ((k : Kind) → outcome s (operands.Integers k) ≡ ty.Integer k)
     → o ≡ operands.Integers (integers_in o) → value (vars.Integer (integers_in o)) ≡ value_type (outcome s o)
 calculated_type s o h e = ap value_type (sym (ap (outcome s) e ∙ h (integers_in o)))
 
@@ -238,10 +238,10 @@ variable_read env text =
     let global =
     if_map IsReadName
     (λ (found : ℕ × Declared). (Read (Stored (variables.Global found.0 (var_type found.1.of))), found.1.of))
-    (first_from (declares text) 0 env.heads.globals)
-    (if_all (first_from (declares text) 0 env.heads.globals) (λ found. (_, refl))) in
-    if_or IsReadName (local_in env.locals text) (option_or (own_field_in env text) (global_in env.heads.globals text))
-    local (if_or IsReadName (own_field_in env text) (global_in env.heads.globals text) own global)
+    (first_from (declares text) 0 env.declarations.globals)
+    (if_all (first_from (declares text) 0 env.declarations.globals) (λ found. (_, refl))) in
+    if_or IsReadName (local_in env.locals text) (option_or (own_field_in env text) (global_in env.declarations.globals text))
+    local (if_or IsReadName (own_field_in env text) (global_in env.declarations.globals text) own global)
 
 bracketed_read : (f : Form) (tree : Expr) → IsReadWherePlace f tree → IsReadWherePlace (bracketed f) tree
 bracketed_read form.Place tree h = h

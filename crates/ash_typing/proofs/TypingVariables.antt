@@ -7,18 +7,18 @@ use Rattle.ash_typed.specs.declared.types.ObjectType.{ObjectType}
 use Rattle.ash_typing.specs.declared.types.Ty.{Ty}
 use Rattle.ash_typing.specs.declared.types.Ty.TheVariants as ty
 use Rattle.ash_typing.specs.Types.{var_type, object_of}
-use Rattle.ash_typing.specs.Fitting.{fits}
+use Rattle.ash_typing.specs.Coercions.{fits}
 use Rattle.ash_typed.specs.Tree.{Expr, Exprs}
 use Rattle.ash_typing.specs.Environment.{Environment, Class, Callee, construction}
-use Rattle.ash_typing.specs.Expressions.{Typed, typed, all_typed, fitted, called, placed, all_placed, term_of, first_at}
+use Rattle.ash_typing.specs.Expressions.{Typed, typed, all_typed, coerced_for_assignment, called, placed, all_placed, term_of, first_at}
 use Rattle.ash_typing.specs.Declarations.{Initialization, constructed, begun, begun_with, begun_by, begun_by_one}
 use Rattle.ash_typing.specs.Declarations.{stored_first, initialized, decl_typed, built}
 use Rattle.ash_typing.specs.Typing.{IsKnown, is_object, HasType, AllHaveType, each, AreArguments, IsConstructed}
 use Rattle.ash_typing.specs.Typing.{construct, BeginsWith, empty, default, value, one, built_by, IsDeclared, declared}
 use Rattle.ash_typing.proofs.TypingWords.{no_fault, same_ok, bind_ok}
-use Rattle.ash_typing.proofs.TypingComplete.{terms, all_terms, placed_count, complete, all_complete, fitted_is}
+use Rattle.ash_typing.proofs.TypingComplete.{terms, all_terms, placed_count, complete, all_complete, coerced_for_assignment_is}
 use Rattle.ash_typing.proofs.TypingComplete.{arguments_is}
-use Rattle.ash_typing.proofs.TypingSoundCalls.{at_ok, fitted_ok, called_ok}
+use Rattle.ash_typing.proofs.TypingSoundCalls.{at_ok, coerced_for_assignment_ok, called_ok}
 use Rattle.ash_typing.proofs.TypingSound.{sound, all_sound}
 use Rattle.ash_typing.specs.Terms.{call_of, initialization, Term, converted_to}
 
@@ -26,20 +26,20 @@ use Rattle.ash_typing.specs.Terms.{call_of, initialization, Term, converted_to}
 
 built_is : (env : Environment) (at : ℕ) (o : ObjectType) (us : List Typed) (count : ℕ) (callee : Callee)
     (parameters : List Ty) (trees : Exprs) → construction env o count ≡ Some callee
-    → callee.parameters ≡ Some parameters → AreArguments env.heads.classes parameters (terms us) trees
-    → constructed env.heads.classes at us (construction env o count)
+    → callee.parameters ≡ Some parameters → AreArguments env.declarations.classes parameters (terms us) trees
+    → constructed env.declarations.classes at us (construction env o count)
     ≡ Ok (Some (call_of callee.target (map var_type parameters) trees))
 unfolding constructed called
 built_is env at o us count callee parameters trees c p a =
-    rw (c, p, arguments_is env.heads.classes at parameters us trees a) refl
+    rw (c, p, arguments_is env.declarations.classes at parameters us trees a) refl
 
 constructed_is : (env : Environment) (at : ℕ) (o : ObjectType) (us : List Typed) (count : ℕ) (ts : List Term)
     (tree : Expr) → terms us ≡ ts → length ts ≡ count → IsConstructed env o ts tree
-    → constructed env.heads.classes at us (construction env o count) ≡ Ok (Some tree)
+    → constructed env.declarations.classes at us (construction env o count) ≡ Ok (Some tree)
 constructed_is env at o us count ts tree e n
     (construct {callee = callee} {parameters = parameters} {trees = trees} c p a) =
     built_is env at o us count callee parameters trees (subst (λ count. construction env o count ≡ Some callee) n c) p
-    (subst (λ ts. AreArguments env.heads.classes parameters ts trees) (sym e) a)
+    (subst (λ ts. AreArguments env.declarations.classes parameters ts trees) (sym e) a)
 
 empty_is : (env : Environment) (at : ℕ) (of : Ty) → is_object of ≡ false → begun env at of ≡ Ok None
 unfolding begun
@@ -48,7 +48,7 @@ empty_is env at _ h = refl
 
 stored_is : (classes : List Class) (of : Ty) (b : ℕ) (t : Term) → fits classes of t.ty ≡ true
     → stored_first classes of (placed b t) ≡ Ok (Some (converted_to of t))
-stored_is classes of b t h = rw (fitted_is classes of b t h) refl
+stored_is classes of b t h = rw (coerced_for_assignment_is classes of b t h) refl
 
 value_is : (classes : List Class) (at : ℕ) (of : Ty) (b : ℕ) (t : Term) → is_object of ≡ false
     → fits classes of t.ty ≡ true → begun_with classes at of (placed b t) ≡ Ok (Some (converted_to of t))
@@ -57,11 +57,11 @@ value_is classes at (ty.Object o) b t h f = cc
 value_is classes at of b t h f = stored_is classes of b t f
 
 one_is : (env : Environment) (of_at at : ℕ) (of : Ty) (b : ℕ) (t : Term) → object_of of ≡ None
-    → fits env.heads.classes of t.ty ≡ true → begun_by env of_at at of (placed b t ∷ []) ≡ Ok (Some (converted_to of t))
+    → fits env.declarations.classes of t.ty ≡ true → begun_by env of_at at of (placed b t ∷ []) ≡ Ok (Some (converted_to of t))
 unfolding begun_by begun_by_one
 one_is env of_at at (ty.Object o) b t h f = cc
 one_is env of_at at (ty.Handle o) b t h f = cc
-one_is env of_at at of b t h f = stored_is env.heads.classes of b t f
+one_is env of_at at of b t h f = stored_is env.declarations.classes of b t f
 
 pub begins_complete : {env : Environment} {of : Ty} {i : written.Initializer} {begins : Option Expr}
     → BeginsWith env of i begins → (of_at at : ℕ) → initialized env of_at at of i ≡ Ok begins
@@ -69,7 +69,7 @@ unfolding initialized begun begun_by
 begins_complete {env} {of} (empty h) of_at at = empty_is env of_at of h
 begins_complete {env} (default {o = o} {tree = tree} c) of_at at = constructed_is env of_at o [] 0 [] tree refl refl c
 begins_complete {env} (value {of = of} {e = e} {t = t} h d f) of_at at =
-    rw (complete d) (value_is env.heads.classes at of (first_at e) t h f)
+    rw (complete d) (value_is env.declarations.classes at of (first_at e) t h f)
 begins_complete {env} (one {of = of} {e = e} {t = t} h d f) of_at at =
     rw (complete d) (one_is env of_at at of (first_at e) t h f)
 begins_complete {env} (built_by {o = o} {es = es} {ts = ts} {tree = tree} all c) of_at at =
@@ -86,13 +86,13 @@ declared_complete (declared {d = d} h) at = rw (begins_complete h at d.place.at)
 
 constructed_ok : (env : Environment) (at : ℕ) (o : ObjectType) (us : List Typed) (count : ℕ) (found : Option Callee)
     (begins : Option Expr) → count ≡ length (terms us) → construction env o count ≡ found
-    → constructed env.heads.classes at us found ≡ Ok begins
+    → constructed env.declarations.classes at us found ≡ Ok begins
     → (tree : Expr) × IsConstructed env o (terms us) tree × (Some tree ≡ begins)
 unfolding constructed
 constructed_ok env at o us count None begins n e h = absurd (no_fault _ begins h)
 constructed_ok env at o us count (Some callee) begins n e h =
-    let t = bind_ok (called env.heads.classes at callee us callee.parameters) (λ t. Ok (built t)) begins h in
-    let c = called_ok env.heads.classes at callee us callee.parameters t.0 t.1 in (
+    let t = bind_ok (called env.declarations.classes at callee us callee.parameters) (λ t. Ok (built t)) begins h in
+    let c = called_ok env.declarations.classes at callee us callee.parameters t.0 t.1 in (
       call_of callee.target (map var_type c.0) ((c.2).0),
       construct (subst (λ count. construction env o count ≡ Some callee) n e) c.1 ((c.2).1),
       ap (λ (t : Typed). built t) ((c.2).2) ∙ same_ok (built t.0) begins t.2,
@@ -109,16 +109,16 @@ begun_sound env at of begins h = at_ok (λ begins. BeginsWith env of written.Def
 stored_ok : (classes : List Class) (of : Ty) (t : Typed) (begins : Option Expr) → stored_first classes of t ≡ Ok begins
     → (fits classes of t.ty ≡ true) × (Some (converted_to of (term_of t)) ≡ begins)
 stored_ok classes of t begins h =
-    let e = bind_ok (fitted classes of t) (λ e. Ok (Some e)) begins h in
-    let f = fitted_ok classes of t e.0 e.1 in
+    let e = bind_ok (coerced_for_assignment classes of t) (λ e. Ok (Some e)) begins h in
+    let f = coerced_for_assignment_ok classes of t e.0 e.1 in
     (f.0, ap Some f.1 ∙ same_ok (Some e.0) begins e.2)
 
 value_sound : (env : Environment) (at : ℕ) (of : Ty) (e : written.Expr) (t : Typed) (begins : Option Expr)
-    → HasType env false e (term_of t) → begun_with env.heads.classes at of t ≡ Ok begins
+    → HasType env false e (term_of t) → begun_with env.declarations.classes at of t ≡ Ok begins
     → BeginsWith env of (written.Value e) begins
 unfolding begun_with
 value_sound env at (ty.Object o) e t begins d h = absurd (no_fault _ begins h)
-value_sound env at of e t begins d h = let s = stored_ok env.heads.classes of t begins h in
+value_sound env at of e t begins d h = let s = stored_ok env.declarations.classes of t begins h in
     subst (λ begins. BeginsWith env of (written.Value e) begins) s.1 (value refl d s.0)
 
 out_first : {env : Environment} {e : written.Expr} {t : Term} {es : written.Exprs}
@@ -134,15 +134,15 @@ no_second (each d rest) = none_typed rest
 
 alone_sound : (env : Environment) (of : Ty) (es : List written.Expr) (t : Typed) (begins : Option Expr)
     → object_of of ≡ None → AllHaveType env (written.exprs es) (term_of t ∷ [])
-    → stored_first env.heads.classes of t ≡ Ok begins → BeginsWith env of (written.Arguments es) begins
+    → stored_first env.declarations.classes of t ≡ Ok begins → BeginsWith env of (written.Arguments es) begins
 alone_sound env of [] t begins n all h = elim all [ ]
-alone_sound env of (e ∷ []) t begins n all h = let s = stored_ok env.heads.classes of t begins h in
+alone_sound env of (e ∷ []) t begins n all h = let s = stored_ok env.declarations.classes of t begins h in
     subst (λ begins. BeginsWith env of (written.Arguments (e ∷ [])) begins) s.1 (one n (out_first all) s.0)
 alone_sound env of (e ∷ f ∷ es) t begins n all h = absurd (no_second all)
 
 one_sound : (env : Environment) (at : ℕ) (of : Ty) (es : List written.Expr) (us : List Typed) (begins : Option Expr)
     → object_of of ≡ None → AllHaveType env (written.exprs es) (terms us)
-    → begun_by_one env.heads.classes at of us ≡ Ok begins → BeginsWith env of (written.Arguments es) begins
+    → begun_by_one env.declarations.classes at of us ≡ Ok begins → BeginsWith env of (written.Arguments es) begins
 unfolding begun_by_one
 one_sound env at of es (t ∷ []) begins n all h = alone_sound env of es t begins n all h
 one_sound env at of es _ begins n all h = absurd (no_fault _ begins h)
@@ -164,7 +164,7 @@ pub begins_sound : (env : Environment) → IsKnown env
 unfolding initialized
 begins_sound env known of_at at of written.Default begins h = begun_sound env of_at of begins h
 begins_sound env known of_at at of (written.Value e) begins h =
-    let t = bind_ok (typed env false e) (λ t. begun_with env.heads.classes at of t) begins h in
+    let t = bind_ok (typed env false e) (λ t. begun_with env.declarations.classes at of t) begins h in
     value_sound env at of e t.0 begins (sound env known false e t.0 t.1) t.2
 begins_sound env known of_at at of (written.Arguments es) begins h =
     let ts = bind_ok (all_typed env (written.exprs es)) (λ ts. begun_by env of_at at of ts) begins h in

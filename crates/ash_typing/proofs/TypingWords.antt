@@ -7,13 +7,13 @@ use Rattle.ash_typed.specs.declared.types.Kind.{Kind}
 use Rattle.ash_typed.specs.declared.types.Kind.TheVariants as kinds
 use Rattle.ash_typing.specs.declared.types.Ty.{Ty}
 use Rattle.ash_typing.specs.declared.types.Ty.TheVariants as ty
-use Rattle.ash_typing.specs.declared.forms.Sort.{Sort}
-use Rattle.ash_typing.specs.declared.forms.Sort.TheVariants as sort
+use Rattle.ash_typing.specs.declared.forms.OperatorClass.{OperatorClass}
+use Rattle.ash_typing.specs.declared.forms.OperatorClass.TheVariants as sort
 use Rattle.ash_typed.specs.declared.tree.operations.Calculator.{Calculator}
 use Rattle.ash_typed.specs.declared.tree.operations.Calculator.TheVariants as calculators
 use Rattle.ash_typed.specs.declared.tree.operations.Operands.{Operands}
 use Rattle.ash_typed.specs.declared.tree.operations.Operands.TheVariants as operands
-use Rattle.ash_typing.specs.Checking.{Checking, ◌>>=◌}
+use Rattle.ash_typing.specs.TypingResult.{TypingResult, ◌>>=◌}
 use Rattle.ash_typing.specs.Types.{is_same_kind, meeting, sort_of, binary_of, integers_in, meets, assumed}
 use Rattle.ash_typing.specs.Expressions.{adapted, met, placed, term_of}
 use Rattle.ash_typing.specs.Typing.{is_known, Meet, right_of}
@@ -21,28 +21,28 @@ use Rattle.ash_typing.specs.Terms.{Term, adapted_to, converted_to, right_by}
 
 -- answers
 
-pub no_fault : {A : Type 0} (f : Fault) (x : A) → ◌≡◌ {A = Checking A} (Err f) (Ok x) → ⊥
+pub no_fault : {A : Type 0} (f : Fault) (x : A) → ◌≡◌ {A = TypingResult A} (Err f) (Ok x) → ⊥
 no_fault f x h = cc
 
-pub same_ok : {A : Type 0} (x y : A) → ◌≡◌ {A = Checking A} (Ok x) (Ok y) → x ≡ y
+pub same_ok : {A : Type 0} (x y : A) → ◌≡◌ {A = TypingResult A} (Ok x) (Ok y) → x ≡ y
 same_ok x y h = cc
 
-pub bind_ok : {A B : Type 0} (o : Checking A) (f : A → Checking B) (y : B) → (o >>= f) ≡ Ok y
+pub bind_ok : {A B : Type 0} (o : TypingResult A) (f : A → TypingResult B) (y : B) → (o >>= f) ≡ Ok y
     → (x : A) × (o ≡ Ok x) × (f x ≡ Ok y)
 bind_ok (Ok x) f y h = (x, refl, h)
 bind_ok (Err e) f y h = absurd (no_fault e y h)
 
-pub bound : {A B : Type 0} (o : Checking A) (f : A → Checking B) (x : A) (r : Checking B) → o ≡ Ok x → f x ≡ r
+pub bound : {A B : Type 0} (o : TypingResult A) (f : A → TypingResult B) (x : A) (r : TypingResult B) → o ≡ Ok x → f x ≡ r
     → (o >>= f) ≡ r
-bound o f x r e h = subst (λ (m : Checking _). (m >>= f) ≡ r) (sym e) h
+bound o f x r e h = subst (λ (m : TypingResult _). (m >>= f) ≡ r) (sym e) h
 
 -- an answer without a fault
-pub answered : {A : Type 0} (r : Checking A) {Q : Type 0} → IsOk r → ((x : A) → r ≡ Ok x → Q) → Q
+pub answered : {A : Type 0} (r : TypingResult A) {Q : Type 0} → IsOk r → ((x : A) → r ≡ Ok x → Q) → Q
 answered (Ok x) h go = go x refl
 answered (Err f) h go = cc
 
-pub no_fault_at : {A : Type 0} (r : Checking A) (x : A) → r ≡ Ok x → IsOk r
-no_fault_at r x h = subst (λ (r : Checking _). IsOk r) (sym h) refl
+pub no_fault_at : {A : Type 0} (r : TypingResult A) (x : A) → r ≡ Ok x → IsOk r
+no_fault_at r x h = subst (λ (r : TypingResult _). IsOk r) (sym h) refl
 
 -- kinds
 
@@ -57,19 +57,19 @@ unconverted k t h = rw h (rw (same_kind k) refl)
 
 -- operands
 
-pub adapted_is : (s : Sort) (other t : Term) (at : ℕ)
+pub adapted_is : (s : OperatorClass) (other t : Term) (at : ℕ)
     → adapted s other.form other.ty (placed at t) ≡ placed at (adapted_to s other t)
 unfolding adapted
 adapted_is s other t at = refl
 
-pub known_alone : (s : Sort) (adapted_to of : Ty) → is_known of ≡ true → assumed s adapted_to of ≡ of
+pub known_alone : (s : OperatorClass) (adapted_to of : Ty) → is_known of ≡ true → assumed s adapted_to of ≡ of
 known_alone sort.Equality ty.Bool ty.Unknown h = cc
 known_alone sort.Identity adapted_to ty.Unknown h = cc
 known_alone sort.Logic adapted_to ty.Unknown h = cc
 known_alone s adapted_to ty.Unknown h = cc
 known_alone s adapted_to of h = refl
 
-pub meets_assumed : (s : Sort) (x y : Ty) (o : Operands) → meets s x y ≡ Some o
+pub meets_assumed : (s : OperatorClass) (x y : Ty) (o : Operands) → meets s x y ≡ Some o
     → meets s (assumed s y x) (assumed s x y) ≡ Some o
 meets_assumed sort.Identity ty.Unknown ty.Unknown o h = h
 meets_assumed sort.Identity x ty.Unknown o h = h
@@ -107,7 +107,7 @@ calculated_integers calculators.BitAnd x y o h = arithmetic_integers x y o h
 calculated_integers calculators.BitXor x y o h = arithmetic_integers x y o h
 calculated_integers calculators.BitOr x y o h = arithmetic_integers x y o h
 
-pub right_is : (s : Sort) (o : Operands) (b : ℕ) (u : Term) → right_by s o (term_of (placed b u)) ≡ right_by s o u
+pub right_is : (s : OperatorClass) (o : Operands) (b : ℕ) (u : Term) → right_by s o (term_of (placed b u)) ≡ right_by s o u
 right_is sort.Shift o b u = refl
 right_is _ o b u = refl
 

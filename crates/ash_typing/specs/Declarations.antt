@@ -6,11 +6,11 @@ use Rattle.ash_typing.specs.declared.fault.Rule.TheVariants.{NoFactory}
 use Rattle.ash_typed.specs.declared.types.ObjectType.TheVariants.{Interface as OfInterface}
 use Rattle.ash_typing.specs.declared.types.Ty.{Ty}
 use Rattle.ash_typing.specs.declared.types.Ty.TheVariants as ty
-use Rattle.ash_typing.specs.Checking.{Checking, ◌>>=◌, broken}
+use Rattle.ash_typing.specs.TypingResult.{TypingResult, ◌>>=◌, broken}
 use Rattle.ash_typed.specs.Tree.{Expr}
 use Rattle.ash_typing.specs.Environment.{Environment, Class, Callee, construction}
 pub use Rattle.ash_typed.specs.StatementTree.{Initialization}
-use Rattle.ash_typing.specs.Expressions.{Typed, typed, all_typed, fitted, called, at_element}
+use Rattle.ash_typing.specs.Expressions.{Typed, typed, all_typed, coerced_for_assignment, called, at_element}
 use Rattle.ash_typing.specs.Terms.{initialization}
 
 -- the type of variables
@@ -25,7 +25,7 @@ at_type_name (written.ArrayHandle p of) = at_element of
 at_type_name of = at_type of
 
 -- Variables may be of this type: none is itself an object of an interface.
-unfoldable pub known_ty : written.Named → Ty → Checking Ty
+unfoldable pub known_ty : written.Named → Ty → TypingResult Ty
 known_ty of ty.Unknown = broken UnknownType (at_type_name of)
 known_ty of (ty.Object (OfInterface i)) = broken Misplaced (at_type of)
 known_ty of t = Ok t
@@ -36,40 +36,40 @@ abbrev pub built : Typed → Option Expr
 built t = Some t.tree
 
 -- An object is constructed, by the type at this offset.
-unfoldable pub constructed : List Class → ℕ → List Typed → Option Callee → Checking (Option Expr)
+unfoldable pub constructed : List Class → ℕ → List Typed → Option Callee → TypingResult (Option Expr)
 constructed classes at ts None = broken NoFactory at
 constructed classes at ts (Some callee) = called classes at callee ts callee.parameters >>= λ t. Ok (built t)
 
 -- `T x` begins so.
-unfoldable pub begun : Environment → ℕ → Ty → Checking (Option Expr)
-begun env at (ty.Object o) = constructed env.heads.classes at [] (construction env o 0)
+unfoldable pub begun : Environment → ℕ → Ty → TypingResult (Option Expr)
+begun env at (ty.Object o) = constructed env.declarations.classes at [] (construction env o 0)
 begun env at _ = Ok None
 
-abbrev pub stored_first : List Class → Ty → Typed → Checking (Option Expr)
-stored_first classes of t = fitted classes of t >>= λ e. Ok (Some e)
+abbrev pub stored_first : List Class → Ty → Typed → TypingResult (Option Expr)
+stored_first classes of t = coerced_for_assignment classes of t >>= λ e. Ok (Some e)
 
 -- `T x = e`, with x at this offset, begins so: objects are not assigned.
-unfoldable pub begun_with : List Class → ℕ → Ty → Typed → Checking (Option Expr)
+unfoldable pub begun_with : List Class → ℕ → Ty → Typed → TypingResult (Option Expr)
 begun_with classes at (ty.Object o) t = broken NotAssignable at
 begun_with classes at of t = stored_first classes of t
 
 -- `T x(e)` is `T x = e` for a primitive type.
-unfoldable pub begun_by_one : List Class → ℕ → Ty → List Typed → Checking (Option Expr)
+unfoldable pub begun_by_one : List Class → ℕ → Ty → List Typed → TypingResult (Option Expr)
 begun_by_one classes at of (t ∷ []) = stored_first classes of t
 begun_by_one classes at of _ = broken TypeMismatch at
 
 -- `T x(e ..)`, with the type and x at these offsets, begins so.
-unfoldable pub begun_by : Environment → ℕ → ℕ → Ty → List Typed → Checking (Option Expr)
-begun_by env of_at at (ty.Object o) ts = constructed env.heads.classes of_at ts (construction env o (length ts))
+unfoldable pub begun_by : Environment → ℕ → ℕ → Ty → List Typed → TypingResult (Option Expr)
+begun_by env of_at at (ty.Object o) ts = constructed env.declarations.classes of_at ts (construction env o (length ts))
 begun_by env of_at at (ty.Handle o) ts = broken TypeMismatch at
-begun_by env of_at at of ts = begun_by_one env.heads.classes at of ts
+begun_by env of_at at of ts = begun_by_one env.declarations.classes at of ts
 
-unfoldable pub initialized : Environment → ℕ → ℕ → Ty → written.Initializer → Checking (Option Expr)
+unfoldable pub initialized : Environment → ℕ → ℕ → Ty → written.Initializer → TypingResult (Option Expr)
 initialized env of_at at of written.Default = begun env of_at of
-initialized env of_at at of (written.Value e) = typed env false e >>= λ t. begun_with env.heads.classes at of t
+initialized env of_at at of (written.Value e) = typed env false e >>= λ t. begun_with env.declarations.classes at of t
 initialized env of_at at of (written.Arguments es) =
     all_typed env (written.exprs es) >>= λ ts. begun_by env of_at at of ts
 
 -- A variable is of this type, which is written at this offset.
-unfoldable pub decl_typed : Environment → ℕ → Ty → written.Decl → Checking Initialization
+unfoldable pub decl_typed : Environment → ℕ → Ty → written.Decl → TypingResult Initialization
 decl_typed env at of d = initialized env at d.place.at of d.initializer >>= λ value. Ok (initialization d.name of value)

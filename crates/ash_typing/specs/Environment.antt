@@ -55,28 +55,28 @@ pub record Class : Type 0 where
   pub parameters : List Ty
 
 -- A module declares these.
-pub record Heads : Type 0 where
+pub record ModuleDeclarations : Type 0 where
   pub interfaces : List Interface
   pub classes : List Class
   pub functions : List Function
   pub globals : List Declared
 
 pub record Environment : Type 0 where
-  pub heads : Heads
-  pub registered : List host.Call
+  pub declarations : ModuleDeclarations
+  pub registered : List host.Registration
   pub this : Option ℕ
   pub locals : List Declared
 
 abbrev pub with_locals : Environment → List Declared → Environment
-with_locals env locals = record { heads = env.heads; registered = env.registered; this = env.this; locals = locals }
+with_locals env locals = record { declarations = env.declarations; registered = env.registered; this = env.this; locals = locals }
 
 -- `seen calls h` is what each item of a module sees.
-abbrev pub seen : List host.Call → Heads → Environment
-seen calls h = record { heads = h; registered = calls; this = None; locals = [] }
+abbrev pub seen : List host.Registration → ModuleDeclarations → Environment
+seen calls h = record { declarations = h; registered = calls; this = None; locals = [] }
 
 -- `inside env place` is what the members of the class of a place see.
 abbrev pub inside : Environment → ℕ → Environment
-inside env place = record { heads = env.heads; registered = env.registered; this = Some place; locals = [] }
+inside env place = record { declarations = env.declarations; registered = env.registered; this = Some place; locals = [] }
 
 -- look-ups
 
@@ -106,7 +106,7 @@ is_interface_named name i = bytes_eq name i.name
 -- `this_class env` is the class whose object runs.
 abbrev pub this_class : Environment → Option (ℕ × Class)
 this_class env =
-    option_and_then (λ (i : ℕ). option_map (λ (c : Class). (i, c)) (slice_get env.heads.classes i)) env.this
+    option_and_then (λ (i : ℕ). option_map (λ (c : Class). (i, c)) (slice_get env.declarations.classes i)) env.this
 
 -- A name alone is a local, the nearest one, else a field of the object that runs, else a global.
 
@@ -139,7 +139,7 @@ global_in globals name =
 
 unfoldable pub variable_in : Environment → List ℕ → Option Known
 variable_in env name =
-    option_or (local_in env.locals name) (option_or (own_field_in env name) (global_in env.heads.globals name))
+    option_or (local_in env.locals name) (option_or (own_field_in env name) (global_in env.declarations.globals name))
 
 -- A name before brackets is a method of the object that runs, a function of the module, a registered function, a class,
 -- or a registered type.
@@ -174,7 +174,7 @@ function_in functions name =
       parameters = Some found.1.parameters;
     }) (first_from (is_called name) 0 functions)
 
-abbrev pub service_function : host.Call → Option Callee
+abbrev pub service_function : host.Registration → Option Callee
 service_function (host.AFunction service id operation) =
     Some (record {
       target = callables.Target (targets.Service service id (result_type (result_of operation.result)));
@@ -192,14 +192,14 @@ class_in classes name =
       parameters = Some found.1.parameters;
     }) (first_from (is_class name) 0 classes)
 
-abbrev pub factory_parameters : host.Call → Option (List Ty)
+abbrev pub factory_parameters : host.Registration → Option (List Ty)
 factory_parameters (host.AFactory of parameters) = Some (map ty_of parameters)
 factory_parameters _ = None
 
-unfoldable pub factory_in : List host.Call → List ℕ → Option (List Ty)
+unfoldable pub factory_in : List host.Registration → List ℕ → Option (List Ty)
 factory_in calls of = option_and_then factory_parameters (find (host.is_factory_of of) calls)
 
-abbrev pub host_type : List host.Call → host.Call → Option Callee
+abbrev pub host_type : List host.Registration → host.Registration → Option Callee
 host_type calls (host.AType name kind) = Some (record {
   target = callables.Target (targets.Host kind);
   result = ty.Handle (OfHost kind);
@@ -207,41 +207,41 @@ host_type calls (host.AType name kind) = Some (record {
 })
 host_type calls _ = None
 
-abbrev pub named_in : List host.Call → List ℕ → Option host.Call
+abbrev pub named_in : List host.Registration → List ℕ → Option host.Registration
 named_in calls name = find (host.takes_name name) calls
 
 -- What is called is neither a method nor a function of the module.
 abbrev pub callee_beside : Environment → List ℕ → Option Callee
 callee_beside env name =
     option_or (option_and_then service_function (named_in env.registered name))
-    (option_or (class_in env.heads.classes name)
+    (option_or (class_in env.declarations.classes name)
     (option_and_then (host_type env.registered) (named_in env.registered name)))
 
 unfoldable pub callee_in : Environment → List ℕ → Option Callee
 callee_in env name =
-    option_or (own_method_in env name) (option_or (function_in env.heads.functions name) (callee_beside env name))
+    option_or (own_method_in env name) (option_or (function_in env.declarations.functions name) (callee_beside env name))
 
 -- Members of an object.
 
-abbrev pub type_name : Option host.Call → List ℕ
+abbrev pub type_name : Option host.Registration → List ℕ
 type_name (Some (host.AType name kind)) = name
 type_name _ = []
 
 -- `name_of_kind calls kind` is the name of a registered type, by its kind.
-unfoldable pub name_of_kind : List host.Call → ℕ → List ℕ
+unfoldable pub name_of_kind : List host.Registration → ℕ → List ℕ
 name_of_kind calls kind = type_name (find (host.takes_kind kind) calls)
 
 -- `host_member_in calls kind name` is a method or a property of a registered type.
-unfoldable pub host_member_in : List host.Call → ℕ → List ℕ → Option host.Call
+unfoldable pub host_member_in : List host.Registration → ℕ → List ℕ → Option host.Registration
 host_member_in calls kind name = find (host.takes_member (name_of_kind calls kind) name) calls
 
-abbrev pub property : host.Call → Option (Member × Ty)
+abbrev pub property : host.Registration → Option (Member × Ty)
 property (host.AProperty of id value name) = Some (members.Property id (var_type (ty_of value)), ty_of value)
 property _ = None
 
 -- `member_in env o name` is what an object holds by this name; an interface and an array hold nothing that has a name.
 unfoldable pub member_in : Environment → ObjectType → List ℕ → Option (Member × Ty)
-member_in env (OfClass i) name = option_and_then (λ (c : Class). field_in i c name) (slice_get env.heads.classes i)
+member_in env (OfClass i) name = option_and_then (λ (c : Class). field_in i c name) (slice_get env.declarations.classes i)
 member_in env (OfInterface i) name = None
 member_in env (OfHost kind) name = option_and_then property (host_member_in env.registered kind name)
 member_in env (OfArray of) name = None
@@ -252,7 +252,7 @@ pub record Invoked : Type 0 where
   pub result : Ty
   pub parameters : List Ty
 
-abbrev pub host_method : host.Call → Option Invoked
+abbrev pub host_method : host.Registration → Option Invoked
 host_method (host.AMethod of id operation) = Some (record {
   method = methods.Host id (result_type (result_of operation.result));
   result = result_of operation.result;
@@ -314,12 +314,12 @@ method_of_array of name =
     (find (is_array_method name)
     (arrays.Length ∷ arrays.Resize ∷ arrays.InsertLast ∷ arrays.RemoveLast ∷ arrays.IsEmpty ∷ []))
 
-unfoldable pub method_of_kind : List host.Call → ℕ → List ℕ → Option Invoked
+unfoldable pub method_of_kind : List host.Registration → ℕ → List ℕ → Option Invoked
 method_of_kind calls kind name = option_and_then host_method (host_member_in calls kind name)
 
 unfoldable pub method_in : Environment → ObjectType → List ℕ → Option Invoked
-method_in env (OfClass i) name = method_of_class env.heads.classes i name
-method_in env (OfInterface i) name = method_of_interface env.heads.interfaces i name
+method_in env (OfClass i) name = method_of_class env.declarations.classes i name
+method_in env (OfInterface i) name = method_of_interface env.declarations.interfaces i name
 method_in env (OfHost kind) name = method_of_kind env.registered kind name
 method_in env (OfArray of) name = method_of_array of name
 
@@ -335,7 +335,7 @@ class_built place c = record {
 unfoldable pub class_construction : List Class → ℕ → Option Callee
 class_construction classes place = option_map (class_built place) (slice_get classes place)
 
-unfoldable pub kind_construction : List host.Call → ℕ → Option Callee
+unfoldable pub kind_construction : List host.Registration → ℕ → Option Callee
 kind_construction calls kind = option_and_then (host_type calls) (find (host.takes_kind kind) calls)
 
 abbrev pub array_built : Element → ℕ → Callee
@@ -347,7 +347,7 @@ array_built of count = record {
 
 -- `construction env o count` is the construction of an object by so many arguments.
 unfoldable pub construction : Environment → ObjectType → ℕ → Option Callee
-construction env (OfClass place) count = class_construction env.heads.classes place
+construction env (OfClass place) count = class_construction env.declarations.classes place
 construction env (OfInterface place) count = None
 construction env (OfHost kind) count = kind_construction env.registered kind
 construction env (OfArray of) count = Some (array_built of count)

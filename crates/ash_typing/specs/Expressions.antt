@@ -20,7 +20,7 @@ use Rattle.ash_typed.specs.declared.types.ObjectType.{ObjectType}
 use Rattle.ash_typed.specs.declared.types.ObjectType.TheVariants as objects
 use Rattle.ash_typing.specs.declared.types.Ty.{Ty}
 use Rattle.ash_typing.specs.declared.types.Ty.TheVariants as ty
-use Rattle.ash_typing.specs.declared.forms.Sort.{Sort}
+use Rattle.ash_typing.specs.declared.forms.OperatorClass.{OperatorClass}
 use Rattle.ash_typing.specs.declared.forms.Form.{Form}
 use Rattle.ash_typed.specs.declared.tree.operations.Change.{Change}
 use Rattle.ash_typed.specs.declared.tree.operations.Change.TheVariants as changes
@@ -30,13 +30,13 @@ use Rattle.ash_typed.specs.declared.tree.operations.Member.TheVariants as member
 use Rattle.ash_typed.specs.declared.tree.operations.Operands.{Operands}
 use Rattle.ash_typed.specs.declared.tree.operations.Step.{Step}
 use Rattle.ash_typed.specs.declared.tree.operations.Step.TheVariants as steps
-use Rattle.ash_typing.specs.Checking.{Checking, ◌>>=◌, broken}
+use Rattle.ash_typing.specs.TypingResult.{TypingResult, ◌>>=◌, broken}
 use Rattle.ash_typing.specs.Types.{var_type, signed, common, ty_of, ty_of_element, sort_of, binary_of, integers_in}
 use Rattle.ash_typing.specs.Types.{takes, assumed, meets, outcome}
 use Rattle.ash_typed.specs.Tree.{Expr, Truth, Null, This, Read, Invoke, Cast, Alter, Conditional, Assign, Update, Count}
 use Rattle.ash_typed.specs.Tree.{Place, Held, Indexed, Exprs, no_expr, expr}
-use Rattle.ash_typing.specs.Fitting.{fits}
-use Rattle.ash_typing.specs.Heads.{object_named, element_named}
+use Rattle.ash_typing.specs.Coercions.{fits}
+use Rattle.ash_typing.specs.ModuleDeclarations.{object_named, element_named}
 use Rattle.ash_typing.specs.Environment.{Environment, Class, Known, Callee, Invoked, variable_in, callee_in, member_in}
 use Rattle.ash_typing.specs.Environment.{method_in, array_built}
 use Rattle.ash_typing.specs.Terms.{operand_type, applied, assignable, bracketed, handle_form, operator_of, is_stored}
@@ -65,80 +65,80 @@ read_at at of tree = placed at (read_term of tree)
 
 -- conversions
 
-abbrev pub brought : Ty → Typed → Expr
-brought to t = converted_to to (term_of t)
+abbrev pub coerced : Ty → Typed → Expr
+coerced to t = converted_to to (term_of t)
 
 -- The expression is converted as in an assignment to a variable of this type.
-unfoldable pub fitted : List Class → Ty → Typed → Checking Expr
-fitted classes to t = if fits classes to t.ty then Ok (brought to t) else broken TypeMismatch t.at
+unfoldable pub coerced_for_assignment : List Class → Ty → Typed → TypingResult Expr
+coerced_for_assignment classes to t = if fits classes to t.ty then Ok (coerced to t) else broken TypeMismatch t.at
 
 -- what an operand has to be
 
-abbrev pub integer_of : ℕ → Ty → Checking Kind
+abbrev pub integer_of : ℕ → Ty → TypingResult Kind
 integer_of at (ty.Integer k) = Ok k
 integer_of at ty.Unknown = Ok kinds.Int
 integer_of at _ = broken TypeMismatch at
 
-abbrev pub bool_of : ℕ → Ty → Checking Bool
+abbrev pub bool_of : ℕ → Ty → TypingResult Bool
 bool_of at ty.Bool = Ok true
 bool_of at ty.Unknown = Ok true
 bool_of at _ = broken TypeMismatch at
 
 -- `handle_of at of` is the type of a handle of what an expression gives.
-abbrev pub handle_of : ℕ → Ty → Checking Ty
+abbrev pub handle_of : ℕ → Ty → TypingResult Ty
 handle_of at (ty.Object o) = Ok (ty.Handle o)
 handle_of at (ty.Handle o) = Ok (ty.Handle o)
 handle_of at ty.Unknown = Ok ty.Unknown
 handle_of at _ = broken TypeMismatch at
 
 -- `adapted s other of t` is the operand of an operator, where the other operand has this form and type.
-unfoldable pub adapted : Sort → Form → Ty → Typed → Typed
+unfoldable pub adapted : OperatorClass → Form → Ty → Typed → Typed
 adapted s other of t = placed t.at (adapted_by s other of (term_of t))
 
 -- operators between two operands
 
 -- Two operands are taken for operands of a class by an operator.
-pub record Met : Type 0 where
+pub record UnifiedOperands : Type 0 where
   pub left : Typed
   pub operands : Operands
   pub right : Expr
 
-abbrev pub met_as : Sort → Typed → Typed → Option Operands → Checking Met
-met_as s a b (Some o) = Ok (record { left = a; operands = o; right = right_by s o (term_of b) })
-met_as s a b None = broken TypeMismatch (if takes s a.ty then b.at else a.at)
+abbrev pub unified_as : OperatorClass → Typed → Typed → Option Operands → TypingResult UnifiedOperands
+unified_as s a b (Some o) = Ok (record { left = a; operands = o; right = right_by s o (term_of b) })
+unified_as s a b None = broken TypeMismatch (if takes s a.ty then b.at else a.at)
 
-abbrev pub met_by : Sort → Typed → Typed → Checking Met
-met_by s a b = met_as s a b (meets s (assumed s b.ty a.ty) (assumed s a.ty b.ty))
+abbrev pub unified_by : OperatorClass → Typed → Typed → TypingResult UnifiedOperands
+unified_by s a b = unified_as s a b (meets s (assumed s b.ty a.ty) (assumed s a.ty b.ty))
 
-unfoldable pub met : BinaryOp → Typed → Typed → Checking Met
-met op a b = met_by (sort_of op) (adapted (sort_of op) b.form b.ty a) (adapted (sort_of op) a.form a.ty b)
+unfoldable pub met : BinaryOp → Typed → Typed → TypingResult UnifiedOperands
+met op a b = unified_by (sort_of op) (adapted (sort_of op) b.form b.ty a) (adapted (sort_of op) a.form a.ty b)
 
-abbrev pub operated : BinaryOp → Met → Typed
+abbrev pub operated : BinaryOp → UnifiedOperands → Typed
 operated op m =
     made m.left.at (outcome (sort_of op) m.operands)
-    (applied op m.operands (brought (operand_type m.operands) m.left) m.right)
+    (applied op m.operands (coerced (operand_type m.operands) m.left) m.right)
 
-unfoldable pub operate : BinaryOp → Typed → Typed → Checking Typed
+unfoldable pub operate : BinaryOp → Typed → Typed → TypingResult Typed
 operate op a b = met op a b >>= λ m. Ok (operated op m)
 
 -- operators before an operand
 
-unfoldable pub counted : ℕ → Step → Typed → Option Place → Checking Typed
+unfoldable pub counted : ℕ → Step → Typed → Option Place → TypingResult Typed
 counted at step t None = broken NotAssignable t.at
 counted at step t (Some p) = integer_of t.at t.ty >>= λ k. Ok (made at (ty.Integer k) (Count p k step))
 
 abbrev pub altered : ℕ → Kind → Change → Typed → Typed
-altered at k change t = made at (ty.Integer k) (Alter change (brought (ty.Integer k) t))
+altered at k change t = made at (ty.Integer k) (Alter change (coerced (ty.Integer k) t))
 
 -- `integer_at at k t` is the value alone, which can't be assigned.
 abbrev pub integer_at : ℕ → Kind → Typed → Typed
-integer_at at k t = made at (ty.Integer k) (brought (ty.Integer k) t)
+integer_at at k t = made at (ty.Integer k) (coerced (ty.Integer k) t)
 
-abbrev pub handle_at : Bool → ℕ → Typed → Checking Typed
+abbrev pub handle_at : Bool → ℕ → Typed → TypingResult Typed
 handle_at true at t = Ok (record { at = at; ty = t.ty; form = handle_form t.form; tree = t.tree })
 handle_at false at t = handle_of t.at t.ty >>= λ h. Ok (made at h t.tree)
 
-unfoldable pub unary_at : Bool → ℕ → UnaryOp → Typed → Checking Typed
+unfoldable pub unary_at : Bool → ℕ → UnaryOp → Typed → TypingResult Typed
 unary_at left at unary.Plus t = integer_of t.at t.ty >>= λ k. Ok (integer_at at k t)
 unary_at left at unary.Minus t = integer_of t.at t.ty >>= λ k. Ok (altered at (signed k) (changes.Negate (signed k)) t)
 unary_at left at unary.BitNot t = integer_of t.at t.ty >>= λ k. Ok (altered at k (changes.Complement k) t)
@@ -148,11 +148,11 @@ unary_at left at unary.Decrement t = counted at steps.Decrement t (assignable t.
 unary_at left at unary.Handle t = handle_at left at t
 
 -- `prim(e)` converts so.
-abbrev pub converting : ℕ → Ty → Typed → Checking Typed
+abbrev pub converting : ℕ → Ty → Typed → TypingResult Typed
 converting at (ty.Integer k) t = integer_of t.at t.ty >>= λ j. Ok (integer_at at k t)
 converting at _ t = bool_of t.at t.ty >>= λ yes. Ok (made at ty.Bool t.tree)
 
-unfoldable pub convert_at : ℕ → Primitive → Typed → Checking Typed
+unfoldable pub convert_at : ℕ → Primitive → Typed → TypingResult Typed
 convert_at at to t = converting at (ty_of to) t
 
 -- `c ? a : b`
@@ -161,31 +161,31 @@ abbrev pub is_void : Ty → Bool
 is_void ty.Void = true
 is_void _ = false
 
-abbrev pub chosen : Typed → Typed → Typed → Option Ty → Checking Typed
-chosen c a b (Some t) = Ok (made c.at t (Conditional c.tree (brought t a) (brought t b)))
+abbrev pub chosen : Typed → Typed → Typed → Option Ty → TypingResult Typed
+chosen c a b (Some t) = Ok (made c.at t (Conditional c.tree (coerced t a) (coerced t b)))
 chosen c a b None = broken TypeMismatch (if is_void a.ty then a.at else b.at)
 
-unfoldable pub choice : Typed → Typed → Typed → Checking Typed
+unfoldable pub choice : Typed → Typed → Typed → TypingResult Typed
 choice c a b = bool_of c.at c.ty >>= λ yes. chosen c a b (common a.ty b.ty)
 
 -- assignments
 
 -- What is at a place is an operand of its type.
-abbrev pub updated : ℕ → Ty → Place → Calculator → Typed → Checking Typed
+abbrev pub updated : ℕ → Ty → Place → Calculator → Typed → TypingResult Typed
 updated at of p c v =
     met (binary_of c) (made at of Null) v >>= λ m. integer_of at of
     >>= λ k. Ok (made at (ty.Integer k) (Update p k (record { operator = c; of = integers_in m.operands }) m.right))
 
-unfoldable pub stored : List Class → ℕ → Ty → Place → Option Calculator → Typed → Checking Typed
-stored classes at of p None v = fitted classes of v >>= λ e. Ok (made at of (Assign p e))
+unfoldable pub stored : List Class → ℕ → Ty → Place → Option Calculator → Typed → TypingResult Typed
+stored classes at of p None v = coerced_for_assignment classes of v >>= λ e. Ok (made at of (Assign p e))
 stored classes at of p (Some op) v = updated at of p op v
 
-abbrev pub assigned_to : List Class → Typed → AssignOp → Typed → Option Place → Checking Typed
+abbrev pub assigned_to : List Class → Typed → AssignOp → Typed → Option Place → TypingResult Typed
 assigned_to classes t op v None = broken NotAssignable t.at
 assigned_to classes t op v (Some p) =
     if is_stored t.form t.ty then stored classes t.at t.ty p (operator_of op) v else broken NotAssignable t.at
 
-unfoldable pub assigned : List Class → Typed → AssignOp → Typed → Checking Typed
+unfoldable pub assigned : List Class → Typed → AssignOp → Typed → TypingResult Typed
 assigned classes t op v = assigned_to classes t op v (assignable t.form t.tree)
 
 abbrev pub is_assign : AssignOp → Bool
@@ -194,41 +194,41 @@ is_assign _ = false
 
 -- calls
 
-abbrev pub all_fitted : List Class → List Ty → List Typed → Checking Exprs
-all_fitted classes (p ∷ ps) (t ∷ ts) = fitted classes p t >>= λ e. all_fitted classes ps ts >>= λ es. Ok (expr e es)
-all_fitted classes _ _ = Ok no_expr
+abbrev pub all_coerced : List Class → List Ty → List Typed → TypingResult Exprs
+all_coerced classes (p ∷ ps) (t ∷ ts) = coerced_for_assignment classes p t >>= λ e. all_coerced classes ps ts >>= λ es. Ok (expr e es)
+all_coerced classes _ _ = Ok no_expr
 
-unfoldable pub arguments_at : List Class → ℕ → List Ty → List Typed → Checking Exprs
+unfoldable pub arguments_at : List Class → ℕ → List Ty → List Typed → TypingResult Exprs
 arguments_at classes at parameters ts =
-    if nat_eq (length parameters) (length ts) then all_fitted classes parameters ts else broken WrongArgumentCount at
+    if nat_eq (length parameters) (length ts) then all_coerced classes parameters ts else broken WrongArgumentCount at
 
-unfoldable pub called : List Class → ℕ → Callee → List Typed → Option (List Ty) → Checking Typed
+unfoldable pub called : List Class → ℕ → Callee → List Typed → Option (List Ty) → TypingResult Typed
 called classes at callee ts None = broken NoFactory at
 called classes at callee ts (Some parameters) =
     arguments_at classes at parameters ts
     >>= λ es. Ok (made at callee.result (call_of callee.target (map var_type parameters) es))
 
-abbrev pub callee_at : ℕ → Option Callee → Checking Callee
+abbrev pub callee_at : ℕ → Option Callee → TypingResult Callee
 callee_at at None = broken UnknownName at
 callee_at at (Some callee) = Ok callee
 
 -- names
 
-abbrev pub known_at : ℕ → Option Known → Checking Typed
+abbrev pub known_at : ℕ → Option Known → TypingResult Typed
 known_at at None = broken UnknownName at
 known_at at (Some known) = Ok (read_at at known.1 known.0)
 
-abbrev pub this_at : ℕ → Option ℕ → Checking Typed
+abbrev pub this_at : ℕ → Option ℕ → TypingResult Typed
 this_at at None = broken Misplaced at
 this_at at (Some class) = Ok (made at (ty.Handle (objects.Class class)) (This class))
 
 -- suffixes
 
-abbrev pub member_at : Typed → ℕ → Option (Member × Ty) → Checking Typed
+abbrev pub member_at : Typed → ℕ → Option (Member × Ty) → TypingResult Typed
 member_at t at None = broken UnknownName at
 member_at t at (Some (member, of)) = Ok (read_at t.at of (Read (Held t.tree member)))
 
-unfoldable pub field_of : Environment → Typed → Ty → ℕ → List ℕ → Checking Typed
+unfoldable pub field_of : Environment → Typed → Ty → ℕ → List ℕ → TypingResult Typed
 field_of env t (ty.Object o) at name = member_at t at (member_in env o name)
 field_of env t (ty.Handle o) at name = member_at t at (member_in env o name)
 field_of env t ty.Unknown at name =
@@ -236,17 +236,17 @@ field_of env t ty.Unknown at name =
 field_of env t _ at name = broken TypeMismatch t.at
 
 -- `invoked_at at found` is the method, or nothing where the type of the object is unknown.
-abbrev pub invoked_at : ℕ → Option Invoked → Checking (Option Invoked)
+abbrev pub invoked_at : ℕ → Option Invoked → TypingResult (Option Invoked)
 invoked_at at None = broken UnknownName at
 invoked_at at (Some m) = Ok (Some m)
 
-unfoldable pub method_of : Environment → Typed → Ty → ℕ → List ℕ → Checking (Option Invoked)
+unfoldable pub method_of : Environment → Typed → Ty → ℕ → List ℕ → TypingResult (Option Invoked)
 method_of env t (ty.Object o) at name = invoked_at at (method_in env o name)
 method_of env t (ty.Handle o) at name = invoked_at at (method_in env o name)
 method_of env t ty.Unknown at name = Ok None
 method_of env t _ at name = broken TypeMismatch t.at
 
-unfoldable pub invoked : List Class → Typed → ℕ → List Typed → Option Invoked → Checking Typed
+unfoldable pub invoked : List Class → Typed → ℕ → List Typed → Option Invoked → TypingResult Typed
 invoked classes t at ts None = Ok (made t.at ty.Unknown Null)
 invoked classes t at ts (Some m) =
     arguments_at classes at m.parameters ts
@@ -256,29 +256,29 @@ abbrev pub in_brackets : ℕ → Typed → Typed
 in_brackets at t = record { at = at; ty = t.ty; form = bracketed t.form; tree = t.tree }
 
 -- A call, whose arguments are walked once its name is known.
-abbrev pub call_typed : Environment → ℕ → List ℕ → Checking (List Typed) → Checking Typed
+abbrev pub call_typed : Environment → ℕ → List ℕ → TypingResult (List Typed) → TypingResult Typed
 call_typed env at name arguments =
     callee_at at (callee_in env name) >>= λ callee. arguments
-    >>= λ ts. called env.heads.classes at callee ts callee.parameters
+    >>= λ ts. called env.declarations.classes at callee ts callee.parameters
 
-abbrev pub invocation_typed : Environment → Typed → ℕ → List ℕ → Checking (List Typed) → Checking Typed
+abbrev pub invocation_typed : Environment → Typed → ℕ → List ℕ → TypingResult (List Typed) → TypingResult Typed
 invocation_typed env t at name arguments =
-    method_of env t t.ty at name >>= λ m. arguments >>= λ ts. invoked env.heads.classes t at ts m
+    method_of env t t.ty at name >>= λ m. arguments >>= λ ts. invoked env.declarations.classes t at ts m
 
 -- arrays
 
 -- `index_in i` is an index, which is converted to `uint`.
-abbrev pub index_in : Typed → Checking Expr
-index_in i = integer_of i.at i.ty >>= λ k. Ok (brought (ty.Integer kinds.Uint) i)
+abbrev pub index_in : Typed → TypingResult Expr
+index_in i = integer_of i.at i.ty >>= λ k. Ok (coerced (ty.Integer kinds.Uint) i)
 
-abbrev pub indexed_at : Typed → Typed → Ty → Element → Checking Typed
+abbrev pub indexed_at : Typed → Typed → Ty → Element → TypingResult Typed
 indexed_at t i of e = index_in i >>= λ index. Ok (read_at t.at of (Read (Indexed t.tree index e)))
 
-abbrev pub indexed_object : Typed → Typed → ObjectType → Checking Typed
+abbrev pub indexed_object : Typed → Typed → ObjectType → TypingResult Typed
 indexed_object t i (objects.Array e) = indexed_at t i (ty_of_element e) e
 indexed_object t i _ = broken TypeMismatch t.at
 
-unfoldable pub indexed : Typed → Ty → Typed → Checking Typed
+unfoldable pub indexed : Typed → Ty → Typed → TypingResult Typed
 indexed t (ty.Object o) i = indexed_object t i o
 indexed t (ty.Handle o) i = indexed_object t i o
 indexed t ty.Unknown i = indexed_at t i ty.Unknown elements.Bool
@@ -288,32 +288,32 @@ abbrev pub at_element : written.Element → ℕ
 at_element (written.PrimElement p primitive) = p.at
 at_element (written.HandleElement p name) = p.at
 
-abbrev pub known_element : ℕ → Option Element → Checking Element
+abbrev pub known_element : ℕ → Option Element → TypingResult Element
 known_element at None = broken UnknownType at
 known_element at (Some e) = Ok e
 
 -- `array<T>(e ..)` is typed so.
-abbrev pub array_typed : Environment → ℕ → written.Element → Checking (List Typed) → Checking Typed
+abbrev pub array_typed : Environment → ℕ → written.Element → TypingResult (List Typed) → TypingResult Typed
 array_typed env at of arguments =
-    known_element (at_element of) (element_named env.registered env.heads of) >>= λ e. arguments
-    >>= λ ts. called env.heads.classes at (array_built e (length ts)) ts (Some (array_parameters (length ts)))
+    known_element (at_element of) (element_named env.registered env.declarations of) >>= λ e. arguments
+    >>= λ ts. called env.declarations.classes at (array_built e (length ts)) ts (Some (array_parameters (length ts)))
 
 -- `cast<T>(e)`
 
 -- `cast_type at named` is a class or an interface, whose name is at this offset.
-abbrev pub cast_type : ℕ → Option ObjectType → Checking ObjectType
+abbrev pub cast_type : ℕ → Option ObjectType → TypingResult ObjectType
 cast_type at (Some (objects.Class class)) = Ok (objects.Class class)
 cast_type at (Some (objects.Interface interface)) = Ok (objects.Interface interface)
 cast_type at (Some _) = broken TypeMismatch at
 cast_type at None = broken UnknownType at
 
 -- An object or a handle is cast.
-unfoldable pub cast_at : ℕ → ObjectType → Typed → Checking Typed
+unfoldable pub cast_at : ℕ → ObjectType → Typed → TypingResult Typed
 cast_at at to t = handle_of t.at t.ty >>= λ h. Ok (made at (ty.Handle to) (Cast to t.tree))
 
 -- The walk. `left` is whether the expression is left of `=`.
 abbrev mutual
-  pub typed : Environment → Bool → written.Expr → Checking Typed
+  pub typed : Environment → Bool → written.Expr → TypingResult Typed
   typed env left (written.Number p n) = Ok (placed p.at (number_term n))
   typed env left (written.Truth p b) = Ok (made p.at ty.Bool (Truth b))
   typed env left (written.Null p) = Ok (made p.at ty.Null Null)
@@ -324,7 +324,7 @@ abbrev mutual
   typed env left (written.Convert p to e) = typed env false e >>= λ t. convert_at p.at to t
   typed env left (written.NewArray p of es) = array_typed env p.at of (all_typed env es)
   typed env left (written.Cast p to e) =
-      cast_type to.place.at (object_named env.registered env.heads to.name) >>= λ o. typed env false e
+      cast_type to.place.at (object_named env.registered env.declarations to.name) >>= λ o. typed env false e
       >>= λ t. cast_at p.at o t
   typed env left (written.Postfix p e ss) = typed env false e >>= λ t. suffixes_typed env t ss
   typed env left (written.Unary p op e) = typed env false e >>= λ t. unary_at left p.at op t
@@ -332,24 +332,24 @@ abbrev mutual
   typed env left (written.Conditional p c a b) =
       typed env false c >>= λ t. typed env false a >>= λ x. typed env false b >>= λ y. choice t x y
   typed env left (written.Assign p e op v) =
-      typed env (is_assign op) e >>= λ target. typed env false v >>= λ value. assigned env.heads.classes target op value
+      typed env (is_assign op) e >>= λ target. typed env false v >>= λ value. assigned env.declarations.classes target op value
 
   -- arguments, each in its turn
-  pub all_typed : Environment → written.Exprs → Checking (List Typed)
+  pub all_typed : Environment → written.Exprs → TypingResult (List Typed)
   all_typed env written.no_expr = Ok []
   all_typed env (written.expr e es) = typed env false e >>= λ t. all_typed env es >>= λ ts. Ok (t ∷ ts)
 
   -- operators of one level, each with what is before it
-  pub links_typed : Environment → Typed → written.Links → Checking Typed
+  pub links_typed : Environment → Typed → written.Links → TypingResult Typed
   links_typed env t written.no_link = Ok t
   links_typed env t (written.link op e ls) =
       typed env false e >>= λ operand. operate op t operand >>= λ both. links_typed env both ls
 
-  pub suffixes_typed : Environment → Typed → written.Suffixes → Checking Typed
+  pub suffixes_typed : Environment → Typed → written.Suffixes → TypingResult Typed
   suffixes_typed env t written.no_suffix = Ok t
   suffixes_typed env t (written.suffix s ss) = suffix_typed env t s >>= λ next. suffixes_typed env next ss
 
-  pub suffix_typed : Environment → Typed → written.Suffix → Checking Typed
+  pub suffix_typed : Environment → Typed → written.Suffix → TypingResult Typed
   suffix_typed env t (written.Field p name) = field_of env t t.ty p.at name
   suffix_typed env t (written.Method p name es) = invocation_typed env t p.at name (all_typed env es)
   suffix_typed env t (written.Index e) = typed env false e >>= λ i. indexed t t.ty i

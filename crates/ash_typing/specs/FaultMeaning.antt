@@ -8,7 +8,7 @@ use Rattle.std.specs.Option.{is_some}
 use Rattle.std.specs.Str.{bytes_eq}
 use Rattle.ash_lex.specs.Tokens.{Meaning, name, reserved}
 use Rattle.ash_lex.specs.declared.words.ReservedWord.TheVariants as words
-use Rattle.ash_registrations.specs.Calls.{Call}
+use Rattle.ash_registrations.specs.Calls.{Registration}
 use Rattle.ash_tree.specs.Tree as written
 use Rattle.ash_tree.specs.Tokens.{Tokens}
 use Rattle.ash_tree.specs.declared.tree.places.Place.{Place}
@@ -28,7 +28,7 @@ use Rattle.ash_typing.specs.declared.types.Ty.TheVariants as ty
 use Rattle.ash_typing.specs.Types.{is_interface, object_of}
 use Rattle.ash_typing.specs.Environment.{Environment, Callee, Invoked, declares, variable_in, callee_in, member_in}
 use Rattle.ash_typing.specs.Environment.{method_in, construction}
-use Rattle.ash_typing.specs.Heads.{heads, object_named, ty_named}
+use Rattle.ash_typing.specs.ModuleDeclarations.{declarations, object_named, ty_named}
 use Rattle.ash_typing.specs.Expressions.{Typed, is_void, is_assign, typed}
 use Rattle.ash_typing.specs.Terms.{assignable, is_stored, array_parameters}
 use Rattle.ash_typing.specs.Declarations.{at_type, at_type_name}
@@ -163,7 +163,7 @@ counts unary.Decrement = true
 counts _ = false
 
 -- What is wrong at an offset, where a token means this: in the module of this script, where these calls are registered.
-pub data IsWrong (calls : List Call) (script : List written.Item) : Rule → ℕ → Meaning → Type 0 where
+pub data IsWrong (calls : List Registration) (script : List written.Item) : Rule → ℕ → Meaning → Type 0 where
   -- no local, field or global has this name
   no_variable : {env : Environment} {p : Place} {text : List ℕ}
       → Occurs calls script (Expression env (written.Name p text))
@@ -171,7 +171,7 @@ pub data IsWrong (calls : List Call) (script : List written.Item) : Rule → ℕ
       → IsWrong calls script rules.UnknownName p.at (name text)
   -- no method, function, class or registered type or function has this name
   no_callee : {env : Environment} {p : Place} {text : List ℕ} {es : written.Exprs}
-      → Occurs calls script (Expression env (written.Call p text es))
+      → Occurs calls script (Expression env (written.Registration p text es))
       → callee_in env text ≡ None
       → IsWrong calls script rules.UnknownName p.at (name text)
   -- objects of the type of what is before the point have no field and no property of this name, or no method
@@ -190,21 +190,21 @@ pub data IsWrong (calls : List Call) (script : List written.Item) : Rule → ℕ
   no_type : {x : Phrase} {used : TypeUse} {text : List ℕ}
       → Occurs calls script x
       → written_by x ≡ Some used
-      → object_named calls (heads calls script) text ≡ None
+      → object_named calls (declarations calls script) text ≡ None
       → IsWrong calls script rules.UnknownType (at_type_name used.of) (name text)
   no_cast_type : {env : Environment} {p : Place} {to : written.TypeName} {e : written.Expr}
       → Occurs calls script (Expression env (written.Cast p to e))
-      → object_named calls (heads calls script) to.name ≡ None
+      → object_named calls (declarations calls script) to.name ≡ None
       → IsWrong calls script rules.UnknownType to.place.at (name to.name)
   no_element_type : {env : Environment} {p at : Place} {text : List ℕ} {es : written.Exprs}
       → Occurs calls script (Expression env (written.NewArray p (written.HandleElement at text) es))
-      → object_named calls (heads calls script) text ≡ None
+      → object_named calls (declarations calls script) text ≡ None
       → IsWrong calls script rules.UnknownType at.at (name text)
   -- a class lists what is neither an interface nor a class
   no_interface : {env : Environment} {place : ℕ} {before : List written.TypeName} {n : written.TypeName}
       {ns : List written.TypeName}
       → Occurs calls script (Interfaces env place before (n ∷ ns))
-      → is_declared (object_named calls (heads calls script) n.name) ≡ false
+      → is_declared (object_named calls (declarations calls script) n.name) ≡ false
       → IsWrong calls script rules.UnknownType n.place.at (name n.name)
   -- another one of its space has the name that is declared
   taken : {x : Phrase} {n : Naming}
@@ -227,7 +227,7 @@ pub data IsWrong (calls : List Call) (script : List written.Item) : Rule → ℕ
   -- what is called takes another number of arguments than it is given
   call_count : {env : Environment} {p : Place} {text : List ℕ} {es : written.Exprs} {callee : Callee}
       {parameters : List Ty}
-      → Occurs calls script (Expression env (written.Call p text es))
+      → Occurs calls script (Expression env (written.Registration p text es))
       → callee_in env text ≡ Some callee
       → callee.parameters ≡ Some parameters
       → nat_eq (length parameters) (argument_count es) ≡ false
@@ -252,7 +252,7 @@ pub data IsWrong (calls : List Call) (script : List written.Item) : Rule → ℕ
       → IsWrong calls script rules.WrongArgumentCount of_at m
   -- a registered type is constructed, and has no factory
   call_factory : {env : Environment} {p : Place} {text : List ℕ} {es : written.Exprs} {callee : Callee}
-      → Occurs calls script (Expression env (written.Call p text es))
+      → Occurs calls script (Expression env (written.Registration p text es))
       → callee_in env text ≡ Some callee
       → callee.parameters ≡ None
       → IsWrong calls script rules.NoFactory p.at (name text)
@@ -296,14 +296,14 @@ pub data IsWrong (calls : List Call) (script : List written.Item) : Rule → ℕ
   misplaced_type : {x : Phrase} {used : TypeUse} {o : ObjectType} {m : Meaning}
       → Occurs calls script x
       → written_by x ≡ Some used
-      → ty_named calls (heads calls script) used.of ≡ ty.Object o
+      → ty_named calls (declarations calls script) used.of ≡ ty.Object o
       → is_misplaced used o ≡ true
       → IsWrong calls script rules.Misplaced (at_type used.of) m
   -- a class lists a class
   listed_class : {env : Environment} {place class : ℕ} {before : List written.TypeName} {n : written.TypeName}
       {ns : List written.TypeName}
       → Occurs calls script (Interfaces env place before (n ∷ ns))
-      → object_named calls (heads calls script) n.name ≡ Some (objects.Class class)
+      → object_named calls (declarations calls script) n.name ≡ Some (objects.Class class)
       → IsWrong calls script rules.Misplaced n.place.at (name n.name)
   -- a constructor has another name than its class
   other_constructor : {env : Environment} {class : List ℕ} {before : List written.Member} {c : written.Constructor}
@@ -340,7 +340,7 @@ pub data IsWrong (calls : List Call) (script : List written.Item) : Rule → ℕ
 
 -- A token of the list has its first byte at the offset of the fault, means what one of its rule may, and there the rule
 -- is broken.
-abbrev pub IsBrokenAt : List Call → List written.Item → Tokens → Fault → Type 0
+abbrev pub IsBrokenAt : List Registration → List written.Item → Tokens → Fault → Type 0
 IsBrokenAt calls script tokens f =
     Any (λ token. (token.1.at ≡ f.at) × (breaks_at f.rule token.0 ≡ true) × IsWrong calls script f.rule f.at token.0)
     tokens

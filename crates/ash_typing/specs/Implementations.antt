@@ -40,5 +40,5 @@ methods_of_interface i = i.methods
 -- The class of this place has the methods of the interface of that place.
 unfoldable pub implemented : Environment → ℕ → ℕ → Option (List ℕ)
 implemented env class interface =
-    methods_for (option_map_or methods_of_class (slice_get env.heads.classes class) [])
-    (option_map_or methods_of_interface (slice_get env.heads.interfaces interface) [])
+    methods_for (option_map_or methods_of_class (slice_get env.declarations.classes class) [])
+    (option_map_or methods_of_interface (slice_get env.declarations.interfaces interface) [])

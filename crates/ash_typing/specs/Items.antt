@@ -15,12 +15,12 @@ use Rattle.ash_typing.specs.declared.types.Ty.TheVariants as ty
 use Rattle.ash_typed.specs.declared.types.ObjectType.{ObjectType}
 use Rattle.ash_typed.specs.declared.types.ObjectType.TheVariants.{Class as OfClass, Interface as OfInterface}
 use Rattle.ash_typing.specs.Types.{result_type}
-use Rattle.ash_typing.specs.Checking.{Checking, ◌>>=◌, broken}
-use Rattle.ash_typing.specs.Environment.{Declared, type_declared, Heads, Environment, with_locals, declares, named_in}
+use Rattle.ash_typing.specs.TypingResult.{TypingResult, ◌>>=◌, broken}
+use Rattle.ash_typing.specs.Environment.{Declared, type_declared, ModuleDeclarations, Environment, with_locals, declares, named_in}
 pub use Rattle.ash_typing.specs.Environment.{inside, seen}
 use Rattle.ash_typing.specs.Expressions.{is_void}
-use Rattle.ash_typing.specs.Heads.{object_named, heads}
-pub use Rattle.ash_typing.specs.Heads.{ty_in}
+use Rattle.ash_typing.specs.ModuleDeclarations.{object_named, declarations}
+pub use Rattle.ash_typing.specs.ModuleDeclarations.{ty_in}
 use Rattle.ash_typing.specs.Declarations.{Initialization, decl_typed}
 pub use Rattle.ash_typing.specs.Declarations.{at_type, at_type_name, known_ty}
 use Rattle.ash_typed.specs.StatementTree.{Body}
@@ -35,7 +35,7 @@ use Rattle.ash_typing.specs.Implementations.{implemented}
 -- The names of a module that are taken: those that are registered, and those of the items before; or those of the
 -- members of a class. `room` is how many more variables of a module, or members of a class, there may be.
 pub record Names : Type 0 where
-  pub registered : List host.Call
+  pub registered : List host.Registration
   pub taken : List (List ℕ)
   pub room : ℕ
 
@@ -43,29 +43,29 @@ abbrev pub is_taken : Names → List ℕ → Bool
 is_taken names name = is_some (named_in names.registered name) || list_any (bytes_eq name) names.taken
 
 -- The name at this offset was not taken, and is from now on.
-unfoldable pub untaken : Names → ℕ → List ℕ → Checking Names
+unfoldable pub untaken : Names → ℕ → List ℕ → TypingResult Names
 untaken names at name =
     if is_taken names name then broken NameTaken at
     else Ok (record { registered = names.registered; taken = names.taken ++ name ∷ []; room = names.room })
 
 -- There may be one more, at this offset.
-unfoldable pub one_more : Names → ℕ → Checking Names
+unfoldable pub one_more : Names → ℕ → TypingResult Names
 one_more names at =
     if nat_eq names.room 0 then broken TooMany at
     else Ok (record { registered = names.registered; taken = names.taken; room = names.room - 1 })
 
-abbrev pub placed : Names → ℕ → List ℕ → Checking Names
+abbrev pub placed : Names → ℕ → List ℕ → TypingResult Names
 placed names at name = untaken names at name >>= λ next. one_more next at
 
 -- types
 
 -- A parameter or a result may be of this type: objects are passed by handles.
-unfoldable pub passed_ty : written.Named → Ty → Checking Ty
+unfoldable pub passed_ty : written.Named → Ty → TypingResult Ty
 passed_ty of ty.Unknown = broken UnknownType (at_type_name of)
 passed_ty of (ty.Object o) = broken Misplaced (at_type of)
 passed_ty of t = Ok t
 
-abbrev pub result_typed : Environment → Option written.Named → Checking Ty
+abbrev pub result_typed : Environment → Option written.Named → TypingResult Ty
 result_typed env None = Ok ty.Void
 result_typed env (Some of) = passed_ty of (ty_in env of)
 
@@ -79,7 +79,7 @@ pub record Row : Type 0 where
 abbrev pub with_variable : Variables → Initialization → Variables
 with_variable v value = record { line = v.line; values = v.values ++ value ∷ [] }
 
-abbrev pub decls_typed : Environment → ℕ → Ty → Row → List written.Decl → Checking Row
+abbrev pub decls_typed : Environment → ℕ → Ty → Row → List written.Decl → TypingResult Row
 decls_typed env at of row [] = Ok row
 decls_typed env at of row (d ∷ ds) =
     placed row.names d.place.at d.name >>= λ names. decl_typed env at of d
@@ -88,24 +88,24 @@ decls_typed env at of row (d ∷ ds) =
 abbrev pub no_variables : written.Named → Variables
 no_variables of = record { line = (written.place_of_type of).line; values = [] }
 
-unfoldable pub vars_typed : Environment → Names → written.Vars → Checking Row
+unfoldable pub vars_typed : Environment → Names → written.Vars → TypingResult Row
 vars_typed env names v =
     known_ty v.of (ty_in env v.of)
     >>= λ of. decls_typed env (at_type v.of) of (record { names = names; variables = no_variables v.of }) v.decls
 
 -- functions
 
-abbrev pub parameters_typed : Environment → List Declared → List written.Parameter → Checking (List Declared)
+abbrev pub parameters_typed : Environment → List Declared → List written.Parameter → TypingResult (List Declared)
 parameters_typed env before [] = Ok before
 parameters_typed env before (p ∷ ps) =
     passed_ty p.of (ty_in env p.of) >>= λ of. if list_any (declares p.name) before then broken NameTaken p.place.at
     else parameters_typed env (before ++ record { name = p.name; of = of } ∷ []) ps
 
 -- A function with a result has to return.
-unfoldable pub returning : ℕ → Ty → List written.Stmt → Body → Checking Body
+unfoldable pub returning : ℕ → Ty → List written.Stmt → Body → TypingResult Body
 returning at of statements body = if is_void of || returns_in statements then Ok body else broken NoReturn at
 
-unfoldable pub routine_typed : Environment → Ty → Routine → Checking Function
+unfoldable pub routine_typed : Environment → Ty → Routine → TypingResult Function
 routine_typed env of c =
     parameters_typed env [] c.parameters >>= λ locals. body_typed (with_locals env locals) of c.body
     >>= λ body. returning c.place.at of c.body body
@@ -129,13 +129,13 @@ signature_of name of parameters =
     record { name = name; result = result_type of; parameters = map type_declared parameters }
 
 -- An interface declares a method, after those before it.
-unfoldable pub signature_typed : Environment → Signatures → written.InterfaceMethod → Checking Signatures
+unfoldable pub signature_typed : Environment → Signatures → written.InterfaceMethod → TypingResult Signatures
 signature_typed env ss m =
     result_typed env m.result >>= λ of. placed ss.names m.place.at m.name
     >>= λ names. parameters_typed env [] m.parameters
     >>= λ parameters. Ok (record { names = names; methods = ss.methods ++ signature_of m.name of parameters ∷ [] })
 
-abbrev pub signatures_typed : Environment → Signatures → List written.InterfaceMethod → Checking Signatures
+abbrev pub signatures_typed : Environment → Signatures → List written.InterfaceMethod → TypingResult Signatures
 signatures_typed env ss [] = Ok ss
 signatures_typed env ss (m ∷ ms) = signature_typed env ss m >>= λ next. signatures_typed env next ms
 
@@ -148,18 +148,18 @@ interface_of i classes ss =
     record { name = i.name; line = i.place.line; classes_before = classes; methods = ss.methods }
 
 -- An interface comes after so many classes.
-unfoldable pub interface_typed : Environment → ℕ → written.Interface → Checking Interface
+unfoldable pub interface_typed : Environment → ℕ → written.Interface → TypingResult Interface
 interface_typed env classes i = signatures_typed env no_signatures i.methods >>= λ ss. Ok (interface_of i classes ss)
 
 -- the interfaces that a class lists
 
 -- The name of an interface is at this offset.
-abbrev pub listed_at : ℕ → Option ObjectType → Checking ℕ
+abbrev pub listed_at : ℕ → Option ObjectType → TypingResult ℕ
 listed_at at (Some (OfInterface place)) = Ok place
 listed_at at (Some (OfClass place)) = broken Misplaced at
 listed_at at _ = broken UnknownType at
 
-abbrev pub implemented_at : ℕ → ℕ → Option (List ℕ) → Checking Implementation
+abbrev pub implemented_at : ℕ → ℕ → Option (List ℕ) → TypingResult Implementation
 implemented_at at interface None = broken TypeMismatch at
 implemented_at at interface (Some methods) = Ok (record { interface = interface; methods = methods })
 
@@ -169,14 +169,14 @@ pub record Listed : Type 0 where
   pub interfaces : List Implementation
 
 -- The class of this place lists an interface, after those before it.
-unfoldable pub listed_typed : Environment → ℕ → Listed → written.TypeName → Checking Listed
+unfoldable pub listed_typed : Environment → ℕ → Listed → written.TypeName → TypingResult Listed
 listed_typed env class listed n =
-    listed_at n.place.at (object_named env.registered env.heads n.name)
+    listed_at n.place.at (object_named env.registered env.declarations n.name)
     >>= λ interface. untaken listed.names n.place.at n.name
     >>= λ names. implemented_at n.place.at interface (implemented env class interface)
     >>= λ implementation. Ok (record { names = names; interfaces = listed.interfaces ++ implementation ∷ [] })
 
-abbrev pub all_listed : Environment → ℕ → Listed → List written.TypeName → Checking Listed
+abbrev pub all_listed : Environment → ℕ → Listed → List written.TypeName → TypingResult Listed
 all_listed env class listed [] = Ok listed
 all_listed env class listed (n ∷ ns) = listed_typed env class listed n >>= λ next. all_listed env class next ns
 
@@ -221,12 +221,12 @@ with_constructor c f = record {
 }
 
 -- A class has one constructor, which has its name.
-unfoldable pub constructor_named : Class → written.Constructor → Checking Routine
+unfoldable pub constructor_named : Class → written.Constructor → TypingResult Routine
 constructor_named class c =
     if is_some class.constructor then broken NameTaken c.place.at
     else (if bytes_eq c.name class.name then Ok (constructing c) else broken Misplaced c.place.at)
 
-unfoldable pub member_typed : Environment → Members → written.Member → Checking Members
+unfoldable pub member_typed : Environment → Members → written.Member → TypingResult Members
 member_typed env ms (written.AField v) =
     vars_typed env ms.names v >>= λ row. Ok (record { names = row.names; class = with_fields ms.class row.variables })
 member_typed env ms (written.AMethod f) =
@@ -237,7 +237,7 @@ member_typed env ms (written.AConstructor c) =
     constructor_named ms.class c >>= λ named. routine_typed env ty.Void named
     >>= λ t. Ok (record { names = ms.names; class = with_constructor ms.class t })
 
-abbrev pub members_typed : Environment → Members → List written.Member → Checking Members
+abbrev pub members_typed : Environment → Members → List written.Member → TypingResult Members
 members_typed env ms [] = Ok ms
 members_typed env ms (m ∷ rest) = member_typed env ms m >>= λ next. members_typed env next rest
 
@@ -259,7 +259,7 @@ abbrev pub class_of_members : Members → Class
 class_of_members ms = ms.class
 
 -- The class of this place is typed so.
-unfoldable pub class_typed : Environment → ℕ → written.Class → Checking Class
+unfoldable pub class_typed : Environment → ℕ → written.Class → TypingResult Class
 class_typed env place c =
     all_listed env place none_listed c.interfaces
     >>= λ listed. members_typed (inside env place) (no_members c listed.interfaces) c.members
@@ -273,7 +273,7 @@ pub record Walked : Type 0 where
   pub typed : Module
 
 -- A module has at most 256 classes and interfaces.
-unfoldable pub room_for_type : ℕ → Module → Checking ℕ
+unfoldable pub room_for_type : ℕ → Module → TypingResult ℕ
 room_for_type at m =
     if nat_le 256 (length m.classes + length m.interfaces) then broken TooMany at else Ok (length m.classes)
 
@@ -294,7 +294,7 @@ with_globals m v =
     record { interfaces = m.interfaces; classes = m.classes; functions = m.functions; globals = m.globals ++ v ∷ [] }
 
 -- The next item is typed so.
-unfoldable pub item_typed : Environment → Walked → written.Item → Checking Walked
+unfoldable pub item_typed : Environment → Walked → written.Item → TypingResult Walked
 item_typed env w (written.AClass c) =
     untaken w.names c.place.at c.name >>= λ names. room_for_type c.place.at w.typed >>= λ place. class_typed env place c
     >>= λ t. Ok (record { names = names; typed = with_class w.typed t })
@@ -309,12 +309,12 @@ item_typed env w (written.AFunction f) =
 item_typed env w (written.AGlobal v) =
     vars_typed env w.names v >>= λ row. Ok (record { names = row.names; typed = with_globals w.typed row.variables })
 
-abbrev pub items_typed : Environment → Walked → List written.Item → Checking Walked
+abbrev pub items_typed : Environment → Walked → List written.Item → TypingResult Walked
 items_typed env w [] = Ok w
 items_typed env w (i ∷ is) = item_typed env w i >>= λ next. items_typed env next is
 
 -- A module has at most 256 variables.
-abbrev pub nothing : List host.Call → Walked
+abbrev pub nothing : List host.Registration → Walked
 nothing calls = record {
   names = record { registered = calls; taken = []; room = 256 };
   typed = record { interfaces = []; classes = []; functions = []; globals = [] };
@@ -323,8 +323,8 @@ nothing calls = record {
 abbrev pub module_walked : Walked → Module
 module_walked w = w.typed
 
-abbrev pub module_by : List host.Call → Heads → List written.Item → Checking Module
+abbrev pub module_by : List host.Registration → ModuleDeclarations → List written.Item → TypingResult Module
 module_by calls h is = items_typed (seen calls h) (nothing calls) is >>= λ w. Ok (module_walked w)
 
-unfoldable pub module_typed : List host.Call → List written.Item → Checking Module
-module_typed calls is = module_by calls (heads calls is) is
+unfoldable pub module_typed : List host.Registration → List written.Item → TypingResult Module
+module_typed calls is = module_by calls (declarations calls is) is

@@ -1,9 +1,9 @@
-pub mod Checking
+pub mod TypingResult
 pub mod Types
 pub mod Terms
 pub mod Environment
-pub mod Fitting
-pub mod Heads
+pub mod Coercions
+pub mod ModuleDeclarations
 pub mod Scopes
 pub mod Returning
 pub mod Labels

@@ -2,7 +2,7 @@
 -- the phrase takes. Types that are unknown fit, since the fault is at the type.
 use Rattle.std.specs.Prelude.{◌≡◌, ℕ, List, [], ◌∷◌, Bool, true, false, Option, Some, None, Ok, length, nat_eq}
 use Rattle.std.specs.Prelude.{if◌then◌else◌}
-use Rattle.ash_registrations.specs.Calls.{Call}
+use Rattle.ash_registrations.specs.Calls.{Registration}
 use Rattle.ash_tree.specs.Tree as written
 use Rattle.ash_tree.specs.declared.tree.places.Place.{Place}
 use Rattle.ash_tree.specs.declared.tree.types.Primitive.{Primitive}
@@ -17,15 +17,15 @@ use Rattle.ash_typed.specs.Tree.{Null}
 use Rattle.ash_typing.specs.declared.fault.Rule.TheVariants.{TypeMismatch}
 use Rattle.ash_typing.specs.declared.types.Ty.{Ty}
 use Rattle.ash_typing.specs.declared.types.Ty.TheVariants as ty
-use Rattle.ash_typing.specs.Checking.{broken}
+use Rattle.ash_typing.specs.TypingResult.{broken}
 use Rattle.ash_typing.specs.Types.{object_of, ty_of, common, binary_of}
-use Rattle.ash_typing.specs.Fitting.{fits}
+use Rattle.ash_typing.specs.Coercions.{fits}
 use Rattle.ash_typing.specs.Environment.{Environment, Class, Callee, Invoked, callee_in, method_in, construction}
-use Rattle.ash_typing.specs.Heads.{heads, object_named}
+use Rattle.ash_typing.specs.ModuleDeclarations.{declarations, object_named}
 use Rattle.ash_typing.specs.Typing.{is_object}
 use Rattle.ash_typing.specs.Expressions.{Typed, made, is_void, is_assign, met, typed, all_typed}
 use Rattle.ash_typing.specs.Terms.{operator_of, array_parameters}
-use Rattle.ash_typing.specs.Scopes.{Scope, block_of, behind}
+use Rattle.ash_typing.specs.Scopes.{Scope, block_of, after}
 use Rattle.ash_typing.specs.Statements.{gives_nothing}
 use Rattle.ash_typing.specs.Implementations.{implemented}
 use Rattle.ash_typing.specs.Phrases.{Expression, Statement, Interfaces, Occurs, Links, Suffixes, Initializer}
@@ -105,15 +105,15 @@ pub data IsUnfit (classes : List Class) : List Ty → List Typed → ℕ → Typ
       → IsUnfit classes (of ∷ parameters) (t ∷ ts) at
 
 -- Types do not fit at this offset: in the module of this script, where these calls are registered.
-pub data Mismatches (calls : List Call) (script : List written.Item) : ℕ → Type 0 where
+pub data Mismatches (calls : List Registration) (script : List written.Item) : ℕ → Type 0 where
   -- an argument does not fit its parameter
   of_call : {env : Environment} {p : Place} {text : List ℕ} {es : written.Exprs} {callee : Callee}
       {parameters : List Ty} {ts : List Typed} {at : ℕ}
-      → Occurs calls script (Expression env (written.Call p text es))
+      → Occurs calls script (Expression env (written.Registration p text es))
       → callee_in env text ≡ Some callee
       → callee.parameters ≡ Some parameters
       → all_typed env es ≡ Ok ts
-      → IsUnfit env.heads.classes parameters ts at
+      → IsUnfit env.declarations.classes parameters ts at
       → Mismatches calls script at
   of_method : {env : Environment} {t : Typed} {p : Place} {text : List ℕ} {es : written.Exprs} {ss : written.Suffixes}
       {o : ObjectType} {m : Invoked} {ts : List Typed} {at : ℕ}
@@ -121,12 +121,12 @@ pub data Mismatches (calls : List Call) (script : List written.Item) : ℕ → T
       → object_of t.ty ≡ Some o
       → method_in env o text ≡ Some m
       → all_typed env es ≡ Ok ts
-      → IsUnfit env.heads.classes m.parameters ts at
+      → IsUnfit env.declarations.classes m.parameters ts at
       → Mismatches calls script at
   of_array : {env : Environment} {p : Place} {of : written.Element} {es : written.Exprs} {ts : List Typed} {at : ℕ}
       → Occurs calls script (Expression env (written.NewArray p of es))
       → all_typed env es ≡ Ok ts
-      → IsUnfit env.heads.classes (array_parameters (length ts)) ts at
+      → IsUnfit env.declarations.classes (array_parameters (length ts)) ts at
       → Mismatches calls script at
   of_variable : {env : Environment} {of_at at : ℕ} {o : ObjectType} {es : List written.Expr} {callee : Callee}
       {parameters : List Ty} {ts : List Typed} {arg_at : ℕ}
@@ -134,7 +134,7 @@ pub data Mismatches (calls : List Call) (script : List written.Item) : ℕ → T
       → all_typed env (written.exprs es) ≡ Ok ts
       → construction env o (length ts) ≡ Some callee
       → callee.parameters ≡ Some parameters
-      → IsUnfit env.heads.classes parameters ts arg_at
+      → IsUnfit env.declarations.classes parameters ts arg_at
       → Mismatches calls script arg_at
   -- an operand is of no type that its operator takes; of two operands the fault is at the one that the operator takes
   -- nowhere
@@ -166,7 +166,7 @@ pub data Mismatches (calls : List Call) (script : List written.Item) : ℕ → T
       → Mismatches calls script t.at
   cast_to : {env : Environment} {p : Place} {to : written.TypeName} {e : written.Expr} {o : ObjectType}
       → Occurs calls script (Expression env (written.Cast p to e))
-      → object_named calls (heads calls script) to.name ≡ Some o
+      → object_named calls (declarations calls script) to.name ≡ Some o
       → is_cast_type o ≡ false
       → Mismatches calls script to.place.at
   -- c ? a : b
@@ -187,7 +187,7 @@ pub data Mismatches (calls : List Call) (script : List written.Item) : ℕ → T
       → typed env (is_assign op) e ≡ Ok t
       → typed env false v ≡ Ok u
       → operator_of op ≡ None
-      → fits env.heads.classes t.ty u.ty ≡ false
+      → fits env.declarations.classes t.ty u.ty ≡ false
       → Mismatches calls script u.at
   updated : {env : Environment} {p : Place} {op : AssignOp} {c : Calculator} {e v : written.Expr} {t u : Typed} {at : ℕ}
       → Occurs calls script (Expression env (written.Assign p e op v))
@@ -221,12 +221,12 @@ pub data Mismatches (calls : List Call) (script : List written.Item) : ℕ → T
   initial_value : {env : Environment} {of_at at : ℕ} {of : Ty} {e : written.Expr} {t : Typed}
       → Occurs calls script (Initializer env of_at at of (written.Value e))
       → typed env false e ≡ Ok t
-      → fits env.heads.classes of t.ty ≡ false
+      → fits env.declarations.classes of t.ty ≡ false
       → Mismatches calls script t.at
   initial_argument : {env : Environment} {of_at at : ℕ} {of : Ty} {es : List written.Expr} {t : Typed}
       → Occurs calls script (Initializer env of_at at of (written.Arguments es))
       → all_typed env (written.exprs es) ≡ Ok (t ∷ [])
-      → fits env.heads.classes of t.ty ≡ false
+      → fits env.declarations.classes of t.ty ≡ false
       → Mismatches calls script t.at
   brackets : {env : Environment} {of_at at : ℕ} {of : Ty} {es : List written.Expr} {ts : List Typed}
       → Occurs calls script (Initializer env of_at at of (written.Arguments es))
@@ -247,7 +247,7 @@ pub data Mismatches (calls : List Call) (script : List written.Item) : ℕ → T
   for_condition : {scope : Scope} {p : Place} {f s : written.Stmt} {c : written.Expr} {es : List written.Expr}
       {t : Typed}
       → Occurs calls script (Statement scope (written.For p f (Some c) es s))
-      → typed (behind (block_of scope) f).env false c ≡ Ok t
+      → typed (after (block_of scope) f).env false c ≡ Ok t
       → may_be_bool t.ty ≡ false
       → Mismatches calls script t.at
   switch_value : {scope : Scope} {p : Place} {e : written.Expr} {cs : written.Cases} {t : Typed}
@@ -259,7 +259,7 @@ pub data Mismatches (calls : List Call) (script : List written.Item) : ℕ → T
   returned : {scope : Scope} {p : Place} {e : written.Expr} {t : Typed}
       → Occurs calls script (Statement scope (written.Return p (Some e)))
       → typed scope.env false e ≡ Ok t
-      → fits scope.env.heads.classes scope.gives t.ty ≡ false
+      → fits scope.env.declarations.classes scope.gives t.ty ≡ false
       → Mismatches calls script t.at
   returned_value : {scope : Scope} {p : Place} {e : written.Expr}
       → Occurs calls script (Statement scope (written.Return p (Some e)))
@@ -273,6 +273,6 @@ pub data Mismatches (calls : List Call) (script : List written.Item) : ℕ → T
   lacks_method : {env : Environment} {place interface : ℕ} {before : List written.TypeName} {n : written.TypeName}
       {ns : List written.TypeName}
       → Occurs calls script (Interfaces env place before (n ∷ ns))
-      → object_named calls (heads calls script) n.name ≡ Some (objects.Interface interface)
+      → object_named calls (declarations calls script) n.name ≡ Some (objects.Interface interface)
       → implemented env place interface ≡ None
       → Mismatches calls script n.place.at

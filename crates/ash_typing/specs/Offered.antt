@@ -11,38 +11,38 @@ abbrev pub host_signature : host.Operation → HostSignature
 host_signature o = record { result = o.result; parameters = o.parameters }
 
 -- `kind_in call` is the kind of a registered type.
-abbrev pub kind_in : host.Call → Option ℕ
+abbrev pub kind_in : host.Registration → Option ℕ
 kind_in (host.AType name kind) = Some kind
 kind_in _ = None
 
 -- `parameters_of_factory call` is what the factory of a registered type takes.
-abbrev pub parameters_of_factory : host.Call → Option (List Primitive)
+abbrev pub parameters_of_factory : host.Registration → Option (List Primitive)
 parameters_of_factory (host.AFactory of parameters) = Some parameters
 parameters_of_factory _ = None
 
-abbrev pub factory_at : List host.Call → ℕ → host.Call → Option (List Primitive)
+abbrev pub factory_at : List host.Registration → ℕ → host.Registration → Option (List Primitive)
 factory_at calls kind (host.AType name other) =
     if nat_eq kind other then option_and_then parameters_of_factory (find (host.is_factory_of name) calls) else None
 factory_at calls kind _ = None
 
 -- The method of the type has this number.
-abbrev pub method_at : List ℕ → ℕ → host.Call → Option HostSignature
+abbrev pub method_at : List ℕ → ℕ → host.Registration → Option HostSignature
 method_at of id (host.AMethod other taken operation) =
     if bytes_eq of other && nat_eq id taken then Some (host_signature operation) else None
 method_at of id _ = None
 
-abbrev pub property_at : List ℕ → ℕ → host.Call → Option Primitive
+abbrev pub property_at : List ℕ → ℕ → host.Registration → Option Primitive
 property_at of id (host.AProperty other taken value name) =
     if bytes_eq of other && nat_eq id taken then Some value else None
 property_at of id _ = None
 
-abbrev pub function_at : ℕ → ℕ → host.Call → Option HostSignature
+abbrev pub function_at : ℕ → ℕ → host.Registration → Option HostSignature
 function_at service id (host.AFunction other taken operation) =
     if nat_eq service other && nat_eq id taken then Some (host_signature operation) else None
 function_at service id _ = None
 
 -- `offered calls` is what is offered where these calls are accepted.
-abbrev pub offered : List host.Call → Host
+abbrev pub offered : List host.Registration → Host
 offered calls = record {
   kinds = filter_map kind_in calls;
   factories = λ kind. filter_map (factory_at calls kind) calls;

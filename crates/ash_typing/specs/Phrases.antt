@@ -1,7 +1,7 @@
 -- The phrases of a module, and what each of them sees: of the module all that its items declare, of a class that its
 -- object runs, and of a body the variables before the phrase. It is not said that what comes before is free of faults.
 use Rattle.std.specs.Prelude.{◌≡◌, ℕ, ◌-◌, List, [], ◌∷◌, ◌++◌, map, length, false, Option, Some, Ok}
-use Rattle.ash_registrations.specs.Calls.{Call}
+use Rattle.ash_registrations.specs.Calls.{Registration}
 use Rattle.ash_tree.specs.Tree as written
 use Rattle.ash_tree.specs.declared.tree.places.Place.{Place}
 use Rattle.ash_tree.specs.declared.tree.types.Primitive.{Primitive}
@@ -13,11 +13,11 @@ use Rattle.ash_typed.specs.declared.types.Kind.{Kind}
 use Rattle.ash_typing.specs.declared.types.Ty.{Ty}
 use Rattle.ash_typing.specs.declared.types.Ty.TheVariants as ty
 use Rattle.ash_typing.specs.Environment.{Environment, Declared, with_locals, inside}
-use Rattle.ash_typing.specs.Heads.{declared, ty_in}
+use Rattle.ash_typing.specs.ModuleDeclarations.{declared, ty_in}
 use Rattle.ash_typing.specs.Expressions.{Typed, operate, typed, suffix_typed}
 use Rattle.ash_typing.specs.Declarations.{at_type, known_ty}
 use Rattle.ash_typing.specs.Switches.{kind_in}
-use Rattle.ash_typing.specs.Scopes.{Scope, block_of, loop_of, switch_of, with_variables, behind, body_scope}
+use Rattle.ash_typing.specs.Scopes.{Scope, block_of, loop_of, switch_of, with_variables, after, body_scope}
 use Rattle.ash_typing.specs.Items.{Names, passed_ty, result_typed, parameters_typed}
 use Rattle.ash_tree.specs.Items.{Routine, routine_of, constructing, classes_of, globals_of, variable_names}
 use Rattle.ash_tree.specs.Items.{member_names, item_names}
@@ -26,7 +26,7 @@ use Rattle.ash_typing.specs.TypedModules.{signature_name, listed_name, environme
 -- names that are taken
 
 -- Those that are registered, and those of the items before. There are at most 256 variables in a module.
-abbrev pub names_before : List Call → List written.Item → Names
+abbrev pub names_before : List Registration → List written.Item → Names
 names_before calls before =
     record { registered = calls; taken = item_names before; room = 256 - length (variable_names (globals_of before)) }
 
@@ -97,10 +97,10 @@ environment_of (ClassMembers env class before ms) = env
 environment_of (Items env before is) = env
 
 -- A phrase is one of the module of this script, where these calls are registered, and sees this.
-pub data Occurs (calls : List Call) (script : List written.Item) : Phrase → Type 0 where
+pub data Occurs (calls : List Registration) (script : List written.Item) : Phrase → Type 0 where
   -- expressions
   call_arguments : {env : Environment} {p : Place} {text : List ℕ} {es : written.Exprs}
-      → Occurs calls script (Expression env (written.Call p text es))
+      → Occurs calls script (Expression env (written.Registration p text es))
       → Occurs calls script (Arguments env es)
   in_brackets : {env : Environment} {p : Place} {e : written.Expr}
       → Occurs calls script (Expression env (written.Brackets p e))
@@ -227,13 +227,13 @@ pub data Occurs (calls : List Call) (script : List written.Item) : Phrase → Ty
       → Occurs calls script (Statement (block_of scope) f)
   for_condition : {scope : Scope} {p : Place} {f s : written.Stmt} {c : written.Expr} {es : List written.Expr}
       → Occurs calls script (Statement scope (written.For p f (Some c) es s))
-      → Occurs calls script (Expression (behind (block_of scope) f).env c)
+      → Occurs calls script (Expression (after (block_of scope) f).env c)
   for_steps : {scope : Scope} {p : Place} {f s : written.Stmt} {c : Option written.Expr} {es : List written.Expr}
       → Occurs calls script (Statement scope (written.For p f c es s))
-      → Occurs calls script (Arguments (behind (block_of scope) f).env (written.exprs es))
+      → Occurs calls script (Arguments (after (block_of scope) f).env (written.exprs es))
   for_body : {scope : Scope} {p : Place} {f s : written.Stmt} {c : Option written.Expr} {es : List written.Expr}
       → Occurs calls script (Statement scope (written.For p f c es s))
-      → Occurs calls script (Statement (loop_of (behind (block_of scope) f)) s)
+      → Occurs calls script (Statement (loop_of (after (block_of scope) f)) s)
   switch_value : {scope : Scope} {p : Place} {e : written.Expr} {cs : written.Cases}
       → Occurs calls script (Statement scope (written.Switch p e cs))
       → Occurs calls script (Expression scope.env e)
@@ -249,7 +249,7 @@ pub data Occurs (calls : List Call) (script : List written.Item) : Phrase → Ty
       → Occurs calls script (Statement scope s)
   other_statements : {scope : Scope} {s : written.Stmt} {ss : written.Stmts}
       → Occurs calls script (Statements scope (written.stmt s ss))
-      → Occurs calls script (Statements (behind scope s) ss)
+      → Occurs calls script (Statements (after scope s) ss)
   labelled : {scope : Scope} {kind : Option Kind} {before : List Label} {p : Place} {l : Label} {ss : written.Stmts}
       {cs : written.Cases}
       → Occurs calls script (Cases scope kind before (written.next_case (written.labelled p l ss) cs))

@@ -4,7 +4,7 @@ use Rattle.std.specs.List.{list_any}
 use Rattle.ash_tree.specs.Tree as written
 use Rattle.ash_typing.specs.declared.types.Ty.{Ty}
 use Rattle.ash_typing.specs.Environment.{Declared, Environment, declares, with_locals}
-use Rattle.ash_typing.specs.Heads.{variables}
+use Rattle.ash_typing.specs.ModuleDeclarations.{variables}
 
 -- There are `first` locals before those of the block, and the function gives `gives`.
 pub record Scope : Type 0 where
@@ -42,12 +42,12 @@ with_variables scope vs = record {
 }
 
 abbrev pub declared_in : Scope → written.Vars → List Declared
-declared_in scope v = variables scope.env.registered scope.env.heads v
+declared_in scope v = variables scope.env.registered scope.env.declarations v
 
--- `behind scope s` is what the statements after one see: the variables that it declares are added.
-abbrev pub behind : Scope → written.Stmt → Scope
-behind scope (written.Declare p v) = with_variables scope (declared_in scope v)
-behind scope _ = scope
+-- `after scope s` is what the statements after one see: the variables that it declares are added.
+abbrev pub after : Scope → written.Stmt → Scope
+after scope (written.Declare p v) = with_variables scope (declared_in scope v)
+after scope _ = scope
 
 abbrev pub is_taken : Scope → List ℕ → Bool
 is_taken scope name = list_any (declares name) (drop scope.first scope.env.locals)

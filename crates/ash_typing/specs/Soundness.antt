@@ -6,7 +6,7 @@ use Rattle.ash_typed.specs.Signatures.{ClassSignature, Signatures}
 use Rattle.ash_typed.specs.SoundExpressions as expressions
 use Rattle.ash_typed.specs.SoundStatements as statements
 use Rattle.ash_typing.specs.Types.{var_type, result_type}
-use Rattle.ash_typing.specs.Environment.{type_declared, Function, Interface, Class, Heads, Environment}
+use Rattle.ash_typing.specs.Environment.{type_declared, Function, Interface, Class, ModuleDeclarations, Environment}
 use Rattle.ash_typing.specs.Scopes.{Scope}
 use Rattle.ash_typing.specs.Offered.{offered}
 
@@ -24,20 +24,20 @@ signature_of_class c = record {
   methods = map signature_of c.methods;
 }
 
--- `signatures_in calls heads` is what a module declares, where these calls are registered.
-abbrev pub signatures_in : List host.Call → Heads → Signatures
-signatures_in calls heads = record {
+-- `signatures_in calls declarations` is what a module declares, where these calls are registered.
+abbrev pub signatures_in : List host.Registration → ModuleDeclarations → Signatures
+signatures_in calls declarations = record {
   host = offered calls;
-  interfaces = map signatures_of_interface heads.interfaces;
-  classes = map signature_of_class heads.classes;
-  functions = map signature_of heads.functions;
-  globals = map type_declared heads.globals;
+  interfaces = map signatures_of_interface declarations.interfaces;
+  classes = map signature_of_class declarations.classes;
+  functions = map signature_of declarations.functions;
+  globals = map type_declared declarations.globals;
 }
 
 -- `seen_in env` is what an expression sees.
 abbrev pub seen_in : Environment → expressions.Environment
 seen_in env = record {
-  signatures = signatures_in env.registered env.heads;
+  signatures = signatures_in env.registered env.declarations;
   this = env.this;
   locals = map type_declared env.locals;
 }

@@ -10,7 +10,7 @@ use Rattle.ash_typing.specs.declared.fault.Rule.TheVariants.{NameTaken, TypeMism
 use Rattle.ash_typed.specs.declared.types.Kind.{Kind}
 use Rattle.ash_typing.specs.declared.types.Ty.{Ty}
 use Rattle.ash_typing.specs.declared.types.Ty.TheVariants as ty
-use Rattle.ash_typing.specs.Checking.{Checking, ◌>>=◌, broken}
+use Rattle.ash_typing.specs.TypingResult.{TypingResult, ◌>>=◌, broken}
 use Rattle.ash_typed.specs.declared.tree.statements.Test.TheVariants.{First, Last}
 use Rattle.ash_typed.specs.Tree.{Expr}
 use Rattle.ash_typed.specs.StatementTree.{Initialization, Body, Stmt, Empty, Declare, Evaluate, Block, If, no_branch}
@@ -18,31 +18,31 @@ use Rattle.ash_typed.specs.StatementTree.{branch, Head, no_head, declared_head, 
 use Rattle.ash_typed.specs.StatementTree.{Switch, Break, Continue, Return, Stmts, no_stmt, stmt, labelled, Cases}
 use Rattle.ash_typed.specs.StatementTree.{no_case, next_case}
 use Rattle.ash_typing.specs.Environment.{Declared, Class, Environment}
-use Rattle.ash_typing.specs.Expressions.{Typed, typed, all_typed, fitted, integer_of, bool_of, is_void}
-use Rattle.ash_typing.specs.Heads.{declared, ty_in}
+use Rattle.ash_typing.specs.Expressions.{Typed, typed, all_typed, coerced_for_assignment, integer_of, bool_of, is_void}
+use Rattle.ash_typing.specs.ModuleDeclarations.{declared, ty_in}
 use Rattle.ash_typing.specs.Declarations.{at_type, known_ty, decl_typed}
 use Rattle.ash_typing.specs.Switches.{kind_in, label_typed}
-use Rattle.ash_typing.specs.Scopes.{Scope, block_of, loop_of, switch_of, with_variables, behind, is_taken, body_scope}
+use Rattle.ash_typing.specs.Scopes.{Scope, block_of, loop_of, switch_of, with_variables, after, is_taken, body_scope}
 use Rattle.ash_typing.specs.Labels.{is_last}
 
 -- variables
 
 -- The name of the variable is not taken in its block.
-unfoldable pub fresh : Scope → Ty → written.Decl → Checking Declared
+unfoldable pub fresh : Scope → Ty → written.Decl → TypingResult Declared
 fresh scope of d = if is_taken scope d.name then broken NameTaken d.place.at else Ok (declared of d)
 
 -- Variables of the type at this offset are each seen from the end of their own on.
-abbrev pub decls_typed : Scope → ℕ → Ty → List written.Decl → Checking (List Initialization)
+abbrev pub decls_typed : Scope → ℕ → Ty → List written.Decl → TypingResult (List Initialization)
 decls_typed scope at of [] = Ok []
 decls_typed scope at of (d ∷ ds) =
     fresh scope of d >>= λ v. decl_typed scope.env at of d
     >>= λ value. decls_typed (with_variables scope (v ∷ [])) at of ds >>= λ values. Ok (value ∷ values)
 
-unfoldable pub vars_typed : Scope → written.Vars → Checking (List Initialization)
+unfoldable pub vars_typed : Scope → written.Vars → TypingResult (List Initialization)
 vars_typed scope v = known_ty v.of (ty_in scope.env v.of) >>= λ of. decls_typed scope (at_type v.of) of v.decls
 
 -- The head of a `for` is nothing, variables or an expression, and no other statement.
-unfoldable pub head_typed : Scope → written.Stmt → Checking Head
+unfoldable pub head_typed : Scope → written.Stmt → TypingResult Head
 head_typed scope (written.Empty p) = Ok no_head
 head_typed scope (written.Declare p v) = vars_typed scope v >>= λ values. Ok (declared_head values)
 head_typed scope (written.Evaluate p e) = typed scope.env false e >>= λ t. Ok (evaluated_head t.tree)
@@ -59,48 +59,48 @@ head_typed scope (written.Return p e) = broken Misplaced p.at
 
 -- statements, once their parts are walked
 
-abbrev pub condition_is : Typed → Checking Bool
+abbrev pub condition_is : Typed → TypingResult Bool
 condition_is t = bool_of t.at t.ty
 
-unfoldable pub if_typed : ℕ → Checking Typed → Checking Stmt → Checking Stmt
+unfoldable pub if_typed : ℕ → TypingResult Typed → TypingResult Stmt → TypingResult Stmt
 if_typed line condition inner =
     condition >>= λ c. inner >>= λ s. condition_is c >>= λ yes. Ok (If line c.tree s no_branch)
 
-unfoldable pub if_else_typed : ℕ → Checking Typed → Checking Stmt → Checking Stmt → Checking Stmt
+unfoldable pub if_else_typed : ℕ → TypingResult Typed → TypingResult Stmt → TypingResult Stmt → TypingResult Stmt
 if_else_typed line condition inner other =
     condition >>= λ c. inner >>= λ s. other >>= λ t. condition_is c >>= λ yes. Ok (If line c.tree s (branch t))
 
-unfoldable pub while_typed : ℕ → Checking Typed → Checking Stmt → Checking Stmt
+unfoldable pub while_typed : ℕ → TypingResult Typed → TypingResult Stmt → TypingResult Stmt
 while_typed line condition body =
     condition >>= λ c. body >>= λ s. condition_is c >>= λ yes. Ok (Repeat line (repeated First (Some c.tree) [] s))
 
-unfoldable pub do_while_typed : ℕ → Checking Stmt → Checking Typed → Checking Stmt
+unfoldable pub do_while_typed : ℕ → TypingResult Stmt → TypingResult Typed → TypingResult Stmt
 do_while_typed line body condition =
     body >>= λ s. condition >>= λ c. condition_is c >>= λ yes. Ok (Repeat line (repeated Last (Some c.tree) [] s))
 
 -- The head of a `for` may have no condition.
-abbrev pub maybe_typed : Environment → Option written.Expr → Checking (Option Typed)
+abbrev pub maybe_typed : Environment → Option written.Expr → TypingResult (Option Typed)
 maybe_typed env None = Ok None
 maybe_typed env (Some e) = typed env false e >>= λ t. Ok (Some t)
 
-abbrev pub maybe_condition_is : Option Typed → Checking Bool
+abbrev pub maybe_condition_is : Option Typed → TypingResult Bool
 maybe_condition_is None = Ok true
 maybe_condition_is (Some t) = condition_is t
 
 abbrev pub tree_of : Typed → Expr
 tree_of t = t.tree
 
-unfoldable pub for_typed : ℕ → Checking Head → Checking (Option Typed) → Checking (List Typed) → Checking Stmt
-    → Checking Stmt
+unfoldable pub for_typed : ℕ → TypingResult Head → TypingResult (Option Typed) → TypingResult (List Typed) → TypingResult Stmt
+    → TypingResult Stmt
 for_typed line head condition steps body =
     head >>= λ h. condition >>= λ c. steps >>= λ ts. body >>= λ s. maybe_condition_is c
     >>= λ yes. Ok (For line h (repeated First (option_map tree_of c) (map tree_of ts) s))
 
 -- A `break` must have something that it leaves.
-unfoldable pub break_typed : Bool → Place → Checking Stmt
+unfoldable pub break_typed : Bool → Place → TypingResult Stmt
 break_typed leaves p = if leaves then Ok (Break p.line) else broken Misplaced p.at
 
-unfoldable pub continue_typed : Bool → Place → Checking Stmt
+unfoldable pub continue_typed : Bool → Place → TypingResult Stmt
 continue_typed leaves p = if leaves then Ok (Continue p.line) else broken Misplaced p.at
 
 -- A function of this type returns without a value.
@@ -110,18 +110,18 @@ gives_nothing ty.Unknown = true
 gives_nothing _ = false
 
 -- A value is returned at this offset.
-unfoldable pub returned : List Class → Ty → ℕ → Typed → Checking Expr
-returned classes of at t = if is_void of then broken TypeMismatch at else fitted classes of t
+unfoldable pub returned : List Class → Ty → ℕ → Typed → TypingResult Expr
+returned classes of at t = if is_void of then broken TypeMismatch at else coerced_for_assignment classes of t
 
-unfoldable pub return_typed : Scope → Place → Option written.Expr → Checking Stmt
+unfoldable pub return_typed : Scope → Place → Option written.Expr → TypingResult Stmt
 return_typed scope p None = if gives_nothing scope.gives then Ok (Return p.line None) else broken TypeMismatch p.at
 return_typed scope p (Some e) =
-    typed scope.env false e >>= λ t. returned scope.env.heads.classes scope.gives p.at t
+    typed scope.env false e >>= λ t. returned scope.env.declarations.classes scope.gives p.at t
     >>= λ value. Ok (Return p.line (Some value))
 
 -- the walk
 abbrev mutual
-  pub stmt_typed : Scope → written.Stmt → Checking Stmt
+  pub stmt_typed : Scope → written.Stmt → TypingResult Stmt
   stmt_typed scope (written.Empty p) = Ok (Empty p.line)
   stmt_typed scope (written.Declare p v) = vars_typed scope v >>= λ values. Ok (Declare p.line values)
   stmt_typed scope (written.Evaluate p e) = typed scope.env false e >>= λ t. Ok (Evaluate p.line t.tree)
@@ -133,9 +133,9 @@ abbrev mutual
   stmt_typed scope (written.DoWhile p s c) =
       do_while_typed p.line (stmt_typed (loop_of scope) s) (typed scope.env false c)
   stmt_typed scope (written.For p f c es s) =
-      for_typed p.line (head_typed (block_of scope) f) (maybe_typed (behind (block_of scope) f).env c)
-      (all_typed (behind (block_of scope) f).env (written.exprs es))
-      (stmt_typed (loop_of (behind (block_of scope) f)) s)
+      for_typed p.line (head_typed (block_of scope) f) (maybe_typed (after (block_of scope) f).env c)
+      (all_typed (after (block_of scope) f).env (written.exprs es))
+      (stmt_typed (loop_of (after (block_of scope) f)) s)
   stmt_typed scope (written.Switch p e cs) =
       typed scope.env false e >>= λ v. cases_typed (switch_of scope) (kind_in v.ty) [] cs
       >>= λ rows. integer_of v.at v.ty >>= λ kind. Ok (Switch p.line kind v.tree rows)
@@ -144,18 +144,18 @@ abbrev mutual
   stmt_typed scope (written.Return p e) = return_typed scope p e
 
   -- statements, each with the variables of those before it
-  pub stmts_typed : Scope → written.Stmts → Checking Stmts
+  pub stmts_typed : Scope → written.Stmts → TypingResult Stmts
   stmts_typed scope written.no_stmt = Ok no_stmt
   stmts_typed scope (written.stmt s ss) =
-      stmt_typed scope s >>= λ t. stmts_typed (behind scope s) ss >>= λ ts. Ok (stmt t ts)
+      stmt_typed scope s >>= λ t. stmts_typed (after scope s) ss >>= λ ts. Ok (stmt t ts)
 
   -- labels, each after those before it, with the statements after them
-  pub cases_typed : Scope → Option Kind → List Label → written.Cases → Checking Cases
+  pub cases_typed : Scope → Option Kind → List Label → written.Cases → TypingResult Cases
   cases_typed scope kind before written.no_case = Ok no_case
   cases_typed scope kind before (written.next_case (written.labelled p l ss) cs) =
       label_typed kind before (is_last cs) p.at l >>= λ label. stmts_typed scope ss
       >>= λ body. cases_typed scope kind (before ++ l ∷ []) cs >>= λ rest. Ok (next_case (labelled label body) rest)
 
 -- The body of a function that gives this type is typed so; its parameters are the locals.
-unfoldable pub body_typed : Environment → Ty → List written.Stmt → Checking Body
+unfoldable pub body_typed : Environment → Ty → List written.Stmt → TypingResult Body
 body_typed env of body = stmts_typed (body_scope env of) (written.stmts body)

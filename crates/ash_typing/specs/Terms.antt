@@ -7,8 +7,8 @@ use Rattle.ash_tree.specs.declared.tree.operators.AssignOp.TheVariants as assign
 use Rattle.ash_typed.specs.declared.types.Kind.TheVariants as kinds
 use Rattle.ash_typing.specs.declared.types.Ty.{Ty}
 use Rattle.ash_typing.specs.declared.types.Ty.TheVariants as ty
-use Rattle.ash_typing.specs.declared.forms.Sort.{Sort}
-use Rattle.ash_typing.specs.declared.forms.Sort.TheVariants as sort
+use Rattle.ash_typing.specs.declared.forms.OperatorClass.{OperatorClass}
+use Rattle.ash_typing.specs.declared.forms.OperatorClass.TheVariants as sort
 use Rattle.ash_typing.specs.declared.forms.Form.{Form}
 use Rattle.ash_typing.specs.declared.forms.Form.TheVariants as form
 use Rattle.ash_typed.specs.declared.tree.operations.Conversion.{Conversion}
@@ -68,12 +68,12 @@ taking _ _ _ t = t
 
 -- `adapted_by s form of t` is the operand of an operator whose other operand has this form and type: the two of a shift
 -- have a type each.
-abbrev pub adapted_by : Sort → Form → Ty → Term → Term
+abbrev pub adapted_by : OperatorClass → Form → Ty → Term → Term
 adapted_by sort.Shift form of t = t
 adapted_by _ form of t = taking form of t.form t
 
 -- `adapted_to s other t` is the operand of an operator whose other operand is this.
-abbrev pub adapted_to : Sort → Term → Term → Term
+abbrev pub adapted_to : OperatorClass → Term → Term → Term
 adapted_to s other t = adapted_by s other.form other.ty t
 
 abbrev pub operand_type : Operands → Ty
@@ -82,7 +82,7 @@ operand_type operands.Bools = ty.Bool
 operand_type operands.Handles = ty.Null
 
 -- The count of a shift has its own type, and any other right operand is converted.
-abbrev pub right_by : Sort → Operands → Term → Expr
+abbrev pub right_by : OperatorClass → Operands → Term → Expr
 right_by sort.Shift o u = u.tree
 right_by _ o u = converted_to (operand_type o) u
 

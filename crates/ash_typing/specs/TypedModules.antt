@@ -14,7 +14,7 @@ use Rattle.ash_typed.specs.declared.types.ObjectType.TheVariants.{Interface as O
 use Rattle.ash_typing.specs.Types.{var_type, result_type}
 use Rattle.ash_typing.specs.Environment.{Declared, Environment, named_in, inside, seen, with_locals}
 use Rattle.ash_typing.specs.Typing.{IsVariableType, IsDeclared}
-use Rattle.ash_typing.specs.Heads.{heads, object_named, ty_in, result_in}
+use Rattle.ash_typing.specs.ModuleDeclarations.{declarations, object_named, ty_in, result_in}
 use Rattle.ash_typed.specs.StatementTree.{Initialization, Body}
 use Rattle.ash_typing.specs.TypedStatements.{AreStmts}
 use Rattle.ash_typed.specs.Modules.{Variables, Function, Signature, Interface, Implementation, Class, Module}
@@ -28,7 +28,7 @@ use Rattle.ash_typing.specs.Implementations.{implemented}
 -- names
 
 -- No type and no function is registered by this name.
-abbrev pub IsFree : List host.Call → List ℕ → Type 0
+abbrev pub IsFree : List host.Registration → List ℕ → Type 0
 IsFree calls name = named_in calls name ≡ None
 
 -- types
@@ -132,7 +132,7 @@ listed_name n = n.name
 
 -- The class of this place lists an interface, and has each of its methods, with the same types.
 pub record IsListed (env : Environment) (class : ℕ) (n : written.TypeName) (typed : Implementation) : Type 0 where
-  pub interface : object_named env.registered env.heads n.name ≡ Some (OfInterface typed.interface)
+  pub interface : object_named env.registered env.declarations n.name ≡ Some (OfInterface typed.interface)
   pub methods : implemented env class typed.interface ≡ Some typed.methods
 
 -- A constructor has its class's name.
@@ -168,12 +168,12 @@ AreClasses env place _ _ = ⊥
 -- modules
 
 -- `environment calls is` is what each item of a module sees.
-abbrev pub environment : List host.Call → List written.Item → Environment
-environment calls is = seen calls (heads calls is)
+abbrev pub environment : List host.Registration → List written.Item → Environment
+environment calls is = seen calls (declarations calls is)
 
 -- A module, where these calls are registered. It has at most 256 classes and interfaces, and 256 variables. What it
 -- declares differs in name, and has no registered name.
-pub record IsTyped (calls : List host.Call) (is : List written.Item) (typed : Module) : Type 0 where
+pub record IsTyped (calls : List host.Registration) (is : List written.Item) (typed : Module) : Type 0 where
   pub differ : IsDistinct bytes_eq (item_names is)
   pub free : AllByRecursion (IsFree calls) (item_names is)
   pub few_types : length (classes_of is) + length (interfaces_of is) ≤ 256

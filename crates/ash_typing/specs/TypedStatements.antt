@@ -12,7 +12,7 @@ use Rattle.ash_tree.specs.Tree as written
 use Rattle.ash_typed.specs.declared.types.Kind.{Kind}
 use Rattle.ash_typing.specs.declared.types.Ty.{Ty}
 use Rattle.ash_typing.specs.declared.types.Ty.TheVariants as ty
-use Rattle.ash_typing.specs.Fitting.{fits}
+use Rattle.ash_typing.specs.Coercions.{fits}
 use Rattle.ash_typed.specs.declared.tree.statements.Test.TheVariants.{First, Last}
 use Rattle.ash_typed.specs.Tree.{Expr}
 use Rattle.ash_typed.specs.StatementTree.{Initialization, Stmt, Empty, Declare, Evaluate, Block, If, no_branch, branch}
@@ -20,12 +20,12 @@ use Rattle.ash_typed.specs.StatementTree.{Head, no_head, declared_head, evaluate
 use Rattle.ash_typed.specs.StatementTree.{Break, Continue, Return, Stmts, no_stmt, stmt, labelled, Cases, no_case}
 use Rattle.ash_typed.specs.StatementTree.{next_case}
 use Rattle.ash_typing.specs.Environment.{Environment}
-use Rattle.ash_typing.specs.Heads.{declared, ty_in}
+use Rattle.ash_typing.specs.ModuleDeclarations.{declared, ty_in}
 use Rattle.ash_typing.specs.Terms.{Term, converted_to}
 use Rattle.ash_typing.specs.Typing.{IsKnown, IsKnownType, IsVariableType, HasType, AllHaveType, IsDeclared}
 use Rattle.ash_typing.specs.Returning.{is_default}
 use Rattle.ash_typing.specs.Labels.{holds_label, is_same_constant, is_last}
-use Rattle.ash_typing.specs.Scopes.{Scope, block_of, loop_of, switch_of, with_variables, behind, is_taken}
+use Rattle.ash_typing.specs.Scopes.{Scope, block_of, loop_of, switch_of, with_variables, after, is_taken}
 
 -- The types of a scope are known.
 pub record IsKnownScope (scope : Scope) : Type 0 where
@@ -121,9 +121,9 @@ mutual
     for_loop : {scope : Scope} {p : place.Place} {f s : written.Stmt} {c : Option written.Expr} {es : List written.Expr}
         {h : Head} {t : Stmt} {tree : Option Expr} {ts : List Term}
         → IsHead (block_of scope) f h
-        → MayBeCondition (behind (block_of scope) f).env c tree
-        → AllHaveType (behind (block_of scope) f).env (written.exprs es) ts
-        → IsStmt (loop_of (behind (block_of scope) f)) s t
+        → MayBeCondition (after (block_of scope) f).env c tree
+        → AllHaveType (after (block_of scope) f).env (written.exprs es) ts
+        → IsStmt (loop_of (after (block_of scope) f)) s t
         → IsStmt scope (written.For p f c es s) (For p.line h (repeated First tree (map tree_of_term ts) t))
     -- switch (e) { case .. }
     switch : {scope : Scope} {p : place.Place} {e : written.Expr} {cs : written.Cases} {t : Term} {k : Kind}
@@ -146,7 +146,7 @@ mutual
         → IsStmt scope (written.Return p None) (Return p.line None)
     return_value : {scope : Scope} {p : place.Place} {e : written.Expr} {t : Term}
         → HasType scope.env false e t
-        → fits scope.env.heads.classes scope.gives t.ty ≡ true
+        → fits scope.env.declarations.classes scope.gives t.ty ≡ true
         → IsStmt scope (written.Return p (Some e)) (Return p.line (Some (converted_to scope.gives t)))
 
   -- Statements each see the variables of those before them.
@@ -154,7 +154,7 @@ mutual
     no_more_stmts : {scope : Scope} → AreStmts scope written.no_stmt no_stmt
     more_stmts : {scope : Scope} {s : written.Stmt} {ss : written.Stmts} {t : Stmt} {ts : Stmts}
         → IsStmt scope s t
-        → AreStmts (behind scope s) ss ts
+        → AreStmts (after scope s) ss ts
         → AreStmts scope (written.stmt s ss) (stmt t ts)
 
   -- Labels come after those before them, with the statements after each.

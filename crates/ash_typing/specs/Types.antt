@@ -14,8 +14,8 @@ use Rattle.ash_typed.specs.declared.types.VarType.{VarType}
 use Rattle.ash_typed.specs.declared.types.VarType.TheVariants as vars
 use Rattle.ash_typing.specs.declared.types.Ty.{Ty}
 use Rattle.ash_typing.specs.declared.types.Ty.TheVariants as ty
-use Rattle.ash_typing.specs.declared.forms.Sort.{Sort}
-use Rattle.ash_typing.specs.declared.forms.Sort.TheVariants as sort
+use Rattle.ash_typing.specs.declared.forms.OperatorClass.{OperatorClass}
+use Rattle.ash_typing.specs.declared.forms.OperatorClass.TheVariants as sort
 use Rattle.ash_typed.specs.declared.tree.operations.Calculator.{Calculator}
 use Rattle.ash_typed.specs.declared.tree.operations.Calculator.TheVariants as calculators
 use Rattle.ash_typed.specs.declared.tree.operations.Comparator.TheVariants as comparators
@@ -226,7 +226,7 @@ common _ _ = None
 -- operators
 
 -- `sort_of op` is what an operator between two operands is of.
-abbrev pub sort_of : BinaryOp → Sort
+abbrev pub sort_of : BinaryOp → OperatorClass
 sort_of binary.Multiply = sort.Arithmetic
 sort_of binary.Divide = sort.Arithmetic
 sort_of binary.Remainder = sort.Arithmetic
@@ -295,7 +295,7 @@ integers_in (operands.Integers k) = k
 integers_in _ = Int
 
 -- An operator takes a type anywhere.
-abbrev pub takes : Sort → Ty → Bool
+abbrev pub takes : OperatorClass → Ty → Bool
 takes _ ty.Unknown = true
 takes sort.Arithmetic (ty.Integer _) = true
 takes sort.Shift (ty.Integer _) = true
@@ -309,7 +309,7 @@ takes sort.Logic ty.Bool = true
 takes _ _ = false
 
 -- `assumed s other of` is what an operand of an unknown type is taken for, where the other is of another type.
-abbrev pub assumed : Sort → Ty → Ty → Ty
+abbrev pub assumed : OperatorClass → Ty → Ty → Ty
 assumed sort.Equality ty.Bool ty.Unknown = ty.Bool
 assumed sort.Identity _ ty.Unknown = ty.Null
 assumed sort.Logic _ ty.Unknown = ty.Bool
@@ -318,7 +318,7 @@ assumed _ _ t = t
 
 -- `meets s t u` is what an operator does with operands of these types, where it takes them: what both become, and what
 -- comes out.
-abbrev pub meets : Sort → Ty → Ty → Option Operands
+abbrev pub meets : OperatorClass → Ty → Ty → Option Operands
 meets sort.Arithmetic (ty.Integer j) (ty.Integer k) = Some (operands.Integers (meeting j k))
 meets sort.Shift (ty.Integer j) (ty.Integer k) = Some (operands.Integers j)
 meets sort.Order (ty.Integer j) (ty.Integer k) = Some (operands.Integers (meeting j k))
@@ -328,7 +328,7 @@ meets sort.Identity a b = if agrees a b then Some operands.Handles else None
 meets sort.Logic ty.Bool ty.Bool = Some operands.Bools
 meets _ _ _ = None
 
-abbrev pub outcome : Sort → Operands → Ty
+abbrev pub outcome : OperatorClass → Operands → Ty
 outcome sort.Arithmetic (operands.Integers k) = ty.Integer k
 outcome sort.Shift (operands.Integers k) = ty.Integer k
 outcome _ _ = ty.Bool

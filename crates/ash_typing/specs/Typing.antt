@@ -33,8 +33,8 @@ use Rattle.ash_typing.specs.Types.{is_variable, is_result, var_type, signed, com
 use Rattle.ash_typing.specs.Types.{sort_of, binary_of, meets, outcome}
 use Rattle.ash_typed.specs.Tree.{Expr, Truth, Null, This, Read, Invoke, Cast, Call, Alter, Conditional, Assign, Update}
 use Rattle.ash_typed.specs.Tree.{Count, Place, Held, Indexed, Exprs, no_expr, expr}
-use Rattle.ash_typing.specs.Fitting.{fits}
-use Rattle.ash_typing.specs.Heads.{object_named, element_named}
+use Rattle.ash_typing.specs.Coercions.{fits}
+use Rattle.ash_typing.specs.ModuleDeclarations.{object_named, element_named}
 use Rattle.ash_typing.specs.Environment.{Environment, Declared, Function, Interface, Class, Known, Callee, Invoked}
 use Rattle.ash_typing.specs.Environment.{variable_in, callee_in, member_in, method_in, construction}
 use Rattle.ash_typed.specs.StatementTree.{Initialization}
@@ -75,10 +75,10 @@ pub record IsKnownClass (c : Class) : Type 0 where
   pub parameters : AllByRecursion IsVariableType c.parameters
 
 pub record IsKnown (env : Environment) : Type 0 where
-  pub interfaces : AllByRecursion IsKnownInterface env.heads.interfaces
-  pub classes : AllByRecursion IsKnownClass env.heads.classes
-  pub functions : AllByRecursion IsKnownFunction env.heads.functions
-  pub globals : AllByRecursion IsKnownVariable env.heads.globals
+  pub interfaces : AllByRecursion IsKnownInterface env.declarations.interfaces
+  pub classes : AllByRecursion IsKnownClass env.declarations.classes
+  pub functions : AllByRecursion IsKnownFunction env.declarations.functions
+  pub globals : AllByRecursion IsKnownVariable env.declarations.globals
   pub locals : AllByRecursion IsKnownVariable env.locals
 
 -- terms
@@ -125,7 +125,7 @@ mutual
         → callee_in env text ≡ Some callee
         → callee.parameters ≡ Some parameters
         → AllHaveType env es ts
-        → AreArguments env.heads.classes parameters ts trees
+        → AreArguments env.declarations.classes parameters ts trees
         → HasType env left (written.Call p text es)
         (term callee.result (call_of callee.target (map var_type parameters) trees))
     -- (e), which is no number alone; what can be assigned still can
@@ -146,15 +146,15 @@ mutual
     -- `array<T>(e ..)`, of none or one argument
     new_array : {left : Bool} {p : place.Place} {of : written.Element} {es : written.Exprs} {elements : Element}
         {ts : List Term} {trees : Exprs}
-        → element_named env.registered env.heads of ≡ Some elements
+        → element_named env.registered env.declarations of ≡ Some elements
         → AllHaveType env es ts
-        → AreArguments env.heads.classes (array_parameters (length ts)) ts trees
+        → AreArguments env.declarations.classes (array_parameters (length ts)) ts trees
         → HasType env left (written.NewArray p of es)
         (term (ty.Handle (objects.Array elements))
         (Call (targets.Array elements) (map var_type (array_parameters (length ts))) trees))
     -- `cast<T>(e)`, of an object or a handle
     cast : {left : Bool} {p : place.Place} {to : written.TypeName} {e : written.Expr} {t : Term} {o from : ObjectType}
-        → object_named env.registered env.heads to.name ≡ Some o
+        → object_named env.registered env.declarations to.name ≡ Some o
         → IsCastType o
         → HasType env false e t
         → object_of t.ty ≡ Some from
@@ -223,7 +223,7 @@ mutual
         → assignable t.form t.tree ≡ Some at
         → is_stored t.form t.ty ≡ true
         → HasType env false v u
-        → fits env.heads.classes t.ty u.ty ≡ true
+        → fits env.declarations.classes t.ty u.ty ≡ true
         → HasType env left (written.Assign p e assigns.Assign v) (term t.ty (Assign at (converted_to t.ty u)))
     -- e op= v, where e is a place of an integer type: what is there is an operand of its type
     update : {left : Bool} {p : place.Place} {op : AssignOp} {c : Calculator} {e v : written.Expr} {t u : Term}
@@ -276,7 +276,7 @@ mutual
         → object_of t.ty ≡ Some o
         → method_in env o text ≡ Some m
         → AllHaveType env es ts
-        → AreArguments env.heads.classes m.parameters ts trees
+        → AreArguments env.declarations.classes m.parameters ts trees
         → SuffixHasType env t (written.Method p text es)
         (term m.result (Invoke t.tree m.method (map var_type m.parameters) trees))
     -- [e], of an array
@@ -308,7 +308,7 @@ pub data IsConstructed (env : Environment) : ObjectType → List Term → Expr �
   construct : {o : ObjectType} {callee : Callee} {parameters : List Ty} {ts : List Term} {trees : Exprs}
       → construction env o (length ts) ≡ Some callee
       → callee.parameters ≡ Some parameters
-      → AreArguments env.heads.classes parameters ts trees
+      → AreArguments env.declarations.classes parameters ts trees
       → IsConstructed env o ts (call_of callee.target (map var_type parameters) trees)
 
 -- A variable of a type begins with this: where nothing is named, with zero, `false` or null.
@@ -324,13 +324,13 @@ pub data BeginsWith (env : Environment) : Ty → written.Initializer → Option 
   value : {of : Ty} {e : written.Expr} {t : Term}
       → is_object of ≡ false
       → HasType env false e t
-      → fits env.heads.classes of t.ty ≡ true
+      → fits env.declarations.classes of t.ty ≡ true
       → BeginsWith env of (written.Value e) (Some (converted_to of t))
   -- T x(e), of a primitive type
   one : {of : Ty} {e : written.Expr} {t : Term}
       → object_of of ≡ None
       → HasType env false e t
-      → fits env.heads.classes of t.ty ≡ true
+      → fits env.declarations.classes of t.ty ≡ true
       → BeginsWith env of (written.Arguments (e ∷ [])) (Some (converted_to of t))
   -- T x(e ..), of objects
   built_by : {o : ObjectType} {es : List written.Expr} {ts : List Term} {tree : Expr}

@@ -4,7 +4,7 @@ use ash_typed::{Calculator, Comparator, Lazy, Target, VarType};
 
 /// What an operator between two operands is of.
 #[derive(Clone, Copy)]
-pub enum Sort {
+pub enum OperatorClass {
     /// `+ - * / % & ^ |`
     Arithmetic,
     /// `<< >> >>>`

@@ -3,7 +3,7 @@
 //! The rules are in `specs/`, one case for each: of expressions and of variables in `Typing`, of statements in
 //! `TypedStatements`, of modules in `TypedModules`. The walk that finds the first fault is in `Expressions`,
 //! `Declarations`, `Statements` and `Items`. What both need is in neither: in `Types`, `Terms`, `Environment`,
-//! `Fitting`, `Heads`, `Scopes`, `Returning`, `Labels` and `Implementations`. `typing` and `modules` say that the two
+//! `Coercions`, `ModuleDeclarations`, `Scopes`, `Returning`, `Labels` and `Implementations`. `typing` and `modules` say that the two
 //! are one, and that each fault of a module is at one of its tokens, where its rule is broken: at which, `FaultPlaces`
 //! says, and what is wrong there, `FaultMeaning`. `soundness` says that what the rules type is sound, as `ash_typed`
 //! says it of the typed tree alone. The crate uses `ash_lex` and `ash_tree`, whose tokens and trees are typed,
@@ -21,7 +21,7 @@ mod types;
 mod typing;
 
 pub use fault::{Fault, Rule};
-pub use forms::{Callable, Form, Operator, Sort};
+pub use forms::{Callable, Form, Operator, OperatorClass};
 pub use modules::{
     faults_are_at_tokens, faults_are_what_they_say, typing_of_modules, typing_of_statements,
 };

@@ -69,9 +69,9 @@ Orders : List Interface → Type 0
 Orders is =
     (earlier later : ℕ) (i j : Interface) → earlier ≤ later → slice_get is earlier ≡ Some i → slice_get is later ≡ Some j → i.classes_before ≤ j.classes_before
 
-orders_behind : (x : Interface) (is : List Interface) → Orders (x ∷ is) → Orders is
+orders_after : (x : Interface) (is : List Interface) → Orders (x ∷ is) → Orders is
 unfolding Orders
-orders_behind x is o = λ earlier later i j le here there. o (suc earlier) (suc later) i j (omega arith) here there
+orders_after x is o = λ earlier later i j le here there. o (suc earlier) (suc later) i j (omega arith) here there
 
 -- where an interface is before the end of a class, so are those before it
 all_before : (class k : ℕ) (i : Interface) (is : List Interface) → Orders is → slice_get is k ≡ Some i → i.classes_before ≤ class → k < before class is
@@ -83,7 +83,7 @@ all_before class zero i (x ∷ is) o at le =
     omega (arith, before-cons class x is, counted)
 all_before class (suc k) i (x ∷ is) o at le =
     let fits : x.classes_before ≤ i.classes_before = o 0 (suc k) x i (omega arith) refl at in
-    omega (arith, before-cons class x is, counts class x (omega arith), all_before class k i is (orders_behind x is o) at le)
+    omega (arith, before-cons class x is, counts class x (omega arith), all_before class k i is (orders_after x is o) at le)
 
 none_after : (class : ℕ) (is : List Interface) → ((k : ℕ) (i : Interface) → slice_get is k ≡ Some i → class < i.classes_before) → before class is ≡ 0
 none_after class [] h = refl
@@ -99,7 +99,7 @@ few_before class zero i (x ∷ is) o at lt =
     let none = none_after class (x ∷ is) (λ j y there. let more : x.classes_before ≤ y.classes_before = o 0 j x y (omega arith) refl there in omega arith) in
     omega arith
 few_before class (suc k) i (x ∷ is) o at lt =
-    let rest = few_before class k i is (orders_behind x is o) at lt in
+    let rest = few_before class k i is (orders_after x is o) at lt in
     let one : is_before class x ≤ 1 = at_most_one class x in
     omega (arith, before-cons class x is)
   where

@@ -71,7 +71,7 @@ pub enum ExprKind {
     },
 }
 
-/// What stands behind an operand.
+/// What stands after an operand.
 #[cycle(expressions)]
 #[derive(Debug, PartialEq, Drop)]
 pub enum Suffix {

@@ -83,7 +83,7 @@ pub enum StmtKind {
 }
 
 /// A label of a `switch`, at its constant (the `-` where there is one) or at the word `default`, with the statements
-/// behind it.
+/// after it.
 #[cycle(statements)]
 #[derive(Debug, PartialEq, Drop)]
 pub struct Case {

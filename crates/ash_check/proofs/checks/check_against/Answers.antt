@@ -7,8 +7,8 @@ use Rattle.ash_tree.specs.Views.{module_of as written_module}
 use Rattle.ash_typed.specs.Modules.{module_of}
 use Rattle.ash_classes.specs.declared.cycles.Cycle.{Cycle}
 use Rattle.ash_classes.specs.References.{Refers, classes_of}
-use Rattle.ash_classes.specs.ToldCycle.{told_cycle}
-use Rattle.ash_classes.specs.Ways.{IsTold, AreRanks}
+use Rattle.ash_classes.specs.ReportedCycle.{reported_cycle}
+use Rattle.ash_classes.specs.Ways.{IsReported, AreRanks}
 use Rattle.ash_check.specs.CheckedModules.{IsChecked}
 use Rattle.ash_check.specs.Checks.{checked, Cyclic, GoesRound}
 use Rattle.ash_check.specs.Faults.{fault_of_error}
@@ -25,19 +25,19 @@ returns-in_err-module-clause-answer c =
 pub cycle_names-requires-clause-first : goal.cycle_names-requires-clause-first
 cycle_names-requires-clause-first c =
     let classes = classes_of (written_module c.args.script.now) in
-    let reported : IsTold (Refers classes) c.in-Err.cycle.first c.in-Err.cycle.others.items = subst (λ r. IfErr r (λ (cycle : Cycle). IsTold (Refers classes) cycle.first cycle.others.items)) c.in-Err.is c.in_ok-ranks.ensures.cycle in
+    let reported : IsReported (Refers classes) c.in-Err.cycle.first c.in-Err.cycle.others.items = subst (λ r. IfErr r (λ (cycle : Cycle). IsReported (Refers classes) cycle.first cycle.others.items)) c.in-Err.is c.in_ok-ranks.ensures.cycle in
     way_begins_within classes c.in-Err.cycle.first c.in-Err.cycle.others.items c.in-Err.cycle.first reported.round.way
 
 pub cycle_names-requires-clause-others : goal.cycle_names-requires-clause-others
 cycle_names-requires-clause-others c =
     let classes = classes_of (written_module c.args.script.now) in
-    let reported : IsTold (Refers classes) c.in-Err.cycle.first c.in-Err.cycle.others.items = subst (λ r. IfErr r (λ (cycle : Cycle). IsTold (Refers classes) cycle.first cycle.others.items)) c.in-Err.is c.in_ok-ranks.ensures.cycle in
+    let reported : IsReported (Refers classes) c.in-Err.cycle.first c.in-Err.cycle.others.items = subst (λ r. IfErr r (λ (cycle : Cycle). IsReported (Refers classes) cycle.first cycle.others.items)) c.in-Err.is c.in_ok-ranks.ensures.cycle in
     way_is_within classes c.in-Err.cycle.first c.in-Err.cycle.others.items c.in-Err.cycle.first reported.round.way
 
 pub returns-in-Ok-clause-answer : goal.returns-in-Ok-clause-answer
 returns-in-Ok-clause-answer c =
     let items = written_module c.args.script.now in
-    let none : told_cycle (classes_of items) ≡ None = subst (λ r. OnOk r (told_cycle (classes_of items) ≡ None)) c.in-Ok.is c.in_ok-ranks.ensures.none in
+    let none : reported_cycle (classes_of items) ≡ None = subst (λ r. OnOk r (reported_cycle (classes_of items) ≡ None)) c.in-Ok.is c.in_ok-ranks.ensures.none in
     typed_is_checked (registered c.args.registry.now) items (module_of c.in_ok-module.module) c.in_ok-module.ensures none
 
 pub returns-in_ok-cycle_names-in-Err-clause-answer :
@@ -46,14 +46,14 @@ returns-in_ok-cycle_names-in-Err-clause-answer c =
     let items = written_module c.args.script.now in
     let first : ℕ = c.in-Err.cycle.first in
     let others = c.in-Err.cycle.others.items in
-    let some : told_cycle (classes_of items) ≡ Some (first, others) = subst (λ r. IfErr r (λ (cycle : Cycle). told_cycle (classes_of items) ≡ Some (cycle.first, cycle.others.items))) c.in-Err.is c.in_ok-ranks.ensures.told in
+    let some : reported_cycle (classes_of items) ≡ Some (first, others) = subst (λ r. IfErr r (λ (cycle : Cycle). reported_cycle (classes_of items) ≡ Some (cycle.first, cycle.others.items))) c.in-Err.is c.in_ok-ranks.ensures.reported in
     cycle_is_reported (registered c.args.registry.now) items (module_of c.in_ok-module.module) first others c.in_ok-module.ensures some ∙ ap (λ names. Err (Cyclic names)) (sym c.in_ok-cycle_names-in-Err.ensures)
 
 pub returns-in_ok-cycle_names-in-Err-clause-round :
     goal.returns-in_ok-cycle_names-in-Err-clause-round
 returns-in_ok-cycle_names-in-Err-clause-round c =
     let classes = classes_of (written_module c.args.script.now) in
-    let reported : IsTold (Refers classes) c.in-Err.cycle.first c.in-Err.cycle.others.items = subst (λ r. IfErr r (λ (cycle : Cycle). IsTold (Refers classes) cycle.first cycle.others.items)) c.in-Err.is c.in_ok-ranks.ensures.cycle in
+    let reported : IsReported (Refers classes) c.in-Err.cycle.first c.in-Err.cycle.others.items = subst (λ r. IfErr r (λ (cycle : Cycle). IsReported (Refers classes) cycle.first cycle.others.items)) c.in-Err.is c.in_ok-ranks.ensures.cycle in
     subst (GoesRound classes) (sym c.in_ok-cycle_names-in-Err.ensures) (goes_round classes c.in-Err.cycle.first c.in-Err.cycle.others.items reported.round.way)
 
 pub returns-in-Ok-clause-typed : goal.returns-in-Ok-clause-typed

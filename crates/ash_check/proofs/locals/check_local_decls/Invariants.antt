@@ -1,6 +1,6 @@
 use Rattle.std.proofs.Common.{◌≡◌, ◌++◌, map, drop}
 use Rattle.ash_tree.specs.Views.{decl_of}
-use Rattle.ash_typing.specs.Heads.{declared}
+use Rattle.ash_typing.specs.ModuleDeclarations.{declared}
 use Rattle.ash_typing.specs.Statements as definition
 use Rattle.ash_check.specs.StatementViews.{locals_of, scope_of, values_of}
 use Rattle.ash_check.proofs.StatementLaws.{values_after}

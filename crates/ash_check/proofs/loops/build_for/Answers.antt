@@ -1,5 +1,5 @@
 use Rattle.std.proofs.Common.{◌≡◌, Ok, Err, ap, Result, Bool}
-use Rattle.ash_typing.specs.Checking.{Checking, ◌>>=◌}
+use Rattle.ash_typing.specs.TypingResult.{TypingResult, ◌>>=◌}
 use Rattle.ash_typed.specs.StatementTree.{Stmt}
 use Rattle.ash_typing.specs.Statements as definition
 use Rattle.ash_expressions.specs.declared.error.CheckError.{CheckError}
@@ -7,7 +7,7 @@ use Rattle.ash_expressions.specs.declared.error.CheckError.TheVariants as errors
 use Rattle.ash_expressions.specs.Agreement.{FailsWith}
 use Rattle.ash_check.proofs.loops.build_for.Goals as goal
 
-fails_first : (error : CheckError) (first : Checking Bool) (rest : Bool → Checking Stmt) → FailsWith error first → FailsWith error (first >>= rest)
+fails_first : (error : CheckError) (first : TypingResult Bool) (rest : Bool → TypingResult Stmt) → FailsWith error first → FailsWith error (first >>= rest)
 fails_first (errors.Fault f) first rest h = ap (λ x. x >>= rest) h
 fails_first errors.NoMemory first rest h = tt
 

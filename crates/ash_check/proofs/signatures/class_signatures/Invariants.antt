@@ -1,7 +1,7 @@
 use Rattle.std.proofs.Common.{◌≡◌, ◌++◌, map, drop}
 use Rattle.ash_registrations.specs.Registered.{registered}
 use Rattle.ash_tree.specs.Views.{item_of}
-use Rattle.ash_typing.specs.Heads.{class_head}
+use Rattle.ash_typing.specs.ModuleDeclarations.{class_head}
 use Rattle.ash_tree.specs.Items.{classes_of}
 use Rattle.ash_expressions.specs.Views.{class_signature_of, signatures_of}
 use Rattle.ash_check.proofs.signatures.class_signatures.Given as goal

@@ -1,7 +1,7 @@
 use Rattle.std.proofs.Common.{◌≡◌, ◌++◌, map, drop}
 use Rattle.ash_registrations.specs.Registered.{registered}
 use Rattle.ash_tree.specs.Views.{interface_method_of}
-use Rattle.ash_typing.specs.Heads.{signature_head}
+use Rattle.ash_typing.specs.ModuleDeclarations.{signature_head}
 use Rattle.ash_expressions.specs.Views.{function_signature_of, signatures_of}
 use Rattle.ash_check.proofs.signatures.interface_methods.Given as goal
 

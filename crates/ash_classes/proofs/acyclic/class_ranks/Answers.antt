@@ -7,7 +7,7 @@ use Rattle.ash_classes.specs.References.{Refers, classes_of, seen}
 use Rattle.ash_classes.proofs.ReferenceLaws.{length-seen}
 use Rattle.ash_classes.proofs.CycleLaws.{same_rows, rows_within, same_ranks, same_acyclic, same_cycle, only_cycle}
 use Rattle.ash_classes.proofs.CycleLaws.{in_ok, in_err, on_ok}
-use Rattle.ash_classes.proofs.ToldSearches.{some_if_cycle, none_if_acyclic}
+use Rattle.ash_classes.proofs.CycleSearches.{some_if_cycle, none_if_acyclic}
 use Rattle.ash_classes.proofs.acyclic.class_ranks.Goals as goal
 
 pub ranks-requires : goal.ranks-requires
@@ -97,8 +97,8 @@ returns-clause-none c =
     (λ answer. on_ok answer _ _ (λ h. none_if_acyclic all (same_acyclic R (Refers all) same h)))
     c.ranks.ensures.acyclic
 
-pub returns-clause-told : goal.returns-clause-told
-returns-clause-told c =
+pub returns-clause-reported : goal.returns-clause-reported
+returns-clause-reported c =
     let all = classes_of (module_of c.args.script.now) in
     let R = Goes (rows_of c.deref-3.result.now) in
     let e : seen c.deref-2.result.now ≡ all =

@@ -3,7 +3,7 @@ use Rattle.std.specs.List.{AllByRecursion}
 use Rattle.ash_image.specs.Image.{IsBody}
 use Rattle.ash_journal.specs.declared.record.Record.{Record}
 use Rattle.ash_journal.specs.Reading.{bodies_of}
-use Rattle.ash_registry.specs.Calls.{Call}
+use Rattle.ash_registry.specs.Calls.{Registration}
 use Rattle.ash_registry.specs.Text.{text_of}
 use Rattle.ash_durable.specs.States.{snapshot_of}
 use Rattle.ash_durable.specs.Contents.{IsBodyWith, LeadsOn, LeadsThrough}
@@ -25,7 +25,7 @@ loop-record-preserved c =
       c.in_ok-state.ensures.2,
     ) in
     record {
-      shaped = subst (λ (of : List Call). AllByRecursion (IsBodyWith (text_of of)) (bodies_of later)) (sym on.0)
+      shaped = subst (λ (of : List Registration). AllByRecursion (IsBodyWith (text_of of)) (bodies_of later)) (sym on.0)
           shaped.1;
       leads = λ result through.
           c.loop-record.invariant.leads result (subst (λ (l : List Record). LeadsThrough before l result) (sym left)

@@ -1,11 +1,11 @@
 use Rattle.std.proofs.Common.{◌≡◌, map}
 use Rattle.std.specs.Vec.Iter.{into_iter_items}
 use Rattle.ash_typed.specs.Views.{expr_of}
-use Rattle.ash_typing.specs.Expressions.{all_fitted}
+use Rattle.ash_typing.specs.Expressions.{all_coerced}
 use Rattle.ash_expressions.specs.Views.{typed_of, parameters_of, classes_of}
 use Rattle.ash_expressions.proofs.Loops.{coerced_after}
 use Rattle.ash_expressions.proofs.calls.coerce_arguments.Given as goal
 
 abbrev pub invariant-loop-argument : goal.invariant-loop-argument
 invariant-loop-argument l =
-    coerced_after (classes_of l.env) (map expr_of l.coerced.items) (parameters_of l.rest) (map typed_of (into_iter_items l.argument-iterator)) ≡ all_fitted (classes_of l.env) (parameters_of l.parameters) (map typed_of l.fn.arguments.items)
+    coerced_after (classes_of l.env) (map expr_of l.coerced.items) (parameters_of l.rest) (map typed_of (into_iter_items l.argument-iterator)) ≡ all_coerced (classes_of l.env) (parameters_of l.parameters) (map typed_of l.fn.arguments.items)

@@ -5,7 +5,7 @@ use Rattle.ash_tree.specs.declared.tree.expressions.Link.{size-Link}
 use Rattle.ash_tree.specs.declared.tree.expressions.Suffix.{size-Suffix}
 use Rattle.ash_tree.specs.Tree as written
 use Rattle.ash_tree.specs.Views as views
-use Rattle.ash_typing.specs.Checking.{◌>>=◌}
+use Rattle.ash_typing.specs.TypingResult.{◌>>=◌}
 use Rattle.ash_typing.specs.Expressions.{typed, all_typed, links_typed, suffixes_typed}
 use Rattle.ash_expressions.specs.Views.{typed_of, environment_of}
 use Rattle.ash_expressions.proofs.Loops.{typed_after}

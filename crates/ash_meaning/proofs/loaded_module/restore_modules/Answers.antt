@@ -1,7 +1,7 @@
 use Rattle.std.proofs.Common.{◌≡◌, ◌≤◌, ◌∷◌, ◌++◌, List, [], length, refl, sym, ◌∙◌, ap, subst, arith}
 use Rattle.std.specs.List.{AllByRecursion}
 use Rattle.std.specs.Vec.Iter.{into_iter_items}
-use Rattle.ash_registry.specs.Calls.{Call}
+use Rattle.ash_registry.specs.Calls.{Registration}
 use Rattle.ash_registry.specs.Registered.{registered}
 use Rattle.ash_meaning.specs.declared.loaded_module.LoadedModule as declared
 use Rattle.ash_meaning.specs.StoredModules.{IsAdmitted}
@@ -11,7 +11,7 @@ use Rattle.ash_meaning.specs.Plain.{loaded_modules_of, IsConsistent}
 use Rattle.ash_meaning.specs.State.{LoadedModule}
 use Rattle.ash_meaning.proofs.loaded_module.restore_modules.Goals as goal
 
-each_admitted : (registered : List Call) (modules : List declared.LoadedModule)
+each_admitted : (registered : List Registration) (modules : List declared.LoadedModule)
     → AllByRecursion (IsConsistent registered) modules
     → AllByRecursion (IsAdmitted registered) (loaded_modules_of modules)
 each_admitted registered [] h = tt

@@ -5,7 +5,7 @@ use Rattle.ash_objects.specs.declared.restoring.Stored.{Stored}
 use Rattle.ash_objects.specs.declared.restoring.TableFault.{TableFault}
 use Rattle.ash_objects.specs.Restoring.{IsBack}
 use Rattle.ash_objects.proofs.Newcomers.{got}
-use Rattle.ash_objects.proofs.Pointwise.{done_more, done_all, front_many, front_done}
+use Rattle.ash_objects.proofs.Pointwise.{done_more, done_all, prefix_many, prefix_done}
 use Rattle.ash_objects.proofs.restoring.restore_boxes.Goals as goal
 
 pub loop-place-preserved : goal.loop-place-preserved
@@ -36,8 +36,8 @@ returns-in_err-restore_box-clause-refused g c = λ number is.
     let object = c.index-objects-place.result in
     let within : k < length cur = omega (arith, c.requires, c.loop-place-test.true, h.many, c.args.boxes.now.ok.0) in
     let p = err_from_is_err_and c.from_residual.result c.from_residual.ensures.1 in
-    let told : c.in_err-restore_box.field-0.0 ≡ TableFault.RestoreRefused number = cc in
-    let r = c.in_err-restore_box.ensures.refused number (ap Err told) in
+    let reported : c.in_err-restore_box.field-0.0 ≡ TableFault.RestoreRefused number = cc in
+    let r = c.in_err-restore_box.ensures.refused number (ap Err reported) in
     record {
       place = k;
       object = object;
@@ -47,8 +47,8 @@ returns-in_err-restore_box-clause-refused g c = λ number is.
       named = sym r.0;
       took = sym (h.rest k (omega arith)) ∙ got cur k one within c.index_mut.ensures.value ∙ ap Some r.1.1;
       before = record {
-        many = front_many (λ place one other. (object : Stored) → slice_get objects place ≡ Some object → IsBack G object.body one other) k old cur h;
-        each = λ place object one other at was is. front_done (λ place one other. (object : Stored) → slice_get objects place ≡ Some object → IsBack G object.body one other) k old cur h place one other was is object at;
+        many = prefix_many (λ place one other. (object : Stored) → slice_get objects place ≡ Some object → IsBack G object.body one other) k old cur h;
+        each = λ place object one other at was is. prefix_done (λ place one other. (object : Stored) → slice_get objects place ≡ Some object → IsBack G object.body one other) k old cur h place one other was is object at;
       };
       refused = r.1.2;
     }

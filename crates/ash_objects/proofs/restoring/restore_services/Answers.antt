@@ -5,7 +5,7 @@ use Rattle.std.proofs.lemmas.Result.{err_from_is_err_and}
 use Rattle.ash_objects.specs.declared.restoring.TableFault.{TableFault}
 use Rattle.ash_objects.specs.Restoring.{BroughtBack, states_in}
 use Rattle.ash_objects.proofs.Newcomers.{got}
-use Rattle.ash_objects.proofs.Pointwise.{done_more, done_all, got_map, front_many, front_done}
+use Rattle.ash_objects.proofs.Pointwise.{done_more, done_all, got_map, prefix_many, prefix_done}
 use Rattle.ash_objects.proofs.restoring.restore_services.Goals as goal
 
 pub loop-place-preserved : goal.loop-place-preserved
@@ -42,8 +42,8 @@ returns-in_err-bring_back-clause-refused g c = λ number is.
     let state = c.index-states-place.result in
     let within : k < length cur = omega (arith, c.requires, c.loop-place-test.true, h.many, c.args.services.now.ok.0) in
     let p = err_from_is_err_and c.from_residual.result c.from_residual.ensures.1 in
-    let told : c.in_err-bring_back.field-0.0 ≡ TableFault.RestoreRefused number = cc in
-    let r = c.in_err-bring_back.ensures.refused number (ap Err told) in (
+    let reported : c.in_err-bring_back.field-0.0 ≡ TableFault.RestoreRefused number = cc in
+    let r = c.in_err-bring_back.ensures.refused number (ap Err reported) in (
       r.0,
       record {
         place = k;
@@ -53,8 +53,8 @@ returns-in_err-bring_back-clause-refused g c = λ number is.
         there = sym (h.rest k (omega arith)) ∙ got cur k one within c.index_mut.ensures.value;
         state = slice_get-map (λ (state : Vec ℕ Global). state.items) states k ∙ ap (λ (o : Option (Vec ℕ Global)). option_map (λ (state : Vec ℕ Global). state.items) o) (got states k state c.loop-place-test.true c.index-states-place.is);
         before = record {
-          many = front_many (λ place one other. (bytes : List ℕ) → slice_get (states_in states) place ≡ Some bytes → BroughtBack G one bytes other) k old cur h;
-          each = λ place one other bytes was is at. front_done (λ place one other. (bytes : List ℕ) → slice_get (states_in states) place ≡ Some bytes → BroughtBack G one bytes other) k old cur h place one other was is bytes at;
+          many = prefix_many (λ place one other. (bytes : List ℕ) → slice_get (states_in states) place ≡ Some bytes → BroughtBack G one bytes other) k old cur h;
+          each = λ place one other bytes was is at. prefix_done (λ place one other. (bytes : List ℕ) → slice_get (states_in states) place ≡ Some bytes → BroughtBack G one bytes other) k old cur h place one other was is bytes at;
         };
         refused = subst (λ (bs : List ℕ). G.refuses one bs) c.as_slice.ensures.value r.1;
       },

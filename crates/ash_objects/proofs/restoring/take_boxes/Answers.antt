@@ -28,5 +28,5 @@ returns-in_err-take_box-clause-short g c = λ kind is.
     let o = c.object-item.result in
     let next : drop k objects ≡ o ∷ drop (k + 1) objects = rest_got objects k o c.loop-object-test.true ∙ ap (λ (x : Stored). x ∷ drop (k + 1) objects) (sym c.object-item.is) in
     let p = err_from_is_err_and c.from_residual.result c.from_residual.ensures.1 in
-    let told : c.in_err-take_box.field-0.0 ≡ TableFault.PoolShort kind = cc in
-    drawn_short G objects k o c.loop-object.boxes.items kind c.loop-object.pool.items (draw_boxes G objects c.args.pool.now.items) next c.loop-object.invariant.drawn (c.in_err-take_box.ensures.short kind (ap Err told))
+    let reported : c.in_err-take_box.field-0.0 ≡ TableFault.PoolShort kind = cc in
+    drawn_short G objects k o c.loop-object.boxes.items kind c.loop-object.pool.items (draw_boxes G objects c.args.pool.now.items) next c.loop-object.invariant.drawn (c.in_err-take_box.ensures.short kind (ap Err reported))

@@ -4,7 +4,7 @@ use Rattle.std.proofs.lemmas.Result.{err_from_is_err_and}
 use Rattle.ash_lex.specs.declared.signs.Sign.TheVariants as signs
 use Rattle.ash_tree.specs.Tokens.{tokens_of, placed}
 use Rattle.ash_tree.specs.Views.{expr_of, suffix_of, operation_of}
-use Rattle.ash_parse.specs.Reading.{put, next_is_sign}
+use Rattle.ash_parse.specs.Readers.{put, next_is_sign}
 use Rattle.ash_parse.specs.ExpressionReader.{below_at, binary_with, is_link, link_by, links_by, is_suffix, suffix_with, suffixes_with, postfix_with, next_expr_with, more_exprs_with}
 use Rattle.ash_parse.proofs.Loop.{loop_done, goes_on, ends, is_done}
 use Rattle.ash_parse.proofs.ExpressionLoops.{no_sign_left, no_suffix_left, no_link_left, next_expr_shrinks, suffix_shrinks, link_shrinks, below-whole, below-part, below-none}
@@ -40,7 +40,7 @@ binary-returns-in_err-links t c =
 pub binary-climb-preserved : goal.binary-climb-preserved
 binary-climb-preserved t c = record {
   next = c.next_level-next-in-climb.ensures;
-  so_far = rw c.in_ok-joined-2.ensures (climbs c.args.room c.requires.room c.args.level c.climb.reached c.climb.next (expr_of c.climb.joined) (tokens_of c.climb.rest.now) (tokens_of c.in_ok-links.behind.now) (map operation_of c.in_ok-links.links.items) (binary_with (below_at c.args.room) c.args.level (tokens_of c.args.tokens.now)) c.climb.invariant.next (omega arith) (omega arith) c.in_ok-links.ensures c.climb.invariant.so_far);
+  so_far = rw c.in_ok-joined-2.ensures (climbs c.args.room c.requires.room c.args.level c.climb.reached c.climb.next (expr_of c.climb.joined) (tokens_of c.climb.rest.now) (tokens_of c.in_ok-links.after.now) (map operation_of c.in_ok-links.links.items) (binary_with (below_at c.args.room) c.args.level (tokens_of c.args.tokens.now)) c.climb.invariant.next (omega arith) (omega arith) c.in_ok-links.ensures c.climb.invariant.so_far);
 }
 
 pub binary-returns : goal.binary-returns
@@ -57,14 +57,14 @@ links-returns-in_err-next t c =
 
 pub links-more-smaller : goal.links-more-smaller
 links-more-smaller t c =
-    let shorter = link_shrinks c.args.room c.requires.room c.args.level (tokens_of c.more.rest.now) (operation_of c.in_ok-next.next) (tokens_of c.in_ok-next.behind.now) c.in_ok-next.ensures in
-    omega (arith, shorter, length-map c.more.rest.now placed, length-map c.in_ok-next.behind.now placed)
+    let shorter = link_shrinks c.args.room c.requires.room c.args.level (tokens_of c.more.rest.now) (operation_of c.in_ok-next.next) (tokens_of c.in_ok-next.after.now) c.in_ok-next.ensures in
+    omega (arith, shorter, length-map c.more.rest.now placed, length-map c.in_ok-next.after.now placed)
 
 pub links-more-preserved : goal.links-more-preserved
 unfolding links_by
 links-more-preserved t c =
     let more : is_link c.args.level (tokens_of c.more.rest.now) ≡ true = sym c.begins_link.ensures ∙ c.more-test.true in
-    rw c.in_ok-push.ensures.items (goes_on (is_link c.args.level) (link_by c.args.level (binary_with (below_at c.args.room) c.args.level)) (link_shrinks c.args.room c.requires.room c.args.level) (no_link_left c.args.level) operation_of c.more.links.items c.in_ok-next.next (tokens_of c.more.rest.now) (tokens_of c.in_ok-next.behind.now) (links_by c.args.level (binary_with (below_at c.args.room) c.args.level) (tokens_of c.args.tokens.now)) more c.in_ok-next.ensures c.more.invariant)
+    rw c.in_ok-push.ensures.items (goes_on (is_link c.args.level) (link_by c.args.level (binary_with (below_at c.args.room) c.args.level)) (link_shrinks c.args.room c.requires.room c.args.level) (no_link_left c.args.level) operation_of c.more.links.items c.in_ok-next.next (tokens_of c.more.rest.now) (tokens_of c.in_ok-next.after.now) (links_by c.args.level (binary_with (below_at c.args.room) c.args.level) (tokens_of c.args.tokens.now)) more c.in_ok-next.ensures c.more.invariant)
 
 pub links-returns : goal.links-returns
 unfolding links_by
@@ -87,14 +87,14 @@ suffixes-returns-in_err-next t c =
 
 pub suffixes-more-smaller : goal.suffixes-more-smaller
 suffixes-more-smaller t c =
-    let shorter = suffix_shrinks c.args.room c.requires (tokens_of c.more.rest.now) (suffix_of c.in_ok-next.next) (tokens_of c.in_ok-next.behind.now) c.in_ok-next.ensures in
-    omega (arith, shorter, length-map c.more.rest.now placed, length-map c.in_ok-next.behind.now placed)
+    let shorter = suffix_shrinks c.args.room c.requires (tokens_of c.more.rest.now) (suffix_of c.in_ok-next.next) (tokens_of c.in_ok-next.after.now) c.in_ok-next.ensures in
+    omega (arith, shorter, length-map c.more.rest.now placed, length-map c.in_ok-next.after.now placed)
 
 pub suffixes-more-preserved : goal.suffixes-more-preserved
 unfolding suffixes_with
 suffixes-more-preserved t c =
     let more : is_suffix (tokens_of c.more.rest.now) ≡ true = sym c.begins_suffix.ensures ∙ c.more-test.true in
-    rw c.in_ok-push.ensures.items (goes_on (is_suffix) (suffix_with (below_at c.args.room)) (suffix_shrinks c.args.room c.requires) (no_suffix_left) suffix_of c.more.suffixes.items c.in_ok-next.next (tokens_of c.more.rest.now) (tokens_of c.in_ok-next.behind.now) (suffixes_with (below_at c.args.room) (tokens_of c.args.tokens.now)) more c.in_ok-next.ensures c.more.invariant)
+    rw c.in_ok-push.ensures.items (goes_on (is_suffix) (suffix_with (below_at c.args.room)) (suffix_shrinks c.args.room c.requires) (no_suffix_left) suffix_of c.more.suffixes.items c.in_ok-next.next (tokens_of c.more.rest.now) (tokens_of c.in_ok-next.after.now) (suffixes_with (below_at c.args.room) (tokens_of c.args.tokens.now)) more c.in_ok-next.ensures c.more.invariant)
 
 pub suffixes-returns : goal.suffixes-returns
 unfolding suffixes_with
@@ -111,14 +111,14 @@ more_expressions-returns-in_err-next t c =
 
 pub more_expressions-more-smaller : goal.more_expressions-more-smaller
 more_expressions-more-smaller t c =
-    let shorter = next_expr_shrinks c.args.room c.requires (tokens_of c.more.rest.now) (expr_of c.in_ok-next.next) (tokens_of c.in_ok-next.behind.now) c.in_ok-next.ensures in
-    omega (arith, shorter, length-map c.more.rest.now placed, length-map c.in_ok-next.behind.now placed)
+    let shorter = next_expr_shrinks c.args.room c.requires (tokens_of c.more.rest.now) (expr_of c.in_ok-next.next) (tokens_of c.in_ok-next.after.now) c.in_ok-next.ensures in
+    omega (arith, shorter, length-map c.more.rest.now placed, length-map c.in_ok-next.after.now placed)
 
 pub more_expressions-more-preserved : goal.more_expressions-more-preserved
 unfolding more_exprs_with
 more_expressions-more-preserved t c =
     let more : next_is_sign signs.Comma (tokens_of c.more.rest.now) ≡ true = sym c.next_is_sign.ensures ∙ c.more-test.true in
-    rw c.in_ok-push-2.ensures.items (goes_on (next_is_sign signs.Comma) (next_expr_with (below_at c.args.room)) (next_expr_shrinks c.args.room c.requires) (no_sign_left signs.Comma) expr_of c.more.all.items c.in_ok-next.next (tokens_of c.more.rest.now) (tokens_of c.in_ok-next.behind.now) (put (expr_of c.args.first) (more_exprs_with (below_at c.args.room) (tokens_of c.args.tokens.now))) more c.in_ok-next.ensures c.more.invariant)
+    rw c.in_ok-push-2.ensures.items (goes_on (next_is_sign signs.Comma) (next_expr_with (below_at c.args.room)) (next_expr_shrinks c.args.room c.requires) (no_sign_left signs.Comma) expr_of c.more.all.items c.in_ok-next.next (tokens_of c.more.rest.now) (tokens_of c.in_ok-next.after.now) (put (expr_of c.args.first) (more_exprs_with (below_at c.args.room) (tokens_of c.args.tokens.now))) more c.in_ok-next.ensures c.more.invariant)
 
 pub more_expressions-returns : goal.more_expressions-returns
 unfolding more_exprs_with

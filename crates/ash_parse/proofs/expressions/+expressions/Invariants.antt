@@ -1,9 +1,9 @@
 use Rattle.std.proofs.Common.{◌≡◌, ◌+◌, ◌-◌, ◌*◌, length, map}
 use Rattle.ash_tree.specs.Tokens.{tokens_of}
 use Rattle.ash_tree.specs.Views.{expr_of, suffix_of, operation_of}
-use Rattle.ash_parse.specs.Reading.{put}
+use Rattle.ash_parse.specs.Readers.{put}
 use Rattle.ash_parse.specs.ExpressionReader.{next_level, more_exprs_with, suffixes_with, links_by, binary_with, below_at}
-use Rattle.ash_parse.proofs.Loop.{with_front}
+use Rattle.ash_parse.proofs.Loop.{with_prefix}
 use Rattle.ash_parse.proofs.Climbing.{rises}
 use Rattle.ash_parse.proofs.expressions.+expressions.Given as goal
 
@@ -75,19 +75,19 @@ abbrev pub decreases-next_expression : goal.decreases-next_expression
 decreases-next_expression l = l.room * 64 + 1
 
 abbrev pub invariant-links-more : goal.invariant-links-more
-invariant-links-more l = with_front (map operation_of l.links.items) (links_by l.level (binary_with (below_at l.room) l.level) (tokens_of l.rest)) ≡ links_by l.level (binary_with (below_at l.room) l.level) (tokens_of l.fn.tokens)
+invariant-links-more l = with_prefix (map operation_of l.links.items) (links_by l.level (binary_with (below_at l.room) l.level) (tokens_of l.rest)) ≡ links_by l.level (binary_with (below_at l.room) l.level) (tokens_of l.fn.tokens)
 
 abbrev pub decreases-links-more : goal.decreases-links-more
 decreases-links-more l = length l.rest
 
 abbrev pub invariant-suffixes-more : goal.invariant-suffixes-more
-invariant-suffixes-more l = with_front (map suffix_of l.suffixes.items) (suffixes_with (below_at l.room) (tokens_of l.rest)) ≡ suffixes_with (below_at l.room) (tokens_of l.fn.tokens)
+invariant-suffixes-more l = with_prefix (map suffix_of l.suffixes.items) (suffixes_with (below_at l.room) (tokens_of l.rest)) ≡ suffixes_with (below_at l.room) (tokens_of l.fn.tokens)
 
 abbrev pub decreases-suffixes-more : goal.decreases-suffixes-more
 decreases-suffixes-more l = length l.rest
 
 abbrev pub invariant-more_expressions-more : goal.invariant-more_expressions-more
-invariant-more_expressions-more l = with_front (map expr_of l.all.items) (more_exprs_with (below_at l.room) (tokens_of l.rest)) ≡ put (expr_of l.fn.first) (more_exprs_with (below_at l.room) (tokens_of l.fn.tokens))
+invariant-more_expressions-more l = with_prefix (map expr_of l.all.items) (more_exprs_with (below_at l.room) (tokens_of l.rest)) ≡ put (expr_of l.fn.first) (more_exprs_with (below_at l.room) (tokens_of l.fn.tokens))
 
 abbrev pub decreases-more_expressions-more : goal.decreases-more_expressions-more
 decreases-more_expressions-more l = length l.rest

@@ -17,14 +17,14 @@ returns-in_err-next-clause-read c =
 
 pub more-smaller : goal.more-smaller
 more-smaller c =
-    let shorter = entry_shrinks (tokens_of c.more.rest.now) (item_of c.in_ok-next.next) (tokens_of c.in_ok-next.behind.now) c.in_ok-next.ensures in
-    omega (arith, shorter, length-map c.more.rest.now placed, length-map c.in_ok-next.behind.now placed)
+    let shorter = entry_shrinks (tokens_of c.more.rest.now) (item_of c.in_ok-next.next) (tokens_of c.in_ok-next.after.now) c.in_ok-next.ensures in
+    omega (arith, shorter, length-map c.more.rest.now placed, length-map c.in_ok-next.after.now placed)
 
 pub more-preserved : goal.more-preserved
 unfolding entries_at
 more-preserved c =
     let more : is_left (tokens_of c.more.rest.now) ≡ true = sym c.is_left.ensures ∙ c.more-test.true in
-    rw c.in_ok-push.ensures.items (go_on (is_left) (entry_at) (entry_shrinks) (no_more_left) item_of c.more.all.items c.in_ok-next.next (tokens_of c.more.rest.now) (tokens_of c.in_ok-next.behind.now) (entries_at (tokens_of c.args.tokens.now)) more c.in_ok-next.ensures c.more.invariant)
+    rw c.in_ok-push.ensures.items (go_on (is_left) (entry_at) (entry_shrinks) (no_more_left) item_of c.more.all.items c.in_ok-next.next (tokens_of c.more.rest.now) (tokens_of c.in_ok-next.after.now) (entries_at (tokens_of c.args.tokens.now)) more c.in_ok-next.ensures c.more.invariant)
 
 pub returns-clause-read : goal.returns-clause-read
 unfolding entries_at

@@ -19,14 +19,14 @@ returns-in_err-next c =
 
 pub more-smaller : goal.more-smaller
 more-smaller c =
-    let shorter = interface_method_shrinks (tokens_of c.more.rest.now) (interface_method_of c.in_ok-next.next) (tokens_of c.in_ok-next.behind.now) c.in_ok-next.ensures in
-    omega (arith, shorter, length-map c.more.rest.now placed, length-map c.in_ok-next.behind.now placed)
+    let shorter = interface_method_shrinks (tokens_of c.more.rest.now) (interface_method_of c.in_ok-next.next) (tokens_of c.in_ok-next.after.now) c.in_ok-next.ensures in
+    omega (arith, shorter, length-map c.more.rest.now placed, length-map c.in_ok-next.after.now placed)
 
 pub more-preserved : goal.more-preserved
 unfolding interface_methods_at
 more-preserved c =
     let more : goes_on (tokens_of c.more.rest.now) ≡ true = sym c.goes_on.ensures ∙ c.more-test.true in
-    rw c.in_ok-push.ensures.items (go_on (goes_on) (interface_method_at) (interface_method_shrinks) (goes_on-none) interface_method_of c.more.all.items c.in_ok-next.next (tokens_of c.more.rest.now) (tokens_of c.in_ok-next.behind.now) (interface_methods_at (tokens_of c.args.tokens.now)) more c.in_ok-next.ensures c.more.invariant)
+    rw c.in_ok-push.ensures.items (go_on (goes_on) (interface_method_at) (interface_method_shrinks) (goes_on-none) interface_method_of c.more.all.items c.in_ok-next.next (tokens_of c.more.rest.now) (tokens_of c.in_ok-next.after.now) (interface_methods_at (tokens_of c.args.tokens.now)) more c.in_ok-next.ensures c.more.invariant)
 
 pub returns : goal.returns
 unfolding interface_methods_at

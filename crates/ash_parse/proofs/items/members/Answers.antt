@@ -19,14 +19,14 @@ returns-in_err-next c =
 
 pub more-smaller : goal.more-smaller
 more-smaller c =
-    let shorter = member_shrinks (tokens_of c.more.rest.now) (member_of c.in_ok-next.next) (tokens_of c.in_ok-next.behind.now) c.in_ok-next.ensures in
-    omega (arith, shorter, length-map c.more.rest.now placed, length-map c.in_ok-next.behind.now placed)
+    let shorter = member_shrinks (tokens_of c.more.rest.now) (member_of c.in_ok-next.next) (tokens_of c.in_ok-next.after.now) c.in_ok-next.ensures in
+    omega (arith, shorter, length-map c.more.rest.now placed, length-map c.in_ok-next.after.now placed)
 
 pub more-preserved : goal.more-preserved
 unfolding members_at
 more-preserved c =
     let more : goes_on (tokens_of c.more.rest.now) ≡ true = sym c.goes_on.ensures ∙ c.more-test.true in
-    rw c.in_ok-push.ensures.items (go_on (goes_on) (member_at) (member_shrinks) (goes_on-none) member_of c.more.all.items c.in_ok-next.next (tokens_of c.more.rest.now) (tokens_of c.in_ok-next.behind.now) (members_at (tokens_of c.args.tokens.now)) more c.in_ok-next.ensures c.more.invariant)
+    rw c.in_ok-push.ensures.items (go_on (goes_on) (member_at) (member_shrinks) (goes_on-none) member_of c.more.all.items c.in_ok-next.next (tokens_of c.more.rest.now) (tokens_of c.in_ok-next.after.now) (members_at (tokens_of c.args.tokens.now)) more c.in_ok-next.ensures c.more.invariant)
 
 pub returns : goal.returns
 unfolding members_at

@@ -2,22 +2,22 @@ use Rattle.std.proofs.Common.{◌≡◌, ◌∙◌, ap, sym, true, false, length
 use Rattle.std.proofs.lemmas.List.{length-map}
 use Rattle.ash_lex.specs.declared.signs.Sign.TheVariants as signs
 use Rattle.ash_tree.specs.Tokens.{tokens_of, placed}
-use Rattle.ash_parse.specs.Reading.{next_is_sign}
-use Rattle.ash_parse.specs.ItemReader.{strip, behind}
-use Rattle.ash_parse.proofs.ItemShorter.{strip-more, strip-done, behind-shorter}
+use Rattle.ash_parse.specs.Readers.{next_is_sign}
+use Rattle.ash_parse.specs.ItemReader.{strip, after}
+use Rattle.ash_parse.proofs.ItemShorter.{strip-more, strip-done, after-shorter}
 use Rattle.ash_parse.proofs.items.strip.Goals as goal
 
 pub more-smaller : goal.more-smaller
 more-smaller c =
     let more : next_is_sign signs.Semicolon (tokens_of c.more.rest.now) ≡ true = sym c.next_is_sign.ensures ∙ c.more-test.true in
-    let shorter : length (behind (tokens_of c.more.rest.now)) < length (tokens_of c.more.rest.now) = behind-shorter (tokens_of c.more.rest.now) more in
-    let same : length (tokens_of c.behind-rest.result.now) ≡ length (behind (tokens_of c.more.rest.now)) = ap length c.behind-rest.ensures in
-    omega (arith, shorter, same, length-map c.more.rest.now placed, length-map c.behind-rest.result.now placed)
+    let shorter : length (after (tokens_of c.more.rest.now)) < length (tokens_of c.more.rest.now) = after-shorter (tokens_of c.more.rest.now) more in
+    let same : length (tokens_of c.after-rest.result.now) ≡ length (after (tokens_of c.more.rest.now)) = ap length c.after-rest.ensures in
+    omega (arith, shorter, same, length-map c.more.rest.now placed, length-map c.after-rest.result.now placed)
 
 pub more-preserved : goal.more-preserved
 more-preserved c =
     let more : next_is_sign signs.Semicolon (tokens_of c.more.rest.now) ≡ true = sym c.next_is_sign.ensures ∙ c.more-test.true in
-    ap strip c.behind-rest.ensures ∙ sym (strip-more (tokens_of c.more.rest.now) more) ∙ c.more.invariant
+    ap strip c.after-rest.ensures ∙ sym (strip-more (tokens_of c.more.rest.now) more) ∙ c.more.invariant
 
 pub returns : goal.returns
 returns c =

@@ -24,14 +24,14 @@ cases-returns-in_err-next t c =
 
 pub cases-more-smaller : goal.cases-more-smaller
 cases-more-smaller t c =
-    let shorter = case_shrinks c.args.room c.requires (tokens_of c.more.rest.now) (case_of c.in_ok-next.next) (tokens_of c.in_ok-next.behind.now) c.in_ok-next.ensures in
-    omega (arith, shorter, length-map c.more.rest.now placed, length-map c.in_ok-next.behind.now placed)
+    let shorter = case_shrinks c.args.room c.requires (tokens_of c.more.rest.now) (case_of c.in_ok-next.next) (tokens_of c.in_ok-next.after.now) c.in_ok-next.ensures in
+    omega (arith, shorter, length-map c.more.rest.now placed, length-map c.in_ok-next.after.now placed)
 
 pub cases-more-preserved : goal.cases-more-preserved
 unfolding cases_with
 cases-more-preserved t c =
     let more : goes_on (tokens_of c.more.rest.now) ≡ true = sym c.goes_on.ensures ∙ c.more-test.true in
-    rw c.in_ok-push.ensures.items (go_on (goes_on) (case_with (nested_at c.args.room)) (case_shrinks c.args.room c.requires) (goes_on-none) case_of c.more.all.items c.in_ok-next.next (tokens_of c.more.rest.now) (tokens_of c.in_ok-next.behind.now) (cases_with (nested_at c.args.room) (tokens_of c.args.tokens.now)) more c.in_ok-next.ensures c.more.invariant)
+    rw c.in_ok-push.ensures.items (go_on (goes_on) (case_with (nested_at c.args.room)) (case_shrinks c.args.room c.requires) (goes_on-none) case_of c.more.all.items c.in_ok-next.next (tokens_of c.more.rest.now) (tokens_of c.in_ok-next.after.now) (cases_with (nested_at c.args.room) (tokens_of c.args.tokens.now)) more c.in_ok-next.ensures c.more.invariant)
 
 pub cases-returns : goal.cases-returns
 unfolding cases_with
@@ -48,14 +48,14 @@ statements-returns-in_err-next t c =
 
 pub statements-more-smaller : goal.statements-more-smaller
 statements-more-smaller t c =
-    let shorter = nested_shrinks c.args.room c.requires (tokens_of c.more.rest.now) (stmt_of c.in_ok-next.next) (tokens_of c.in_ok-next.behind.now) c.in_ok-next.ensures in
-    omega (arith, shorter, length-map c.more.rest.now placed, length-map c.in_ok-next.behind.now placed)
+    let shorter = nested_shrinks c.args.room c.requires (tokens_of c.more.rest.now) (stmt_of c.in_ok-next.next) (tokens_of c.in_ok-next.after.now) c.in_ok-next.ensures in
+    omega (arith, shorter, length-map c.more.rest.now placed, length-map c.in_ok-next.after.now placed)
 
 pub statements-more-preserved : goal.statements-more-preserved
 unfolding stmts_with
 statements-more-preserved t c =
     let more : case_goes_on (tokens_of c.more.rest.now) ≡ true = sym c.case_goes_on.ensures ∙ c.more-test.true in
-    rw c.in_ok-push.ensures.items (go_on (case_goes_on) (nested_at c.args.room) (nested_shrinks c.args.room c.requires) (case_goes_on-none) stmt_of c.more.all.items c.in_ok-next.next (tokens_of c.more.rest.now) (tokens_of c.in_ok-next.behind.now) (stmts_with (nested_at c.args.room) (tokens_of c.args.tokens.now)) more c.in_ok-next.ensures c.more.invariant)
+    rw c.in_ok-push.ensures.items (go_on (case_goes_on) (nested_at c.args.room) (nested_shrinks c.args.room c.requires) (case_goes_on-none) stmt_of c.more.all.items c.in_ok-next.next (tokens_of c.more.rest.now) (tokens_of c.in_ok-next.after.now) (stmts_with (nested_at c.args.room) (tokens_of c.args.tokens.now)) more c.in_ok-next.ensures c.more.invariant)
 
 pub statements-returns : goal.statements-returns
 unfolding stmts_with
@@ -72,14 +72,14 @@ locals-returns-in_err-next t c =
 
 pub locals-more-smaller : goal.locals-more-smaller
 locals-more-smaller t c =
-    let shorter = local_shrinks c.args.room c.requires (tokens_of c.more.rest.now) (stmt_of c.in_ok-next.next) (tokens_of c.in_ok-next.behind.now) c.in_ok-next.ensures in
-    omega (arith, shorter, length-map c.more.rest.now placed, length-map c.in_ok-next.behind.now placed)
+    let shorter = local_shrinks c.args.room c.requires (tokens_of c.more.rest.now) (stmt_of c.in_ok-next.next) (tokens_of c.in_ok-next.after.now) c.in_ok-next.ensures in
+    omega (arith, shorter, length-map c.more.rest.now placed, length-map c.in_ok-next.after.now placed)
 
 pub locals-more-preserved : goal.locals-more-preserved
 unfolding locals_with
 locals-more-preserved t c =
     let more : goes_on (tokens_of c.more.rest.now) ≡ true = sym c.goes_on.ensures ∙ c.more-test.true in
-    rw c.in_ok-push.ensures.items (go_on (goes_on) (local_with (below_at c.args.room) (nested_at c.args.room)) (local_shrinks c.args.room c.requires) (goes_on-none) stmt_of c.more.all.items c.in_ok-next.next (tokens_of c.more.rest.now) (tokens_of c.in_ok-next.behind.now) (locals_with (below_at c.args.room) (nested_at c.args.room) (tokens_of c.args.tokens.now)) more c.in_ok-next.ensures c.more.invariant)
+    rw c.in_ok-push.ensures.items (go_on (goes_on) (local_with (below_at c.args.room) (nested_at c.args.room)) (local_shrinks c.args.room c.requires) (goes_on-none) stmt_of c.more.all.items c.in_ok-next.next (tokens_of c.more.rest.now) (tokens_of c.in_ok-next.after.now) (locals_with (below_at c.args.room) (nested_at c.args.room) (tokens_of c.args.tokens.now)) more c.in_ok-next.ensures c.more.invariant)
 
 pub locals-returns : goal.locals-returns
 unfolding locals_with

@@ -3,7 +3,7 @@ use Rattle.ash_tree.specs.Tokens.{tokens_of}
 use Rattle.ash_tree.specs.Views.{stmt_of, case_of}
 use Rattle.ash_parse.specs.ExpressionReader.{below_at}
 use Rattle.ash_parse.specs.StatementReader.{nested_at, cases_with, stmts_with, locals_with}
-use Rattle.ash_parse.proofs.Loop.{with_front}
+use Rattle.ash_parse.proofs.Loop.{with_prefix}
 use Rattle.ash_parse.proofs.statements.+statements.Given as goal
 
 -- a phrase stands above those that it is made of, and below what is one deeper
@@ -53,19 +53,19 @@ abbrev pub decreases-local : goal.decreases-local
 decreases-local l = l.room * 16 + 1
 
 abbrev pub invariant-cases-more : goal.invariant-cases-more
-invariant-cases-more l = with_front (map case_of l.all.items) (cases_with (nested_at l.room) (tokens_of l.rest)) ≡ cases_with (nested_at l.room) (tokens_of l.fn.tokens)
+invariant-cases-more l = with_prefix (map case_of l.all.items) (cases_with (nested_at l.room) (tokens_of l.rest)) ≡ cases_with (nested_at l.room) (tokens_of l.fn.tokens)
 
 abbrev pub decreases-cases-more : goal.decreases-cases-more
 decreases-cases-more l = length l.rest
 
 abbrev pub invariant-statements-more : goal.invariant-statements-more
-invariant-statements-more l = with_front (map stmt_of l.all.items) (stmts_with (nested_at l.room) (tokens_of l.rest)) ≡ stmts_with (nested_at l.room) (tokens_of l.fn.tokens)
+invariant-statements-more l = with_prefix (map stmt_of l.all.items) (stmts_with (nested_at l.room) (tokens_of l.rest)) ≡ stmts_with (nested_at l.room) (tokens_of l.fn.tokens)
 
 abbrev pub decreases-statements-more : goal.decreases-statements-more
 decreases-statements-more l = length l.rest
 
 abbrev pub invariant-locals-more : goal.invariant-locals-more
-invariant-locals-more l = with_front (map stmt_of l.all.items) (locals_with (below_at l.room) (nested_at l.room) (tokens_of l.rest)) ≡ locals_with (below_at l.room) (nested_at l.room) (tokens_of l.fn.tokens)
+invariant-locals-more l = with_prefix (map stmt_of l.all.items) (locals_with (below_at l.room) (nested_at l.room) (tokens_of l.rest)) ≡ locals_with (below_at l.room) (nested_at l.room) (tokens_of l.fn.tokens)
 
 abbrev pub decreases-locals-more : goal.decreases-locals-more
 decreases-locals-more l = length l.rest

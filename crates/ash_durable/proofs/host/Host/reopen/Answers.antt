@@ -1,5 +1,5 @@
 use Rattle.std.proofs.Common.{List, subst}
-use Rattle.ash_registry.specs.Calls.{Call}
+use Rattle.ash_registry.specs.Calls.{Registration}
 use Rattle.ash_registry.specs.Registered.{registered}
 use Rattle.ash_durable.specs.Hosting.{first, second}
 use Rattle.ash_durable.specs.Store.{Opens}
@@ -10,7 +10,7 @@ pub returns-clause-opens : goal.returns-clause-opens
 returns-clause-opens g c =
     let device = g.D.Disk in
     let parts = c.into_parts-registry.result in
-    subst (λ (r : List Call). Opens device r (first c.args.self) (second c.args.self) c.open.result)
+    subst (λ (r : List Registration). Opens device r (first c.args.self) (second c.args.self) c.open.result)
     c.into_parts-registry.ensures.registry
     (subst (λ (a : g.row.D.Denot). Opens device (registered parts.0) a (second c.args.self) c.open.result)
     c.into_parts-registry.ensures.first
@@ -22,7 +22,7 @@ returns-clause-again g c =
     let device = g.D.Disk in
     let parts = c.into_parts-registry.result in
     opens_again device g.met.D.Disk.seen_may_stay c.args.self c.open.result
-    (subst (λ (r : List Call). Opens device r (first c.args.self) (second c.args.self) c.open.result)
+    (subst (λ (r : List Registration). Opens device r (first c.args.self) (second c.args.self) c.open.result)
     c.into_parts-registry.ensures.registry
     (subst (λ (a : g.row.D.Denot). Opens device (registered parts.0) a (second c.args.self) c.open.result)
     c.into_parts-registry.ensures.first

@@ -22,12 +22,12 @@ returns-in-Err-commit-clause-extends g c image bodies holds =
     let prefix = solid j.generation image bodies in
     let rests = at_rest d j.generation j.end j.record_bytes j.stray j.other_state j.current c.commit.new.disk j.other
     image bodies c.args.body.now f holds.repaired c.requires.short in
-    let call = c.commit.ensures.moments prefix f.behind
+    let call = c.commit.ensures.moments prefix f.after
     (record { honest_disk = f.current_honest; long = sym f.end_is; bytes = rests; durable = f.current_durable }) in
     append_extends d j.generation j.end j.record_bytes j.stray j.other_state j.current c.commit.new.disk j.other image
     bodies c.args.body.now f holds.repaired c.requires.short j.swapped
     (g.met.D.Disk.seen_may_stay j.current f.current_honest) (g.met.D.Disk.seen_may_stay j.other f.other_honest)
-    (subst (λ (l : List ℕ). Throughout d j.current c.commit.new.disk (WhileCommitted prefix l f.behind)) bytes_are call)
+    (subst (λ (l : List ℕ). Throughout d j.current c.commit.new.disk (WhileCommitted prefix l f.after)) bytes_are call)
 
 pub returns-clause-acknowledged : goal.returns-clause-acknowledged
 returns-clause-acknowledged g c image bodies holds =
@@ -38,10 +38,10 @@ returns-clause-acknowledged g c image bodies holds =
     let prefix = solid j.generation image bodies in
     let rests = at_rest d j.generation j.end j.record_bytes j.stray j.other_state j.current c.commit.new.disk j.other
     image bodies c.args.body.now f holds.repaired c.requires.short in
-    let on = c.in-Ok-commit.ensures.committed prefix f.behind
+    let on = c.in-Ok-commit.ensures.committed prefix f.after
     (record { honest_disk = f.current_honest; long = sym f.end_is; bytes = rests; durable = f.current_durable }) in
     let on' = subst
-    (λ (l : List ℕ). IsOn d c.commit.new.disk (prefix ++ 1 ∷ (l ++ drop (length l) f.behind))) bytes_are on in
+    (λ (l : List ℕ). IsOn d c.commit.new.disk (prefix ++ 1 ∷ (l ++ drop (length l) f.after))) bytes_are on in
     let added : c.len-added.result ≡ 5 + length c.args.body.now =
     omega (arith, c.len-added.ensures, ap length bytes_are, c.deref.ensures.len, record_long c.args.body.now) in
     let files = append_files d j.generation j.end j.record_bytes j.stray j.other_state j.current c.commit.new.disk
@@ -63,12 +63,12 @@ returns-clause-extends g c image bodies holds =
     let prefix = solid j.generation image bodies in
     let rests = at_rest d j.generation j.end j.record_bytes j.stray j.other_state j.current c.commit.new.disk j.other
     image bodies c.args.body.now f holds.repaired c.requires.short in
-    let call = c.commit.ensures.moments prefix f.behind
+    let call = c.commit.ensures.moments prefix f.after
     (record { honest_disk = f.current_honest; long = sym f.end_is; bytes = rests; durable = f.current_durable }) in
     append_extends d j.generation j.end j.record_bytes j.stray j.other_state j.current c.commit.new.disk j.other image
     bodies c.args.body.now f holds.repaired c.requires.short j.swapped
     (g.met.D.Disk.seen_may_stay j.current f.current_honest) (g.met.D.Disk.seen_may_stay j.other f.other_honest)
-    (subst (λ (l : List ℕ). Throughout d j.current c.commit.new.disk (WhileCommitted prefix l f.behind)) bytes_are call)
+    (subst (λ (l : List ℕ). Throughout d j.current c.commit.new.disk (WhileCommitted prefix l f.after)) bytes_are call)
 
 pub returns-clause-longer : goal.returns-clause-longer
 returns-clause-longer g c =

@@ -13,7 +13,7 @@ pub returns-in-Err-clause-extends : goal.returns-in-Err-clause-extends
 returns-in-Err-clause-extends g c image bodies f =
     let d = g.D.Disk in
     let j = c.args.self.now in
-    let one = c.repair.ensures.moments (solid j.generation image bodies) (f.gate ∷ f.behind)
+    let one = c.repair.ensures.moments (solid j.generation image bodies) (f.gate ∷ f.after)
     (record {
       honest_disk = f.current_honest;
       long = sym f.end_is;
@@ -30,7 +30,7 @@ pub returns-in-Err-repair-clause-extends : goal.returns-in-Err-repair-clause-ext
 returns-in-Err-repair-clause-extends g c image bodies f =
     let d = g.D.Disk in
     let j = c.args.self.now in
-    let one = c.repair.ensures.moments (solid j.generation image bodies) (f.gate ∷ f.behind)
+    let one = c.repair.ensures.moments (solid j.generation image bodies) (f.gate ∷ f.after)
     (record {
       honest_disk = f.current_honest;
       long = sym f.end_is;
@@ -49,7 +49,7 @@ pub returns-clause-settled : goal.returns-clause-settled
 returns-clause-settled g c image bodies f =
     let d = g.D.Disk in
     let j = c.args.self.now in
-    let on_c = c.in-Ok.ensures.repaired (solid j.generation image bodies) (f.gate ∷ f.behind)
+    let on_c = c.in-Ok.ensures.repaired (solid j.generation image bodies) (f.gate ∷ f.after)
     (record {
       honest_disk = f.current_honest;
       long = sym f.end_is;
@@ -78,7 +78,7 @@ pub returns-clause-extends : goal.returns-clause-extends
 returns-clause-extends g c image bodies f =
     let d = g.D.Disk in
     let j = c.args.self.now in
-    let one = c.repair.ensures.moments (solid j.generation image bodies) (f.gate ∷ f.behind)
+    let one = c.repair.ensures.moments (solid j.generation image bodies) (f.gate ∷ f.after)
     (record {
       honest_disk = f.current_honest;
       long = sym f.end_is;
@@ -97,7 +97,7 @@ pub returns-in-Err-clause-gates : goal.returns-in-Err-clause-gates
 returns-in-Err-clause-gates g c image bodies f =
     let d = g.D.Disk in
     let j = c.args.self.now in
-    let one = c.repair.ensures.only_gate (solid j.generation image bodies) (f.gate ∷ f.behind)
+    let one = c.repair.ensures.only_gate (solid j.generation image bodies) (f.gate ∷ f.after)
     (record {
       honest_disk = f.current_honest;
       long = sym f.end_is;
@@ -112,7 +112,7 @@ pub returns-in-Err-repair-clause-gates : goal.returns-in-Err-repair-clause-gates
 returns-in-Err-repair-clause-gates g c image bodies f =
     let d = g.D.Disk in
     let j = c.args.self.now in
-    let one = c.repair.ensures.only_gate (solid j.generation image bodies) (f.gate ∷ f.behind)
+    let one = c.repair.ensures.only_gate (solid j.generation image bodies) (f.gate ∷ f.after)
     (record {
       honest_disk = f.current_honest;
       long = sym f.end_is;
@@ -128,7 +128,7 @@ pub returns-clause-gates : goal.returns-clause-gates
 returns-clause-gates g c image bodies f =
     let d = g.D.Disk in
     let j = c.args.self.now in
-    let one = c.repair.ensures.only_gate (solid j.generation image bodies) (f.gate ∷ f.behind)
+    let one = c.repair.ensures.only_gate (solid j.generation image bodies) (f.gate ∷ f.after)
     (record {
       honest_disk = f.current_honest;
       long = sym f.end_is;

@@ -21,8 +21,8 @@ returns-in_err-restore_services-clause-refused g c = λ number is.
     let before = c.in_ok-boxes.boxes.items in
     let drawn : draw_boxes g.B.HostObject c.args.objects.items pool ≡ Enough before left = rw c.deref.ensures.value at c.in_ok-boxes.ensures.enough in
     let p = err_from_is_err_and c.from_residual-in_err-restore_services.result c.from_residual-in_err-restore_services.ensures.1 in
-    let told : c.in_err-restore_services.field-0.0 ≡ TableFault.RestoreRefused number = cc in
-    let r = c.in_err-restore_services.ensures.refused number (ap Err told) in
+    let reported : c.in_err-restore_services.field-0.0 ≡ TableFault.RestoreRefused number = cc in
+    let r = c.in_err-restore_services.ensures.refused number (ap Err reported) in
     subst (λ (n : ℕ). IsRefused g.B.HostObject c.args.objects.items (states_in c.args.states.now) c.args.pool.items c.args.services.items n) (sym r.0) (Service before left drawn r.1)
 
 pub restore_boxes-requires : goal.restore_boxes-requires
@@ -46,8 +46,8 @@ returns-in_err-restore_boxes-clause-refused g c = λ number is.
     let before = c.in_ok-boxes.boxes.items in
     let drawn : draw_boxes G objects pool ≡ Enough before left = rw c.deref.ensures.value at c.in_ok-boxes.ensures.enough in
     let p = err_from_is_err_and c.from_residual-in_err-restore_boxes.result c.from_residual-in_err-restore_boxes.ensures.1 in
-    let told : c.in_err-restore_boxes.field-0.0 ≡ TableFault.RestoreRefused number = cc in
-    let r = c.in_err-restore_boxes.ensures.refused number (ap Err told) in
+    let reported : c.in_err-restore_boxes.field-0.0 ≡ TableFault.RestoreRefused number = cc in
+    let r = c.in_err-restore_boxes.ensures.refused number (ap Err reported) in
     Object number before left c.restore_services.new.services.items drawn c.in_ok-restore_services.ensures.back (subst (λ (os : List Stored). BoxRefused G os before number) c.deref-2.ensures.value r)
 
 pub put_objects-requires-clause-fit : goal.put_objects-requires-clause-fit

@@ -15,7 +15,7 @@ pub struct Operation {
 
 /// An accepted registration.
 #[derive(Debug, PartialEq, Eq, Drop)]
-pub enum Call {
+pub enum Registration {
     Type {
         name: String,
         kind: u16,
@@ -45,18 +45,18 @@ pub enum Call {
     },
 }
 
-impl Call {
+impl Registration {
     pub(crate) fn is_type(&self) -> bool
         ensures { result ≡ spec.is_type (call_of self.now) }
     {
-        matches!(self, Call::Type { .. })
+        matches!(self, Registration::Type { .. })
     }
 
     pub(crate) fn names_type(&self, of: &str) -> bool
         ensures { result ≡ spec.names_type of.now (call_of self.now) }
     {
         match self {
-            Call::Type { name, .. } => of == name.as_str(),
+            Registration::Type { name, .. } => of == name.as_str(),
             _ => false,
         }
     }
@@ -65,7 +65,7 @@ impl Call {
         ensures { result ≡ spec.takes_kind of (call_of self.now) }
     {
         match self {
-            Call::Type { kind, .. } | Call::Service { kind } => of == *kind,
+            Registration::Type { kind, .. } | Registration::Service { kind } => of == *kind,
             _ => false,
         }
     }
@@ -74,8 +74,8 @@ impl Call {
         ensures { result ≡ spec.takes_name wanted.now (call_of self.now) }
     {
         match self {
-            Call::Type { name, .. } => wanted == name.as_str(),
-            Call::Function { operation, .. } => wanted == operation.name.as_str(),
+            Registration::Type { name, .. } => wanted == name.as_str(),
+            Registration::Function { operation, .. } => wanted == operation.name.as_str(),
             _ => false,
         }
     }
@@ -84,7 +84,7 @@ impl Call {
         ensures { result ≡ spec.is_factory_of wanted.now (call_of self.now) }
     {
         match self {
-            Call::Factory { of, .. } => wanted == of.as_str(),
+            Registration::Factory { of, .. } => wanted == of.as_str(),
             _ => false,
         }
     }
@@ -93,7 +93,7 @@ impl Call {
         ensures { result ≡ spec.is_member_of wanted.now (call_of self.now) }
     {
         match self {
-            Call::Method { of, .. } | Call::Property { of, .. } => wanted == of.as_str(),
+            Registration::Method { of, .. } | Registration::Property { of, .. } => wanted == of.as_str(),
             _ => false,
         }
     }
@@ -102,10 +102,10 @@ impl Call {
         ensures { result ≡ spec.takes_member owner.now wanted.now (call_of self.now) }
     {
         match self {
-            Call::Method { of, operation, .. } => {
+            Registration::Method { of, operation, .. } => {
                 owner == of.as_str() && wanted == operation.name.as_str()
             }
-            Call::Property { of, name, .. } => owner == of.as_str() && wanted == name.as_str(),
+            Registration::Property { of, name, .. } => owner == of.as_str() && wanted == name.as_str(),
             _ => false,
         }
     }
@@ -114,7 +114,7 @@ impl Call {
         ensures { result ≡ spec.takes_method owner.now wanted (call_of self.now) }
     {
         match self {
-            Call::Method { of, id, .. } => owner == of.as_str() && wanted == *id,
+            Registration::Method { of, id, .. } => owner == of.as_str() && wanted == *id,
             _ => false,
         }
     }
@@ -123,7 +123,7 @@ impl Call {
         ensures { result ≡ spec.takes_property owner.now wanted (call_of self.now) }
     {
         match self {
-            Call::Property { of, id, .. } => owner == of.as_str() && wanted == *id,
+            Registration::Property { of, id, .. } => owner == of.as_str() && wanted == *id,
             _ => false,
         }
     }
@@ -132,7 +132,7 @@ impl Call {
         ensures { result ≡ spec.takes_function of wanted (call_of self.now) }
     {
         match self {
-            Call::Function { service, id, .. } => of == *service && wanted == *id,
+            Registration::Function { service, id, .. } => of == *service && wanted == *id,
             _ => false,
         }
     }
@@ -140,13 +140,13 @@ impl Call {
     pub(crate) fn is_service(&self) -> bool
         ensures { result ≡ spec.is_service (call_of self.now) }
     {
-        matches!(self, Call::Service { .. })
+        matches!(self, Registration::Service { .. })
     }
 
     pub(crate) fn is_function(&self) -> bool
         ensures { result ≡ spec.is_function (call_of self.now) }
     {
-        matches!(self, Call::Function { .. })
+        matches!(self, Registration::Function { .. })
     }
 
     /// The kind of a service.
@@ -155,7 +155,7 @@ impl Call {
         ensures { result ≡ spec.service_kind (call_of self.now) }
     {
         match self {
-            Call::Service { kind } => Some(*kind),
+            Registration::Service { kind } => Some(*kind),
             _ => None,
         }
     }

@@ -15,7 +15,7 @@ use Rattle.ash_typed.specs.declared.types.ObjectType.TheVariants.{Host as OfHost
 use Rattle.ash_typing.specs.declared.types.Ty.{Ty}
 use Rattle.ash_typing.specs.declared.types.Ty.TheVariants as ty
 use Rattle.ash_typing.specs.Types.{ty_of}
-use Rattle.ash_typing.specs.Environment.{Declared, Function, Interface, Class, Heads, first_from, is_class}
+use Rattle.ash_typing.specs.Environment.{Declared, Function, Interface, Class, ModuleDeclarations, first_from, is_class}
 use Rattle.ash_typing.specs.Environment.{is_interface_named, Environment}
 use Rattle.ash_tree.specs.Items.{classes_of, interfaces_of, functions_of, globals_of, fields_of, methods_of}
 use Rattle.ash_tree.specs.Items.{constructors_of}
@@ -25,7 +25,7 @@ use Rattle.ash_tree.specs.Items.{constructors_of}
 abbrev pub class_type : List Class → List ℕ → Option ObjectType
 class_type classes name = option_map (λ (found : ℕ × Class). OfClass found.0) (first_from (is_class name) 0 classes)
 
-abbrev pub host_object : host.Call → Option ObjectType
+abbrev pub host_object : host.Registration → Option ObjectType
 host_object (host.AType name kind) = Some (OfHost kind)
 host_object _ = None
 
@@ -34,7 +34,7 @@ interface_type interfaces name =
     option_map (λ (found : ℕ × Interface). OfInterface found.0) (first_from (is_interface_named name) 0 interfaces)
 
 -- The name is that of a class of the module, else of an interface, else of a registered type.
-unfoldable pub object_named : List host.Call → Heads → List ℕ → Option ObjectType
+unfoldable pub object_named : List host.Registration → ModuleDeclarations → List ℕ → Option ObjectType
 object_named calls named name =
     option_or (class_type named.classes name)
     (option_or (interface_type named.interfaces name) (option_and_then host_object (find (host.takes_name name) calls)))
@@ -54,11 +54,11 @@ element_by (OfInterface interface) = Some (elements.Interface interface)
 element_by (OfHost kind) = Some (elements.Host kind)
 element_by (OfArray of) = None
 
-unfoldable pub element_named : List host.Call → Heads → written.Element → Option Element
+unfoldable pub element_named : List host.Registration → ModuleDeclarations → written.Element → Option Element
 element_named calls named (written.PrimElement p primitive) = Some (element_of primitive)
 element_named calls named (written.HandleElement p name) = option_and_then element_by (object_named calls named name)
 
-abbrev pub array_named : List host.Call → Heads → written.Element → Option ObjectType
+abbrev pub array_named : List host.Registration → ModuleDeclarations → written.Element → Option ObjectType
 array_named calls named of = option_map OfArray (element_named calls named of)
 
 abbrev pub object_ty : Option ObjectType → Ty
@@ -70,7 +70,7 @@ handle_ty None = ty.Unknown
 handle_ty (Some o) = ty.Handle o
 
 -- `ty_named calls named of` is the type that is written.
-unfoldable pub ty_named : List host.Call → Heads → written.Named → Ty
+unfoldable pub ty_named : List host.Registration → ModuleDeclarations → written.Named → Ty
 ty_named calls named (written.Prim p primitive) = ty_of primitive
 ty_named calls named (written.Object p name) = object_ty (object_named calls named name)
 ty_named calls named (written.Handle p name) = handle_ty (object_named calls named name)
@@ -78,7 +78,7 @@ ty_named calls named (written.Array p of) = object_ty (array_named calls named o
 ty_named calls named (written.ArrayHandle p of) = handle_ty (array_named calls named of)
 
 -- `result_named calls named result` is what a function gives.
-abbrev pub result_named : List host.Call → Heads → Option written.Named → Ty
+abbrev pub result_named : List host.Registration → ModuleDeclarations → Option written.Named → Ty
 result_named calls named None = ty.Void
 result_named calls named (Some of) = ty_named calls named of
 
@@ -86,46 +86,46 @@ result_named calls named (Some of) = ty_named calls named of
 
 -- `ty_in env of` is the type that is written, where it is seen.
 abbrev pub ty_in : Environment → written.Named → Ty
-ty_in env of = ty_named env.registered env.heads of
+ty_in env of = ty_named env.registered env.declarations of
 
 abbrev pub result_in : Environment → Option written.Named → Ty
-result_in env of = result_named env.registered env.heads of
+result_in env of = result_named env.registered env.declarations of
 
 -- what is declared
 
 abbrev pub declared : Ty → written.Decl → Declared
 declared of d = record { name = d.name; of = of }
 
-abbrev pub variables : List host.Call → Heads → written.Vars → List Declared
+abbrev pub variables : List host.Registration → ModuleDeclarations → written.Vars → List Declared
 variables calls named v = map (declared (ty_named calls named v.of)) v.decls
 
 -- `all_variables calls named vs` are the variables of several declarations.
-abbrev pub all_variables : List host.Call → Heads → List written.Vars → List Declared
+abbrev pub all_variables : List host.Registration → ModuleDeclarations → List written.Vars → List Declared
 all_variables calls named [] = []
 all_variables calls named (v ∷ vs) = variables calls named v ++ all_variables calls named vs
 
-abbrev pub parameter_ty : List host.Call → Heads → written.Parameter → Ty
+abbrev pub parameter_ty : List host.Registration → ModuleDeclarations → written.Parameter → Ty
 parameter_ty calls named p = ty_named calls named p.of
 
-abbrev pub function_head : List host.Call → Heads → written.Function → Function
+abbrev pub function_head : List host.Registration → ModuleDeclarations → written.Function → Function
 function_head calls named f = record {
   name = f.name;
   result = result_named calls named f.result;
   parameters = map (parameter_ty calls named) f.parameters;
 }
 
-abbrev pub signature_head : List host.Call → Heads → written.InterfaceMethod → Function
+abbrev pub signature_head : List host.Registration → ModuleDeclarations → written.InterfaceMethod → Function
 signature_head calls named m = record {
   name = m.name;
   result = result_named calls named m.result;
   parameters = map (parameter_ty calls named) m.parameters;
 }
 
-abbrev pub interface_head : List host.Call → Heads → written.Interface → Interface
+abbrev pub interface_head : List host.Registration → ModuleDeclarations → written.Interface → Interface
 interface_head calls named i = record { name = i.name; methods = map (signature_head calls named) i.methods }
 
 -- `constructed_by calls named cs` is what the construction of an object takes: nothing where no constructor is written.
-abbrev pub constructed_by : List host.Call → Heads → List written.Constructor → List Ty
+abbrev pub constructed_by : List host.Registration → ModuleDeclarations → List written.Constructor → List Ty
 constructed_by calls named [] = []
 constructed_by calls named (c ∷ cs) = map (parameter_ty calls named) c.parameters
 
@@ -139,12 +139,12 @@ abbrev pub with_place : Option ℕ → List ℕ → List ℕ
 with_place None places = places
 with_place (Some place) places = place ∷ places
 
-abbrev pub listed_in : List host.Call → Heads → List written.TypeName → List ℕ
+abbrev pub listed_in : List host.Registration → ModuleDeclarations → List written.TypeName → List ℕ
 listed_in calls named [] = []
 listed_in calls named (n ∷ ns) =
     with_place (interface_place (object_named calls named n.name)) (listed_in calls named ns)
 
-abbrev pub class_head : List host.Call → Heads → written.Class → Class
+abbrev pub class_head : List host.Registration → ModuleDeclarations → written.Class → Class
 class_head calls named c = record {
   name = c.name;
   interfaces = listed_in calls named c.interfaces;
@@ -162,7 +162,7 @@ abbrev pub named_interface : written.Interface → Interface
 named_interface i = record { name = i.name; methods = [] }
 
 -- `names_in is` is what types name.
-abbrev pub names_in : List written.Item → Heads
+abbrev pub names_in : List written.Item → ModuleDeclarations
 names_in is = record {
   interfaces = map named_interface (interfaces_of is);
   classes = map named_class (classes_of is);
@@ -170,13 +170,13 @@ names_in is = record {
   globals = [];
 }
 
-abbrev pub heads_by : List host.Call → Heads → List written.Item → Heads
-heads_by calls named is = record {
+abbrev pub declarations_by : List host.Registration → ModuleDeclarations → List written.Item → ModuleDeclarations
+declarations_by calls named is = record {
   interfaces = map (interface_head calls named) (interfaces_of is);
   classes = map (class_head calls named) (classes_of is);
   functions = map (function_head calls named) (functions_of is);
   globals = all_variables calls named (globals_of is);
 }
 
-unfoldable pub heads : List host.Call → List written.Item → Heads
-heads calls is = heads_by calls (names_in is) is
+unfoldable pub declarations : List host.Registration → List written.Item → ModuleDeclarations
+declarations calls is = declarations_by calls (names_in is) is

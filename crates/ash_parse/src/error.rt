@@ -1,14 +1,14 @@
 //! Why reading stops.
 
 ghost use Rattle.std.specs.Prelude.{◌≡◌};
-ghost use Rattle.ash_parse.specs.declared.stop.Stop.TheVariants.{NoMemory};
+ghost use Rattle.ash_parse.specs.declared.error.ParseError.TheVariants.{NoMemory};
 
 use ash_lex::Token;
 use std::alloc::{AllocError, AllocFailed};
 
 /// Why reading stops. A fault holds the tokens from it on.
 #[derive(Clone, Copy)]
-pub enum Stop<'a> {
+pub enum ParseError<'a> {
     /// No phrase goes on with the first of these tokens, or with the end where there is none.
     Unexpected(&'a [Token]),
     /// The first of these tokens stands too deep.
@@ -17,21 +17,21 @@ pub enum Stop<'a> {
     NoMemory,
 }
 
-/// What was read, and the tokens behind it.
-pub type Reading<'a, T> = Result<(T, &'a [Token]), Stop<'a>>;
+/// What was read, and the tokens after it.
+pub type ParseResult<'a, T> = Result<(T, &'a [Token]), ParseError<'a>>;
 
-impl<'a> From<AllocError> for Stop<'a> {
+impl<'a> From<AllocError> for ParseError<'a> {
     ghost from_gives = { λ _ stop. stop ≡ NoMemory };
 
-    fn from(_error: AllocError) -> Stop<'a> {
-        Stop::NoMemory
+    fn from(_error: AllocError) -> ParseError<'a> {
+        ParseError::NoMemory
     }
 }
 
-impl<'a, T: Drop> From<AllocFailed<T>> for Stop<'a> {
+impl<'a, T: Drop> From<AllocFailed<T>> for ParseError<'a> {
     ghost from_gives = { λ _ stop. stop ≡ NoMemory };
 
-    fn from(_error: AllocFailed<T>) -> Stop<'a> {
-        Stop::NoMemory
+    fn from(_error: AllocFailed<T>) -> ParseError<'a> {
+        ParseError::NoMemory
     }
 }

@@ -1,12 +1,12 @@
--- Reading tokens from left to right, as a function. What is read comes with the tokens that are left; a reader that
--- stops tells the tokens from the fault on.
+-- ParseResult tokens from left to right, as a function. What is read comes with the tokens that are left; a reader that
+-- stops reports the tokens from the fault on.
 use Rattle.std.specs.Prelude.{◌≡◌, ℕ, zero, suc, List, [], ◌∷◌, length, Bool, false, Result, Ok, Err, if◌then◌else◌}
 use Rattle.ash_lex.specs.Tokens.{Meaning, name}
 use Rattle.ash_lex.specs.declared.signs.Sign.{Sign}
 use Rattle.ash_tree.specs.declared.tree.places.Place.{Place}
 use Rattle.ash_tree.specs.Tokens.{Tokens, tokens_of}
-use Rattle.ash_parse.specs.declared.stop.Stop.{Stop}
-use Rattle.ash_parse.specs.declared.stop.Stop.TheVariants as stops
+use Rattle.ash_parse.specs.declared.error.ParseError.{ParseError}
+use Rattle.ash_parse.specs.declared.error.ParseError.TheVariants as stops
 use Rattle.ash_parse.specs.Signs.{is_sign}
 
 -- why reading stops, and the tokens from there on: the first of them fits nowhere, or stands too deep
@@ -14,36 +14,36 @@ pub data Halt : Type 0 where
   Unexpected : Tokens → Halt
   TooDeep : Tokens → Halt
 
-abbrev pub Reading : Type 0 → Type 0
-Reading A = Result (A × Tokens) Halt
+abbrev pub ParseResult : Type 0 → Type 0
+ParseResult A = Result (A × Tokens) Halt
 
 infixl 10 ◌>>=◌
-abbrev pub ◌>>=◌ : {A B : Type 0} → Reading A → (A × Tokens → Reading B) → Reading B
+abbrev pub ◌>>=◌ : {A B : Type 0} → ParseResult A → (A × Tokens → ParseResult B) → ParseResult B
 (Ok x) >>= f = f x
 (Err e) >>= f = Err e
 
 -- what a function returned, seen by `view`, is what reading gives, unless memory ran out
-abbrev pub Fails : {Y : Type 0} → Stop → Reading Y → Type 0
+abbrev pub Fails : {Y : Type 0} → ParseError → ParseResult Y → Type 0
 Fails (stops.Unexpected rest) read = read ≡ Err (Unexpected (tokens_of rest.now))
 Fails (stops.TooDeep rest) read = read ≡ Err (TooDeep (tokens_of rest.now))
 Fails stops.NoMemory read = Unit {0}
 
-abbrev pub Gives : {X Y : Type 0} → (X → Y × Tokens) → Result X Stop → Reading Y → Type 0
-Gives view (Ok x) read = read ≡ Ok (view x)
-Gives view (Err e) read = Fails e read
+abbrev pub ParsesAs : {X Y : Type 0} → (X → Y × Tokens) → Result X ParseError → ParseResult Y → Type 0
+ParsesAs view (Ok x) read = read ≡ Ok (view x)
+ParsesAs view (Err e) read = Fails e read
 
--- one more in front of what is read
-abbrev pub put : {A : Type 0} → A → Reading (List A) → Reading (List A)
+-- one more before what is read
+abbrev pub put : {A : Type 0} → A → ParseResult (List A) → ParseResult (List A)
 put x (Ok y) = Ok (x ∷ y.0, y.1)
 put x (Err e) = Err e
 
 -- reads again as long as more follows, at most so often
-unfoldable pub repeat : {A : Type 0} → (Tokens → Bool) → (Tokens → Reading A) → ℕ → Tokens → Reading (List A)
+unfoldable pub repeat : {A : Type 0} → (Tokens → Bool) → (Tokens → ParseResult A) → ℕ → Tokens → ParseResult (List A)
 repeat more read zero s = Ok ([], s)
 repeat more read (suc times) s = if more s then (read s >>= λ x. put x.0 (repeat more read times x.1)) else Ok ([], s)
 
 -- reads again as long as more follows, where each reading takes a token
-abbrev pub loop : {A : Type 0} → (Tokens → Bool) → (Tokens → Reading A) → Tokens → Reading (List A)
+abbrev pub loop : {A : Type 0} → (Tokens → Bool) → (Tokens → ParseResult A) → Tokens → ParseResult (List A)
 loop more read s = repeat more read (length s) s
 
 -- the next token passes
@@ -55,12 +55,12 @@ unfoldable pub next_is_sign : Sign → Tokens → Bool
 next_is_sign s ts = next_is (is_sign s) ts
 
 -- this sign
-unfoldable pub expect_at : Sign → Tokens → Reading Place
+unfoldable pub expect_at : Sign → Tokens → ParseResult Place
 expect_at s [] = Err (Unexpected [])
 expect_at s ((m, p) ∷ ts) = if is_sign s m then Ok (p, ts) else Err (Unexpected ((m, p) ∷ ts))
 
 -- a name
-unfoldable pub name_at : Tokens → Reading (List ℕ × Place)
+unfoldable pub name_at : Tokens → ParseResult (List ℕ × Place)
 name_at [] = Err (Unexpected [])
 name_at ((name text, p) ∷ ts) = Ok ((text, p), ts)
 name_at ((m, p) ∷ ts) = Err (Unexpected ((m, p) ∷ ts))

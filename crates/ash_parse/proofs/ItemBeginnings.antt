@@ -13,11 +13,11 @@ use Rattle.ash_tree.specs.Types.{IsType, prim, object, handle, array, array_hand
 use Rattle.ash_tree.specs.Statements.{IsDecl, bare, valued, made, IsVars, vars, IsBlock, block}
 use Rattle.ash_tree.specs.Grammar.{IsResultType, void, typed, IsParameter, parameter, AreParameters, no_parameters, parameters, IsFunction, function, IsMember, method, fields, constructor, class, IsItem, a_class, a_function, globals, IsInterfaceMethod, interface_method, interface, an_interface}
 use Rattle.ash_parse.specs.Signs.{is_sign, same_sign}
-use Rattle.ash_parse.specs.Reading.{next_is, next_is_sign}
+use Rattle.ash_parse.specs.Readers.{next_is, next_is_sign}
 use Rattle.ash_parse.specs.ExpressionReader.{begins}
 use Rattle.ash_parse.specs.TypeReader.{is_array}
 use Rattle.ash_parse.specs.StatementReader.{is_name, next_is_name, is_vars, goes_on, leading}
-use Rattle.ash_parse.specs.ItemReader.{is_void, is_class, behind, opens_body, names_function, handle_names_function, is_function, is_constructor, is_left, is_interface}
+use Rattle.ash_parse.specs.ItemReader.{is_void, is_class, after, opens_body, names_function, handle_names_function, is_function, is_constructor, is_left, is_interface}
 use Rattle.ash_parse.proofs.Rereading.{no_some, no_true}
 use Rattle.ash_parse.proofs.ExpressionComplete.{Closes, begins_no_close, inner_begins, more_end}
 use Rattle.ash_parse.proofs.Elements.{element_passed}
@@ -25,8 +25,8 @@ use Rattle.ash_parse.proofs.VarsComplete.{Next, Done, ends_follow, inner_no_vars
 use Rattle.ash_parse.proofs.StatementComplete.{starts_no_semicolon, starts_further}
 
 -- neither a class, an interface nor a ";" stands here, and an item or a member does
-abbrev pub Heads : Tokens → Type 0
-Heads ts = (next_is is_class ts ≡ false) × (next_is_sign signs.Semicolon ts ≡ false) × (is_left ts ≡ true) × (goes_on ts ≡ true) × (next_is is_interface ts ≡ false)
+abbrev pub Beginnings : Tokens → Type 0
+Beginnings ts = (next_is is_class ts ≡ false) × (next_is_sign signs.Semicolon ts ≡ false) × (is_left ts ≡ true) × (goes_on ts ≡ true) × (next_is is_interface ts ≡ false)
 
 begins_heads_at : (m : Meaning) → begins m ≡ true → (is_class m ≡ false) × (is_void m ≡ false) × (is_interface m ≡ false)
 unfolding begins is_class is_void is_interface primitive unary_operator
@@ -35,25 +35,25 @@ begins_heads_at (reserved words.Void) h = absurd (no_true h)
 begins_heads_at (reserved words.Interface) h = absurd (no_true h)
 begins_heads_at m h = (refl, refl, refl)
 
-pub begins_heads : (ts : Tokens) → next_is begins ts ≡ true → Heads ts
+pub begins_all : (ts : Tokens) → next_is begins ts ≡ true → Beginnings ts
 unfolding is_left
-begins_heads [] h = absurd (no_true h)
-begins_heads ((m, p) ∷ ts) h = ((begins_heads_at m h).0, starts_no_semicolon ((m, p) ∷ ts) h, refl, (starts_further ((m, p) ∷ ts) h).0, (begins_heads_at m h).2)
+begins_all [] h = absurd (no_true h)
+begins_all ((m, p) ∷ ts) h = ((begins_heads_at m h).0, starts_no_semicolon ((m, p) ∷ ts) h, refl, (starts_further ((m, p) ∷ ts) h).0, (begins_heads_at m h).2)
 
 pub begins_no_void : (ts : Tokens) → next_is begins ts ≡ true → next_is is_void ts ≡ false
 begins_no_void [] h = refl
 begins_no_void ((m, p) ∷ ts) h = (begins_heads_at m h).1
 
-result_heads : {from left : Tokens} {r : Option Named} → IsResultType from r left → Heads from
+result_heads : {from left : Tokens} {r : Option Named} → IsResultType from r left → Beginnings from
 unfolding is_left is_class is_interface next_is_sign is_sign same_sign goes_on leading
 result_heads void = (refl, refl, refl, refl, refl)
-result_heads (typed {from = from} t) = begins_heads from (type_begins t)
+result_heads (typed {from = from} t) = begins_all from (type_begins t)
 
-pub function_heads : {free : ℕ} {from left : Tokens} {f : Function} → IsFunction free from f left → Heads from
+pub function_heads : {free : ℕ} {from left : Tokens} {f : Function} → IsFunction free from f left → Beginnings from
 function_heads (function r p b) = result_heads r
 
-pub vars_heads : {free depth : ℕ} {from left : Tokens} {v : Vars} → IsVars free depth from v left → Heads from
-vars_heads (vars {from = from} t a b) = begins_heads from (type_begins t)
+pub vars_heads : {free depth : ℕ} {from left : Tokens} {v : Vars} → IsVars free depth from v left → Beginnings from
+vars_heads (vars {from = from} t a b) = begins_all from (type_begins t)
 
 pub member_goes : {free : ℕ} {from left : Tokens} {x : Member} → IsMember free from x left → goes_on from ≡ true
 unfolding goes_on leading
@@ -78,9 +78,9 @@ primitive_token (name t) k h = absurd (no_some k h)
 primitive_token (reserved words.Array) k h = absurd (no_some k h)
 primitive_token m k h = (refl, refl, refl)
 
--- behind a type, its name and what follows tell whether this is a function
+-- after a type, its name and what follows tell whether this is a function
 typed_function : {from left : Tokens} {t : Named} → IsType from t left → next_is_sign signs.Handle left ≡ false → is_function from ≡ names_function left
-unfolding is_function is_void is_array handle_names_function behind next_is_sign is_sign same_sign
+unfolding is_function is_void is_array handle_names_function after next_is_sign is_sign same_sign
 typed_function (prim {m = m} {k = k} g) s = rw ((primitive_token m k g).0, (primitive_token m k g).2, s) refl
 typed_function object s = rw s refl
 typed_function handle s = refl
@@ -96,7 +96,7 @@ unfolding next_is_name is_name
 parameter_vars (parameter t) = type_vars t refl
 
 names_parameters : (text : List ℕ) (p : Place) {from left : Tokens} {xs : List Parameter} → AreParameters from xs left → next_is_sign signs.OpenBrace left ≡ true → names_function ((name text, p) ∷ from) ≡ true
-unfolding names_function next_is_name is_name is_array behind next_is_sign is_sign same_sign opens_body is_vars primitive
+unfolding names_function next_is_name is_name is_array after next_is_sign is_sign same_sign opens_body is_vars primitive
 names_parameters text p no_parameters s = s
 names_parameters text p (parameters a b) s = rw (parameter_vars a) refl
 
@@ -108,19 +108,19 @@ name_no_open : (text : List ℕ) (p : Place) (ts : Tokens) → next_is_sign sign
 unfolding next_is_sign is_sign
 name_no_open text p ts = refl
 
--- each function is told by its first tokens
+-- each function is reported by its first tokens
 pub function_function : {free : ℕ} {from left : Tokens} {f : Function} → IsFunction free from f left → is_function from ≡ true
 unfolding is_function is_void
 function_function (function void b c) = refl
-function_function (function {p = p} {text = text} {behind = behind} (typed t) b c) = rw (typed_function t (name_no_handle text p behind)) (names_parameters text p b (block_opens c))
+function_function (function {p = p} {text = text} {after = after} (typed t) b c) = rw (typed_function t (name_no_handle text p after)) (names_parameters text p b (block_opens c))
 
 close_opens_no_body : (m : Meaning) (p : Place) (ts : Tokens) → is_sign signs.CloseParenthesis m ≡ true → next_is_sign signs.OpenBrace ts ≡ false → (is_vars ((m, p) ∷ ts) ≡ false) × (opens_body ((m, p) ∷ ts) ≡ false)
 unfolding is_sign same_sign is_vars primitive is_name is_array opens_body
 close_opens_no_body (sign signs.CloseParenthesis) p ts h s = (refl, s)
 close_opens_no_body m p ts h s = absurd (no_true h)
 
-none_opens : (left : Tokens) → Closes left → next_is_sign signs.OpenBrace (behind left) ≡ false → (is_vars left ≡ false) × (opens_body left ≡ false)
-unfolding next_is_sign behind
+none_opens : (left : Tokens) → Closes left → next_is_sign signs.OpenBrace (after left) ≡ false → (is_vars left ≡ false) × (opens_body left ≡ false)
+unfolding next_is_sign after
 none_opens [] h s = absurd (no_true h)
 none_opens ((m, p) ∷ ts) h s = close_opens_no_body m p ts h s
 
@@ -130,9 +130,9 @@ no_close_no_body [] h = refl
 no_close_no_body ((m, p) ∷ ts) h = rw h refl
 
 -- arguments are no parameters
-exprs_no_function : {free depth : ℕ} {from left : Tokens} {es : List Expr} → AreExprs free depth from es left → Closes left → next_is_sign signs.OpenBrace (behind left) ≡ false → (is_vars from ≡ false) × (opens_body from ≡ false)
+exprs_no_function : {free depth : ℕ} {from left : Tokens} {es : List Expr} → AreExprs free depth from es left → Closes left → next_is_sign signs.OpenBrace (after left) ≡ false → (is_vars from ≡ false) × (opens_body from ≡ false)
 exprs_no_function (no_exprs {left = left}) c s = none_opens left c s
-exprs_no_function (some_exprs {from = from} {behind = next} a b) c s = (inner_no_vars a (ends_follow next (more_end b c)), no_close_no_body from (begins_no_close from (inner_begins a)))
+exprs_no_function (some_exprs {from = from} {after = next} a b) c s = (inner_no_vars a (ends_follow next (more_end b c)), no_close_no_body from (begins_no_close from (inner_begins a)))
 
 next_no_brace_at : (m : Meaning) → ends_decl m ≡ true → is_sign signs.OpenBrace m ≡ false
 unfolding ends_decl is_sign same_sign
@@ -145,7 +145,7 @@ next_no_brace [] h = refl
 next_no_brace ((m, p) ∷ ts) h = next_no_brace_at m h
 
 decl_no_function : {free depth : ℕ} {from left : Tokens} {d : Decl} → IsDecl free depth from d left → Next left → names_function from ≡ false
-unfolding names_function next_is_name is_name behind next_is_sign is_sign same_sign
+unfolding names_function next_is_name is_name after next_is_sign is_sign same_sign
 decl_no_function (bare {left = left}) s = rw ((next_ends left s).2) refl
 decl_no_function (valued a) s = refl
 decl_no_function (made {left = left} (args {q = q} a)) s =
@@ -157,7 +157,7 @@ pub vars_no_function : {free depth : ℕ} {from left : Tokens} {v : Vars} → Is
 vars_no_function (vars t a b) s = rw (typed_function t (decl_begins a).1) (decl_no_function a (decls_next b s))
 
 typed_no_constructor : {from left : Tokens} {t : Named} → IsType from t left → next_is_sign signs.OpenParenthesis left ≡ false → is_constructor from ≡ false
-unfolding is_constructor next_is_name is_name behind next_is_sign is_sign same_sign
+unfolding is_constructor next_is_name is_name after next_is_sign is_sign same_sign
 typed_no_constructor (prim {m = m} {k = k} g) s = rw ((primitive_token m k g).1) refl
 typed_no_constructor object s = s
 typed_no_constructor handle s = refl
@@ -167,7 +167,7 @@ typed_no_constructor (array_handle a) s = refl
 pub function_no_constructor : {free : ℕ} {from left : Tokens} {f : Function} → IsFunction free from f left → is_constructor from ≡ false
 unfolding is_constructor next_is_name is_name
 function_no_constructor (function void b c) = refl
-function_no_constructor (function {p = p} {text = text} {behind = behind} (typed t) b c) = typed_no_constructor t (name_no_open text p behind)
+function_no_constructor (function {p = p} {text = text} {after = after} (typed t) b c) = typed_no_constructor t (name_no_open text p after)
 
 decl_no_open : {free depth : ℕ} {from left : Tokens} {d : Decl} → IsDecl free depth from d left → next_is_sign signs.OpenParenthesis from ≡ false
 unfolding next_is_sign is_sign
@@ -184,5 +184,5 @@ parameters_open no_parameters = refl
 parameters_open (parameters a b) = refl
 
 pub constructor_constructor : (text : List ℕ) (p : Place) {from left : Tokens} {xs : List Parameter} → AreParameters from xs left → is_constructor ((name text, p) ∷ from) ≡ true
-unfolding is_constructor next_is_name is_name behind
+unfolding is_constructor next_is_name is_name after
 constructor_constructor text p a = parameters_open a
