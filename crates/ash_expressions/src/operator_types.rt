@@ -11,7 +11,7 @@ use ash_typing::{Operator, OperatorClass, Ty};
 
 /// The sort of an operator.
 pub(crate) fn operator_sort(operator: BinaryOp) -> OperatorClass
-    ensures { result ≡ types.sort_of operator }
+    ensures { result ≡ types.operator_class_of operator }
 {
     match operator {
         BinaryOp::Multiply | BinaryOp::Divide | BinaryOp::Remainder => OperatorClass::Arithmetic,

@@ -232,7 +232,7 @@ fn build_change(
     operand: TypedExpr,
 ) -> CheckResult<TypedExpr>
     ensures { Agrees typed_of result
-        (Ok (typing.made at of (Alter change (expr_of operand.tree)))) }
+        (Ok (typing.term_at at of (Alter change (expr_of operand.tree)))) }
 {
     Ok(TypedExpr::value(at, of, nodes::alter(alloc, change, operand.tree)?))
 }

@@ -28,7 +28,7 @@ pub struct TypedExpr {
 impl TypedExpr {
     /// An expression that is neither a number nor a place.
     pub(crate) fn value(at: usize, ty: Ty, tree: Expr) -> TypedExpr
-        ensures { typed_of result ≡ typing.made at ty (expr_of tree) }
+        ensures { typed_of result ≡ typing.term_at at ty (expr_of tree) }
     {
         TypedExpr {
             at,

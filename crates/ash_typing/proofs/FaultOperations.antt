@@ -24,11 +24,11 @@ use Rattle.ash_typed.specs.declared.tree.operations.Step.{Step}
 use Rattle.ash_typed.specs.declared.tree.operations.Step.TheVariants as steps
 use Rattle.ash_typed.specs.Tree.{Null, Place}
 use Rattle.ash_typing.specs.TypingResult.{TypingResult, broken}
-use Rattle.ash_typing.specs.Types.{common, takes, assumed, meets, sort_of, binary_of, ty_of}
+use Rattle.ash_typing.specs.Types.{common, takes, assumed, meets, operator_class_of, binary_of, ty_of}
 use Rattle.ash_typing.specs.Coercions.{fits}
 use Rattle.ash_typing.specs.Environment.{Environment, Class, Known, Callee, variable_in, callee_in}
 use Rattle.ash_typing.specs.Terms.{assignable, operator_of, is_stored}
-use Rattle.ash_typing.specs.Expressions.{Typed, UnifiedOperands, made, coerced_for_assignment, integer_of, bool_of, handle_of, adapted, unified_as, met}
+use Rattle.ash_typing.specs.Expressions.{Typed, UnifiedOperands, term_at, coerced_for_assignment, integer_of, bool_of, handle_of, adapted, unified_as, unify_operands}
 use Rattle.ash_typing.specs.Expressions.{operate, counted, handle_at, unary_at, converting, convert_at, is_void, chosen}
 use Rattle.ash_typing.specs.Expressions.{choice, updated, stored, assigned_to, assigned, all_coerced, arguments_at}
 use Rattle.ash_typing.specs.Expressions.{called, callee_at, known_at, this_at, call_typed, all_typed}
@@ -92,13 +92,13 @@ met_as_in script s a b None h k w =
 
 -- an operator does not take two operands
 abbrev pub Unmet : Script → BinaryOp → Typed → Typed → Type 0
-Unmet script op a b = (at : ℕ) → met op a b ≡ broken rules.TypeMismatch at → Mismatch script at
+Unmet script op a b = (at : ℕ) → unify_operands op a b ≡ broken rules.TypeMismatch at → Mismatch script at
 
 met_in : (script : Script) (op : BinaryOp) (a b : Typed) → HasStart script.tokens a.at → HasStart script.tokens b.at
-    → Unmet script op a b → Answers script (λ (m : UnifiedOperands). HasStart script.tokens m.left.at) (met op a b)
-unfolding met
+    → Unmet script op a b → Answers script (λ (m : UnifiedOperands). HasStart script.tokens m.left.at) (unify_operands op a b)
+unfolding unify_operands
 met_in script op a b h k w =
-    let s = sort_of op in
+    let s = operator_class_of op in
     let x = adapted s b.form b.ty a in
     let y = adapted s a.form a.ty b in
     met_as_in script s x y (meets s (assumed s y.ty x.ty) (assumed s x.ty y.ty))
@@ -169,14 +169,14 @@ choice_in script c a b h k l y z =
 -- what is assigned to a typed place does not fit
 pub record Unassigned (script : Script) (classes : List Class) (t v : Typed) (c : Option Calculator) : Type 0 where
   pub unfit : c ≡ None → fits classes t.ty v.ty ≡ false → Mismatch script v.at
-  pub unmet : (by : Calculator) → c ≡ Some by → Unmet script (binary_of by) (made t.at t.ty Null) v
+  pub unmet : (by : Calculator) → c ≡ Some by → Unmet script (binary_of by) (term_at t.at t.ty Null) v
   pub uncounted : (by : Calculator) → c ≡ Some by → may_be_integer t.ty ≡ false → Mismatch script t.at
 
 updated_in : (script : Script) (at : ℕ) (of : Ty) (p : Place) (c : Calculator) (v : Typed) → HasStart script.tokens at
-    → HasStart script.tokens v.at → Unmet script (binary_of c) (made at of Null) v
+    → HasStart script.tokens v.at → Unmet script (binary_of c) (term_at at of Null) v
     → (may_be_integer of ≡ false → Mismatch script at) → At script (updated at of p c v)
 updated_in script at of p c v h k y z =
-    bind (met_in script (binary_of c) (made at of Null) v h k y) (λ m left.
+    bind (met_in script (binary_of c) (term_at at of Null) v h k y) (λ m left.
     bind (integer_in script at of h z) (λ kind u. fine h))
 
 stored_in : (script : Script) (classes : List Class) (t : Typed) (p : Place) (c : Option Calculator) (v : Typed)

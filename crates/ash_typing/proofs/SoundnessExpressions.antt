@@ -33,7 +33,7 @@ use Rattle.ash_typing.specs.declared.forms.Callable.TheVariants as callables
 use Rattle.ash_typing.specs.declared.forms.Form.{Form}
 use Rattle.ash_typing.specs.declared.forms.Form.TheVariants as form
 use Rattle.ash_typing.specs.declared.forms.OperatorClass.TheVariants as sort
-use Rattle.ash_typing.specs.Types.{signed, object_of, result_type, sort_of, binary_of, meets, outcome, ty_of_element}
+use Rattle.ash_typing.specs.Types.{signed, object_of, result_type, operator_class_of, binary_of, meets, outcome, ty_of_element}
 use Rattle.ash_typing.specs.Types.{var_type}
 use Rattle.ash_typing.specs.Environment.{Environment, Known, Callee, Invoked, variable_in, callee_in, member_in}
 use Rattle.ash_typing.specs.Environment.{method_in}
@@ -207,9 +207,9 @@ by_shift env c a u j k at s p h e =
 
 updated_sound : (env : Environment) (c : Calculator) (a : Ty) (u : Term) (j k : Kind) (at : Place)
     → sound.HasPlace (seen_in env) at (vars.Integer k) → GivesType env u.tree u.ty
-    → meets (sort_of (binary_of c)) a u.ty ≡ Some (operands.Integers j)
+    → meets (operator_class_of (binary_of c)) a u.ty ≡ Some (operands.Integers j)
     → GivesType env
-    (Update at k (record { operator = c; of = j }) (right_by (sort_of (binary_of c)) (operands.Integers j) u))
+    (Update at k (record { operator = c; of = j }) (right_by (operator_class_of (binary_of c)) (operands.Integers j) u))
     (ty.Integer k)
 updated_sound env calculators.Multiply a u j k at p h e = by_arithmetic env calculators.Multiply a u j k at p h e
 updated_sound env calculators.Divide a u j k at p h e = by_arithmetic env calculators.Divide a u j k at p h e
@@ -347,16 +347,16 @@ mutual
       (sound.assign (assigned_place env t.form t.tree t.ty at (term_sound h known).place i) is.1
       (fits_sound env t.ty u (known_type h known) (known_type k known) (term_sound k known).gives l)))
   term_sound {env} (update {c = c} {t = t} {u = u} {at = at} {j = j} {k = k} f h i s l m n) known =
-      let right = adapted_to (sort_of (binary_of c)) (term t.ty Null) u in
-      let made = updated_sound env c (adapted_to (sort_of (binary_of c)) u (term t.ty Null)).ty right j k at
+      let right = adapted_to (operator_class_of (binary_of c)) (term t.ty Null) u in
+      let term_at = updated_sound env c (adapted_to (operator_class_of (binary_of c)) u (term t.ty Null)).ty right j k at
       (integer_place env t at k (term_sound h known) i l)
-      (adapted_sound env (sort_of (binary_of c)) (term t.ty Null) u (term_sound m known).gives) n in
+      (adapted_sound env (operator_class_of (binary_of c)) (term t.ty Null) u (term_sound m known).gives) n in
       plain env t.ty
       (Update at k (record { operator = c; of = j })
       (right_of (binary_of c) (operands.Integers j) (term t.ty Null) u))
       (subst (GivesType env
       (Update at k (record { operator = c; of = j })
-      (right_of (binary_of c) (operands.Integers j) (term t.ty Null) u))) (sym l) made)
+      (right_of (binary_of c) (operands.Integers j) (term t.ty Null) u))) (sym l) term_at)
 
   pub terms_sound : {env : Environment} {es : written.Exprs} {ts : List Term} → AllHaveType env es ts → IsKnown env
       → AllByRecursion (IsArgument env) ts
@@ -367,7 +367,7 @@ mutual
       → IsKnownType t.ty → IsSound env t → IsSound env u
   links_sound no_more known k h = h
   links_sound {env} (operated {op = op} {t = t} {u = u} {o = o} e m rest) known k h =
-      let s = sort_of op in
+      let s = operator_class_of op in
       let left = adapted_to s u t in
       let right = adapted_to s t u in
       links_sound rest known (outcome_known s o)

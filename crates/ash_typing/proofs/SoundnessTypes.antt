@@ -27,7 +27,7 @@ use Rattle.ash_typing.specs.declared.forms.OperatorClass.TheVariants as sort
 use Rattle.ash_typing.specs.declared.forms.Form.{Form}
 use Rattle.ash_typing.specs.declared.forms.Form.TheVariants as form
 use Rattle.ash_typing.specs.Types.{is_same_kind, is_same_element, is_same_object, holds, kind_of, meeting, common}
-use Rattle.ash_typing.specs.Types.{gives_object, agrees, sort_of, meets, outcome, var_type, value_type}
+use Rattle.ash_typing.specs.Types.{gives_object, agrees, operator_class_of, meets, outcome, var_type, value_type}
 use Rattle.ash_typing.specs.Environment.{Environment, Class}
 use Rattle.ash_typing.specs.Coercions.{has_interface, lists, is_of, fits}
 use Rattle.ash_typing.specs.Terms.{conversion, operand_type, applied, Term, converted_to, taking, adapted_to, right_by}
@@ -235,8 +235,8 @@ met_sound env sort.Equality a b f x y o k l h i e = equality_sound env a b f x y
 met_sound env sort.Identity a b f x y o k l h i e = identity_sound env a b f x y o k l h i e
 met_sound env sort.Logic a b f x y o k l h i e = logic_sound env a b f x y o h i e
 
-applied_sound : (env : Environment) (op : BinaryOp) (o : Operands) (a b : Expr) → AreOperands env (sort_of op) o a b
-    → GivesType env (applied op o a b) (outcome (sort_of op) o)
+applied_sound : (env : Environment) (op : BinaryOp) (o : Operands) (a b : Expr) → AreOperands env (operator_class_of op) o a b
+    → GivesType env (applied op o a b) (outcome (operator_class_of op) o)
 applied_sound env binary.Multiply (operands.Integers k) a b h = sound.calculate h.0 h.1
 applied_sound env binary.Divide (operands.Integers k) a b h = sound.calculate h.0 h.1
 applied_sound env binary.Remainder (operands.Integers k) a b h = sound.calculate h.0 h.1
@@ -276,12 +276,12 @@ applied_sound env op o a b h = absurd h
 -- an operator between two operands that it takes
 pub operated_sound : (env : Environment) (op : BinaryOp) (o : Operands) (t u : Term) → is_known t.ty ≡ true
     → is_known u.ty ≡ true → GivesType env t.tree t.ty → GivesType env u.tree u.ty
-    → meets (sort_of op) t.ty u.ty ≡ Some o
-    → GivesType env (applied op o (converted_to (operand_type o) t) (right_by (sort_of op) o u))
-    (outcome (sort_of op) o)
+    → meets (operator_class_of op) t.ty u.ty ≡ Some o
+    → GivesType env (applied op o (converted_to (operand_type o) t) (right_by (operator_class_of op) o u))
+    (outcome (operator_class_of op) o)
 operated_sound env op o t u k l h i e =
-    applied_sound env op o (converted_to (operand_type o) t) (right_by (sort_of op) o u)
-    (met_sound env (sort_of op) t.ty u.ty u.form t.tree u.tree o k l h i e)
+    applied_sound env op o (converted_to (operand_type o) t) (right_by (operator_class_of op) o u)
+    (met_sound env (operator_class_of op) t.ty u.ty u.form t.tree u.tree o k l h i e)
 
 -- branches
 

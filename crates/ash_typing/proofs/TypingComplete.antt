@@ -25,7 +25,7 @@ use Rattle.ash_typed.specs.declared.tree.operations.Operands.{Operands}
 use Rattle.ash_typed.specs.declared.tree.operations.Operands.TheVariants as operands
 use Rattle.ash_typed.specs.declared.tree.operations.Step.{Step}
 use Rattle.ash_typed.specs.declared.tree.operations.Step.TheVariants as steps
-use Rattle.ash_typing.specs.Types.{var_type, signed, common, object_of, ty_of, ty_of_element, sort_of, outcome}
+use Rattle.ash_typing.specs.Types.{var_type, signed, common, object_of, ty_of, ty_of_element, operator_class_of, outcome}
 use Rattle.ash_typing.specs.Types.{binary_of}
 use Rattle.ash_typed.specs.Tree.{Expr, Exprs, Null, Read, Invoke, Cast, Alter, Conditional, Assign, Update, Count, Call}
 use Rattle.ash_typed.specs.Tree.{Place, Held, Indexed, no_expr, expr}
@@ -35,7 +35,7 @@ use Rattle.ash_typing.specs.Environment.{Environment, Class, Callee, Invoked, ca
 use Rattle.ash_typing.specs.Expressions.{Typed, typed, all_typed, links_typed, suffixes_typed, suffix_typed, call_typed}
 use Rattle.ash_typing.specs.Expressions.{invocation_typed, called, arguments_at, all_coerced, coerced_for_assignment, operate, counted}
 use Rattle.ash_typing.specs.Expressions.{unary_at, convert_at, choice, assigned, stored, is_assign, field_of, method_of}
-use Rattle.ash_typing.specs.Expressions.{invoked, made, read_at, indexed, array_typed, cast_type, cast_at, placed}
+use Rattle.ash_typing.specs.Expressions.{invoked, term_at, read_at, indexed, array_typed, cast_type, cast_at, placed}
 use Rattle.ash_typing.specs.Expressions.{all_placed, term_of, first_at}
 use Rattle.ash_typing.specs.Typing.{HasType, AllHaveType, LinksHaveType, SuffixesHaveType, SuffixHasType, AreArguments}
 use Rattle.ash_typing.specs.Typing.{no_arguments, argument, IsCastType, to_class, to_interface, number, truth, null}
@@ -94,7 +94,7 @@ call_is : (env : Environment) (at : ℕ) (text : List ℕ) (es : written.Exprs) 
     (us : List Typed) (trees : Exprs) → callee_in env text ≡ Some callee → callee.parameters ≡ Some parameters
     → all_typed env es ≡ Ok us → AreArguments env.declarations.classes parameters (terms us) trees
     → call_typed env at text (all_typed env es)
-    ≡ Ok (made at callee.result (call_of callee.target (map var_type parameters) trees))
+    ≡ Ok (term_at at callee.result (call_of callee.target (map var_type parameters) trees))
 unfolding called
 call_is env at text es callee parameters us trees c p e a =
     rw (c, e, p, arguments_is env.declarations.classes at parameters us trees a) refl
@@ -170,7 +170,7 @@ handle_written_is at b t = refl
 
 operate_is : (op : BinaryOp) (t u : Term) (o : Operands) (a b : ℕ) → Meet op t u o
     → operate op (placed a t) (placed b u)
-    ≡ Ok (placed a (term (outcome (sort_of op) o) (applied op o (left_of op o t u) (right_of op o t u))))
+    ≡ Ok (placed a (term (outcome (operator_class_of op) o) (applied op o (left_of op o t u) (right_of op o t u))))
 unfolding operate
 operate_is op t u o a b h = rw (met_is op t u o a b h) refl
 
@@ -237,7 +237,7 @@ array_is : (env : Environment) (at : ℕ) (of : written.Element) (es : written.E
     → all_typed env es ≡ Ok us → length us ≡ count
     → AreArguments env.declarations.classes (array_parameters count) (terms us) trees
     → array_typed env at of (all_typed env es)
-    ≡ Ok (made at (ty.Handle (objects.Array elements))
+    ≡ Ok (term_at at (ty.Handle (objects.Array elements))
     (Call (targets.Array elements) (map var_type (array_parameters count)) trees))
 unfolding called
 array_is env at of es elements us count trees n e c a =

@@ -25,7 +25,7 @@ use Rattle.ash_typed.specs.declared.tree.operations.Member.{Member}
 use Rattle.ash_typed.specs.declared.tree.operations.Operands.{Operands}
 use Rattle.ash_typed.specs.declared.tree.operations.Operands.TheVariants as operands
 use Rattle.ash_typing.specs.Types.{is_variable, is_result, var_type, result_type, ty_of, ty_of_element, common}
-use Rattle.ash_typing.specs.Types.{gives_object, meeting, holds, sort_of, outcome}
+use Rattle.ash_typing.specs.Types.{gives_object, meeting, holds, operator_class_of, outcome}
 use Rattle.ash_typed.specs.declared.tree.operations.Variable.TheVariants as variables
 use Rattle.ash_typed.specs.declared.tree.operations.Member.TheVariants.{Field}
 use Rattle.ash_typed.specs.declared.tree.operations.Method.TheVariants as methods
@@ -376,7 +376,7 @@ mutual
   pub links_known : {env : Environment} {t : Term} {ls : written.Links} {u : Term} → LinksHaveType env t ls u
       → IsKnown env → IsKnownType t.ty → IsKnownType u.ty
   links_known no_more known h = h
-  links_known (operated {op = op} {o = o} e m rest) known h = links_known rest known (outcome_known (sort_of op) o)
+  links_known (operated {op = op} {o = o} e m rest) known h = links_known rest known (outcome_known (operator_class_of op) o)
 
   pub suffixes_known : {env : Environment} {t : Term} {ss : written.Suffixes} {u : Term} → SuffixesHaveType env t ss u
       → IsKnown env → IsKnownType t.ty → IsKnownType u.ty

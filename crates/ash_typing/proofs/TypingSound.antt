@@ -20,9 +20,9 @@ use Rattle.ash_typed.specs.Tree.{Truth, Null, Read, Invoke, Assign, Update, Plac
 use Rattle.ash_typing.specs.ModuleDeclarations.{object_named}
 use Rattle.ash_typing.specs.Environment.{Environment, Class, Invoked, variable_in, member_in, method_in}
 use Rattle.ash_typing.specs.Expressions.{Typed, UnifiedOperands, typed, all_typed, links_typed, suffixes_typed, suffix_typed}
-use Rattle.ash_typing.specs.Expressions.{invocation_typed, arguments_at, coerced_for_assignment, met, unary_at, integer_of, convert_at}
+use Rattle.ash_typing.specs.Expressions.{invocation_typed, arguments_at, coerced_for_assignment, unify_operands, unary_at, integer_of, convert_at}
 use Rattle.ash_typing.specs.Expressions.{choice, assigned, assigned_to, stored, updated, is_assign, field_of, member_at}
-use Rattle.ash_typing.specs.Expressions.{method_of, invoked, invoked_at, made, read_at, indexed, cast_type, cast_at}
+use Rattle.ash_typing.specs.Expressions.{method_of, invoked, invoked_at, term_at, read_at, indexed, cast_type, cast_at}
 use Rattle.ash_typing.specs.Expressions.{placed, term_of}
 use Rattle.ash_typing.specs.Typing.{IsKnown, is_known, HasType, AllHaveType, LinksHaveType, SuffixesHaveType}
 use Rattle.ash_typing.specs.Typing.{SuffixHasType, number, truth, null, postfix, binary, assign, update, none_left}
@@ -60,9 +60,9 @@ plain_sound : (env : Environment) (left : Bool) (p : place.Place) (e v : written
 unfolding assigned stored
 plain_sound env left p e v t u r d f h =
     let a = assigned_ok env.declarations.classes t u assigns.Assign (assignable t.form t.tree) r h in
-    let tree = bind_ok (coerced_for_assignment env.declarations.classes t.ty u) (λ e. Ok (made t.at t.ty (Assign a.0 e))) r ((a.2).1) in
+    let tree = bind_ok (coerced_for_assignment env.declarations.classes t.ty u) (λ e. Ok (term_at t.at t.ty (Assign a.0 e))) r ((a.2).1) in
     let fit = coerced_for_assignment_ok env.declarations.classes t.ty u tree.0 tree.1 in
-    at_ok (λ r. HasType env left (written.Assign p e assigns.Assign v) (term_of r)) (made t.at t.ty (Assign a.0 tree.0))
+    at_ok (λ r. HasType env left (written.Assign p e assigns.Assign v) (term_of r)) (term_at t.at t.ty (Assign a.0 tree.0))
     r tree.2 (rw (← fit.1) (assign d a.1 ((a.2).0) f fit.0))
 
 update_sound : (env : Environment) (left : Bool) (p : place.Place) (op : AssignOp) (c : Calculator) (e v : written.Expr)
@@ -74,15 +74,15 @@ update_sound env left p op c e v t u r is d f known as_value h =
     let a = assigned_ok env.declarations.classes t u op (assignable t.form t.tree) r h in
     let whole : updated t.at t.ty a.0 c u ≡ Ok r =
     subst (λ q. stored env.declarations.classes t.at t.ty a.0 q u ≡ Ok r) is ((a.2).1) in
-    let m = bind_ok (met (binary_of c) (made t.at t.ty Null) u)
+    let m = bind_ok (unify_operands (binary_of c) (term_at t.at t.ty Null) u)
     (λ m. integer_of t.at t.ty
-    >>= λ k. Ok (made t.at (ty.Integer k)
+    >>= λ k. Ok (term_at t.at (ty.Integer k)
     (Update a.0 k (record { operator = c; of = integers_in m.operands }) m.right))) r whole in
     let k = bind_ok (integer_of t.at t.ty)
-    (λ k. Ok (made t.at (ty.Integer k)
+    (λ k. Ok (term_at t.at (ty.Integer k)
     (Update a.0 k (record { operator = c; of = integers_in (m.0).operands }) (m.0).right))) r m.2 in
     let i = integer_ok t.at t.ty k.0 known k.1 in
-    let n = met_ok (binary_of c) (made t.at t.ty Null) u m.0 known as_value m.1 in
+    let n = met_ok (binary_of c) (term_at t.at t.ty Null) u m.0 known as_value m.1 in
     let integers : n.0 ≡ operands.Integers (integers_in n.0) = calculated_integers c _ _ n.0 n.1 in
     let rule = update is d a.1 ((a.2).0) i f
     (subst (λ (o : Operands). Meet (binary_of c) (term t.ty Null) (term_of u) o) integers n.1) in
@@ -101,7 +101,7 @@ update_sound env left p op c e v t u r is d f known as_value h =
     (term (ty.Integer k.0) (Update a.0 k.0 (record { operator = c; of = integers_in m.operands }) m.right))) n.2
     kind in
     at_ok (λ r. HasType env left (written.Assign p e op v) (term_of r))
-    (made t.at (ty.Integer k.0)
+    (term_at t.at (ty.Integer k.0)
     (Update a.0 k.0 (record { operator = c; of = integers_in (m.0).operands }) (m.0).right)) r k.2 all
 
 assign_sound : (env : Environment) (left : Bool) (p : place.Place) (op : AssignOp) (e v : written.Expr) (t u r : Typed)
@@ -156,9 +156,9 @@ method_sound env t p text es r known all h =
     let called : invoked env.declarations.classes t p.at a.0 (Some found) ≡ Ok r =
     subst (λ m. invoked env.declarations.classes t p.at a.0 m ≡ Ok r) (sym ((i.2).2)) a.2 in
     let b = bind_ok (arguments_at env.declarations.classes p.at found.parameters a.0)
-    (λ es. Ok (made t.at found.result (Invoke t.tree found.method (map var_type found.parameters) es))) r called in
+    (λ es. Ok (term_at t.at found.result (Invoke t.tree found.method (map var_type found.parameters) es))) r called in
     at_ok (λ r. SuffixHasType env (term_of t) (written.Method p text es) (term_of r))
-    (made t.at found.result (Invoke t.tree found.method (map var_type found.parameters) b.0)) r b.2
+    (term_at t.at found.result (Invoke t.tree found.method (map var_type found.parameters) b.0)) r b.2
     (method i.1 ((i.2).1) (all a.0 a.1) (arguments_ok env.declarations.classes p.at found.parameters a.0 b.0 b.1))
 
 -- the walk
@@ -177,9 +177,9 @@ mutual
   sound env known left (written.Number p n) r h =
       at_ok (λ r. HasType env left (written.Number p n) (term_of r)) (placed p.at (number_term n)) r h number
   sound env known left (written.Truth p b) r h =
-      at_ok (λ r. HasType env left (written.Truth p b) (term_of r)) (made p.at ty.Bool (Truth b)) r h truth
+      at_ok (λ r. HasType env left (written.Truth p b) (term_of r)) (term_at p.at ty.Bool (Truth b)) r h truth
   sound env known left (written.Null p) r h =
-      at_ok (λ r. HasType env left (written.Null p) (term_of r)) (made p.at ty.Null Null) r h null
+      at_ok (λ r. HasType env left (written.Null p) (term_of r)) (term_at p.at ty.Null Null) r h null
   sound env known left (written.This p) r h = this_sound env left p env.this r refl h
   sound env known left (written.Name p text) r h = name_sound env left p text (variable_in env text) r refl h
   sound env known left (written.Call p text es) r h = call_sound env left p text es r (all_sound env known es) h

@@ -24,7 +24,7 @@ use Rattle.ash_typing.specs.ModuleDeclarations.{object_named, element_named}
 use Rattle.ash_typing.specs.Environment.{Environment, Class, Known, Callee, variable_in, callee_in, array_built}
 use Rattle.ash_typing.specs.Expressions.{Typed, typed, all_typed, call_typed, called, callee_at, known_at, this_at}
 use Rattle.ash_typing.specs.Expressions.{arguments_at, all_coerced, coerced_for_assignment, coerced, integer_of, bool_of, handle_of}
-use Rattle.ash_typing.specs.Expressions.{convert_at, converting, made, read_at, integer_at, in_brackets, index_in}
+use Rattle.ash_typing.specs.Expressions.{convert_at, converting, term_at, read_at, integer_at, in_brackets, index_in}
 use Rattle.ash_typing.specs.Expressions.{indexed_object, indexed, at_element, known_element, array_typed, cast_type}
 use Rattle.ash_typing.specs.Expressions.{cast_at, term_of}
 use Rattle.ash_typing.specs.Typing.{is_known, HasType, AllHaveType, AreArguments, no_arguments, argument, IsCastType}
@@ -110,7 +110,7 @@ pub this_sound : (env : Environment) (left : Bool) (p : place.Place) (found : Op
 this_sound env left p None r e h = absurd (no_fault _ r h)
 this_sound env left p (Some class) r e h =
     at_ok (λ r. HasType env left (written.This p) (term_of r))
-    (made p.at (ty.Handle (objects.Class class)) (This class)) r h (this e)
+    (term_at p.at (ty.Handle (objects.Class class)) (This class)) r h (this e)
 
 pub name_sound : (env : Environment) (left : Bool) (p : place.Place) (text : List ℕ) (found : Option Known) (r : Typed)
     → variable_in env text ≡ found → known_at p.at found ≡ Ok r → HasType env left (written.Name p text) (term_of r)
@@ -121,21 +121,21 @@ name_sound env left p text (Some known) r e h =
 pub called_with : (classes : List Class) (at : ℕ) (callee : Callee) (ts : List Typed) (ps : List Ty) (r : Typed)
     → called classes at callee ts (Some ps) ≡ Ok r
     → (trees : Exprs) × AreArguments classes ps (terms ts) trees
-    × (made at callee.result (call_of callee.target (map var_type ps) trees) ≡ r)
+    × (term_at at callee.result (call_of callee.target (map var_type ps) trees) ≡ r)
 unfolding called
 called_with classes at callee ts ps r h =
     let a = bind_ok (arguments_at classes at ps ts)
-    (λ es. Ok (made at callee.result (call_of callee.target (map var_type ps) es))) r h in (
+    (λ es. Ok (term_at at callee.result (call_of callee.target (map var_type ps) es))) r h in (
       a.0,
       arguments_ok classes at ps ts a.0 a.1,
-      same_ok (made at callee.result (call_of callee.target (map var_type ps) a.0)) r a.2,
+      same_ok (term_at at callee.result (call_of callee.target (map var_type ps) a.0)) r a.2,
     )
 
 pub called_ok : (classes : List Class) (at : ℕ) (callee : Callee) (ts : List Typed) (parameters : Option (List Ty))
     (r : Typed) → called classes at callee ts parameters ≡ Ok r
     → (ps : List Ty) × (parameters ≡ Some ps)
     × ((trees : Exprs) × AreArguments classes ps (terms ts) trees
-    × (made at callee.result (call_of callee.target (map var_type ps) trees) ≡ r))
+    × (term_at at callee.result (call_of callee.target (map var_type ps) trees) ≡ r))
 unfolding called
 called_ok classes at callee ts None r h = absurd (no_fault _ r h)
 called_ok classes at callee ts (Some ps) r h = (ps, refl, called_with classes at callee ts ps r h)
@@ -177,8 +177,8 @@ pub convert_sound : (env : Environment) (left : Bool) (p : place.Place) (to : Pr
     → HasType env left (written.Convert p to e) (term_of r)
 unfolding convert_at
 convert_sound env left p primitives.Bool e u r d known h =
-    let b = bind_ok (bool_of u.at u.ty) (λ yes. Ok (made p.at ty.Bool u.tree)) r h in
-    at_ok (λ r. HasType env left (written.Convert p primitives.Bool e) (term_of r)) (made p.at ty.Bool u.tree) r b.2
+    let b = bind_ok (bool_of u.at u.ty) (λ yes. Ok (term_at p.at ty.Bool u.tree)) r h in
+    at_ok (λ r. HasType env left (written.Convert p primitives.Bool e) (term_of r)) (term_at p.at ty.Bool u.tree) r b.2
     (to_bool d refl (bool_ok u.at u.ty b.0 known b.1))
 convert_sound env left p _ e u r d known h = to_integer_sound env left p _ _ e u r d known refl h
 
@@ -266,7 +266,7 @@ pub cast_sound : (env : Environment) (left : Bool) (p : place.Place) (to : writt
     → HasType env left (written.Cast p to e) (term_of r)
 unfolding cast_at
 cast_sound env left p to e o u r n c d known h =
-    let t = bind_ok (handle_of u.at u.ty) (λ h. Ok (made p.at (ty.Handle o) (Cast o u.tree))) r h in
+    let t = bind_ok (handle_of u.at u.ty) (λ h. Ok (term_at p.at (ty.Handle o) (Cast o u.tree))) r h in
     let from = object_ok u.at u.ty t.0 known t.1 in
-    at_ok (λ r. HasType env left (written.Cast p to e) (term_of r)) (made p.at (ty.Handle o) (Cast o u.tree)) r t.2
+    at_ok (λ r. HasType env left (written.Cast p to e) (term_of r)) (term_at p.at (ty.Handle o) (Cast o u.tree)) r t.2
     (cast n c d from.1)

@@ -14,12 +14,12 @@ use Rattle.ash_typed.specs.declared.tree.operations.Operands.{Operands}
 use Rattle.ash_typed.specs.declared.tree.operations.Step.{Step}
 use Rattle.ash_typed.specs.declared.tree.operations.Step.TheVariants as steps
 use Rattle.ash_typing.specs.TypingResult.{◌>>=◌}
-use Rattle.ash_typing.specs.Types.{signed, common, sort_of, outcome, meets, assumed}
+use Rattle.ash_typing.specs.Types.{signed, common, operator_class_of, outcome, meets, assumed}
 use Rattle.ash_typed.specs.Tree.{Expr, Alter, Conditional, Count, Place}
 use Rattle.ash_typing.specs.Environment.{Environment}
-use Rattle.ash_typing.specs.Expressions.{Typed, UnifiedOperands, typed, links_typed, coerced, operate, operated as joined, met}
+use Rattle.ash_typing.specs.Expressions.{Typed, UnifiedOperands, typed, links_typed, coerced, operate, operated as joined, unify_operands}
 use Rattle.ash_typing.specs.Expressions.{unified_as, unified_by, counted, altered, unary_at, integer_of, bool_of, handle_of}
-use Rattle.ash_typing.specs.Expressions.{handle_at, choice, chosen, made, integer_at, placed, term_of}
+use Rattle.ash_typing.specs.Expressions.{handle_at, choice, chosen, term_at, integer_at, placed, term_of}
 use Rattle.ash_typing.specs.Typing.{IsKnown, is_known, HasType, LinksHaveType, plus, minus, complement, not, increment}
 use Rattle.ash_typing.specs.Typing.{decrement, handle, handle_written, conditional, operated, Meet, left_of, right_of}
 use Rattle.ash_typing.proofs.TypingWords.{no_fault, same_ok, bind_ok, unconverted, adapted_is, known_alone, right_is}
@@ -32,14 +32,14 @@ use Rattle.ash_typing.proofs.TypingSoundCalls.{Sound, at_ok, bool_ok, integer_ok
 pub counted_ok : (at : ℕ) (step : Step) (u : Typed) (found : Option Place) (r : Typed) → is_known u.ty ≡ true
     → counted at step u found ≡ Ok r
     → (target : Place) × (found ≡ Some target)
-    × ((k : Kind) × (u.ty ≡ ty.Integer k) × (made at (ty.Integer k) (Count target k step) ≡ r))
+    × ((k : Kind) × (u.ty ≡ ty.Integer k) × (term_at at (ty.Integer k) (Count target k step) ≡ r))
 unfolding counted
 counted_ok at step u None r known h = absurd (no_fault _ r h)
 counted_ok at step u (Some target) r known h =
-    let k = bind_ok (integer_of u.at u.ty) (λ k. Ok (made at (ty.Integer k) (Count target k step))) r h in (
+    let k = bind_ok (integer_of u.at u.ty) (λ k. Ok (term_at at (ty.Integer k) (Count target k step))) r h in (
       target,
       refl,
-      (k.0, integer_ok u.at u.ty k.0 known k.1, same_ok (made at (ty.Integer k.0) (Count target k.0 step)) r k.2),
+      (k.0, integer_ok u.at u.ty k.0 known k.1, same_ok (term_at at (ty.Integer k.0) (Count target k.0 step)) r k.2),
     )
 
 handle_sound : (env : Environment) (left : Bool) (p : place.Place) (e : written.Expr) (u r : Typed)
@@ -49,9 +49,9 @@ handle_sound env true p e u r d known h =
     at_ok (λ r. HasType env true (written.Unary p unary.Handle e) (term_of r))
     (record { at = p.at; ty = u.ty; form = handle_form u.form; tree = u.tree }) r h (handle_written d)
 handle_sound env false p e u r d known h =
-    let t = bind_ok (handle_of u.at u.ty) (λ t. Ok (made p.at t u.tree)) r h in
+    let t = bind_ok (handle_of u.at u.ty) (λ t. Ok (term_at p.at t u.tree)) r h in
     let o = object_ok u.at u.ty t.0 known t.1 in
-    at_ok (λ r. HasType env false (written.Unary p unary.Handle e) (term_of r)) (made p.at t.0 u.tree) r t.2
+    at_ok (λ r. HasType env false (written.Unary p unary.Handle e) (term_of r)) (term_at p.at t.0 u.tree) r t.2
     (rw (← o.2) (handle d o.1))
 
 pub unary_sound : (env : Environment) (left : Bool) (p : place.Place) (op : UnaryOp) (e : written.Expr) (u r : Typed)
@@ -73,9 +73,9 @@ unary_sound env left p unary.BitNot e u r d known h =
     at_ok (λ r. HasType env left (written.Unary p unary.BitNot e) (term_of r))
     (altered p.at k.0 (changes.Complement k.0) u) r k.2 (rw (unconverted k.0 (term_of u) is) (complement d is))
 unary_sound env left p unary.Not e u r d known h =
-    let b = bind_ok (bool_of u.at u.ty) (λ yes. Ok (made p.at ty.Bool (Alter changes.Not u.tree))) r h in
+    let b = bind_ok (bool_of u.at u.ty) (λ yes. Ok (term_at p.at ty.Bool (Alter changes.Not u.tree))) r h in
     at_ok (λ r. HasType env left (written.Unary p unary.Not e) (term_of r))
-    (made p.at ty.Bool (Alter changes.Not u.tree)) r b.2 (not d (bool_ok u.at u.ty b.0 known b.1))
+    (term_at p.at ty.Bool (Alter changes.Not u.tree)) r b.2 (not d (bool_ok u.at u.ty b.0 known b.1))
 unary_sound env left p unary.Increment e u r d known h =
     let c = counted_ok p.at steps.Increment u (assignable u.form u.tree) r known h in
     subst (λ r. HasType env left (written.Unary p unary.Increment e) (term_of r)) ((c.2).2) (increment d c.1 ((c.2).1))
@@ -107,35 +107,35 @@ met_by_ok s t u a b m known as_value h =
           f.2,
     )
 
-pub met_ok : (op : BinaryOp) (t u : Typed) (m : UnifiedOperands) → is_known t.ty ≡ true → is_known u.ty ≡ true → met op t u ≡ Ok m
+pub met_ok : (op : BinaryOp) (t u : Typed) (m : UnifiedOperands) → is_known t.ty ≡ true → is_known u.ty ≡ true → unify_operands op t u ≡ Ok m
     → (o : Operands) × Meet op (term_of t) (term_of u) o
     × (record {
-      left = placed t.at (adapted_to (sort_of op) (term_of u) (term_of t));
+      left = placed t.at (adapted_to (operator_class_of op) (term_of u) (term_of t));
       operands = o;
       right = right_of op o (term_of t) (term_of u);
     } ≡ m)
-unfolding met
+unfolding unify_operands
 met_ok op t u m known as_value h =
-    met_by_ok (sort_of op) (adapted_to (sort_of op) (term_of u) (term_of t))
-    (adapted_to (sort_of op) (term_of t) (term_of u)) t.at u.at m
-    (adapted_known (sort_of op) (term_of u) (term_of t) known)
-    (adapted_known (sort_of op) (term_of t) (term_of u) as_value)
-    (rw (adapted_is (sort_of op) (term_of u) (term_of t) t.at, adapted_is (sort_of op) (term_of t) (term_of u) u.at) at
+    met_by_ok (operator_class_of op) (adapted_to (operator_class_of op) (term_of u) (term_of t))
+    (adapted_to (operator_class_of op) (term_of t) (term_of u)) t.at u.at m
+    (adapted_known (operator_class_of op) (term_of u) (term_of t) known)
+    (adapted_known (operator_class_of op) (term_of t) (term_of u) as_value)
+    (rw (adapted_is (operator_class_of op) (term_of u) (term_of t) t.at, adapted_is (operator_class_of op) (term_of t) (term_of u) u.at) at
     h)
 
 operate_ok : (op : BinaryOp) (t u r : Typed) → is_known t.ty ≡ true → is_known u.ty ≡ true → operate op t u ≡ Ok r
     → (o : Operands) × Meet op (term_of t) (term_of u) o
-    × (term (outcome (sort_of op) o)
+    × (term (outcome (operator_class_of op) o)
     (applied op o (left_of op o (term_of t) (term_of u)) (right_of op o (term_of t) (term_of u))) ≡ term_of r)
 unfolding operate
 operate_ok op t u r known as_value h =
-    let m = bind_ok (met op t u) (λ m. Ok (joined op m)) r h in
+    let m = bind_ok (unify_operands op t u) (λ m. Ok (joined op m)) r h in
     let f = met_ok op t u m.0 known as_value m.1 in
     (f.0, f.1, ap (λ m. term_of (joined op m)) f.2 ∙ ap term_of (same_ok (joined op m.0) r m.2))
 
 linked_by : {env : Environment} {t u v w : Term} {op : BinaryOp} {e : written.Expr} {ls : written.Links} {o : Operands}
     → HasType env false e u → Meet op t u o
-    → term (outcome (sort_of op) o) (applied op o (left_of op o t u) (right_of op o t u)) ≡ v → LinksHaveType env v ls w
+    → term (outcome (operator_class_of op) o) (applied op o (left_of op o t u) (right_of op o t u)) ≡ v → LinksHaveType env v ls w
     → LinksHaveType env t (written.link op e ls) w
 linked_by {env} {w = w} {ls = ls} d m is rest =
     operated d m (subst (λ (v : Term). LinksHaveType env v ls w) (sym is) rest)
@@ -149,13 +149,13 @@ one_link env t op e ls r known as_value sound rest h =
     let both = bind_ok (operate op t u.0) (λ both. links_typed env both ls) r u.2 in
     let d = sound u.0 u.1 in
     let o = operate_ok op t u.0 both.0 as_value (known_type d known) both.1 in
-    let still = subst (λ (v : Term). is_known v.ty ≡ true) o.2 (outcome_known (sort_of op) o.0) in
+    let still = subst (λ (v : Term). is_known v.ty ≡ true) o.2 (outcome_known (operator_class_of op) o.0) in
     linked_by d o.1 o.2 (rest both.0 still both.2)
 
 -- `c ? a : b`
 
 chosen_ok : (c a b : Typed) (found : Option Ty) (r : Typed) → chosen c a b found ≡ Ok r
-    → (of : Ty) × (found ≡ Some of) × (made c.at of (Conditional c.tree (coerced of a) (coerced of b)) ≡ r)
+    → (of : Ty) × (found ≡ Some of) × (term_at c.at of (Conditional c.tree (coerced of a) (coerced of b)) ≡ r)
 chosen_ok c a b None r h = absurd (no_fault _ r h)
 chosen_ok c a b (Some of) r h = (of, refl, same_ok _ r h)
 

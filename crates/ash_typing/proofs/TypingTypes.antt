@@ -21,7 +21,7 @@ use Rattle.ash_typed.specs.TypeOf.{type_of, type_of_place, value, value_of_resul
 use Rattle.ash_typed.specs.declared.types.VarType.{VarType}
 use Rattle.ash_typed.specs.declared.types.VarType.TheVariants as vars
 use Rattle.ash_typing.specs.Types.{var_type, value_type, is_same_kind, gives_object, common, object_of, meeting}
-use Rattle.ash_typing.specs.Types.{sort_of, integers_in, meets, outcome}
+use Rattle.ash_typing.specs.Types.{operator_class_of, integers_in, meets, outcome}
 use Rattle.ash_typing.specs.Environment.{Environment, Declared, Class, Known, first_from, last_named, declares}
 use Rattle.ash_typing.specs.Environment.{this_class, variable_in, callee_in, member_in, method_in, field_in, local_in}
 use Rattle.ash_typing.specs.Environment.{own_field_in, global_in}
@@ -92,8 +92,8 @@ calculated_type : (s : OperatorClass) (o : Operands) → ((k : Kind) → outcome
     → o ≡ operands.Integers (integers_in o) → value (vars.Integer (integers_in o)) ≡ value_type (outcome s o)
 calculated_type s o h e = ap value_type (sym (ap (outcome s) e ∙ h (integers_in o)))
 
-applied_type : (op : BinaryOp) (o : Operands) (a b : Expr) (x y : Ty) → meets (sort_of op) x y ≡ Some o
-    → type_of (applied op o a b) ≡ value_type (outcome (sort_of op) o)
+applied_type : (op : BinaryOp) (o : Operands) (a b : Expr) (x y : Ty) → meets (operator_class_of op) x y ≡ Some o
+    → type_of (applied op o a b) ≡ value_type (outcome (operator_class_of op) o)
 applied_type binary.Multiply o a b x y h = calculated_type sort.Arithmetic o (λ k. refl) (arithmetic_integers x y o h)
 applied_type binary.Divide o a b x y h = calculated_type sort.Arithmetic o (λ k. refl) (arithmetic_integers x y o h)
 applied_type binary.Remainder o a b x y h = calculated_type sort.Arithmetic o (λ k. refl) (arithmetic_integers x y o h)

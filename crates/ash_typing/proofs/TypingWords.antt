@@ -14,8 +14,8 @@ use Rattle.ash_typed.specs.declared.tree.operations.Calculator.TheVariants as ca
 use Rattle.ash_typed.specs.declared.tree.operations.Operands.{Operands}
 use Rattle.ash_typed.specs.declared.tree.operations.Operands.TheVariants as operands
 use Rattle.ash_typing.specs.TypingResult.{TypingResult, ◌>>=◌}
-use Rattle.ash_typing.specs.Types.{is_same_kind, meeting, sort_of, binary_of, integers_in, meets, assumed}
-use Rattle.ash_typing.specs.Expressions.{adapted, met, placed, term_of}
+use Rattle.ash_typing.specs.Types.{is_same_kind, meeting, operator_class_of, binary_of, integers_in, meets, assumed}
+use Rattle.ash_typing.specs.Expressions.{adapted, unify_operands, placed, term_of}
 use Rattle.ash_typing.specs.Typing.{is_known, Meet, right_of}
 use Rattle.ash_typing.specs.Terms.{Term, adapted_to, converted_to, right_by}
 
@@ -93,7 +93,7 @@ pub shift_integers : (x y : Ty) (o : Operands) → meets sort.Shift x y ≡ Some
 shift_integers (ty.Integer j) (ty.Integer k) o h = same_integers j o h
 shift_integers _ _ o h = absurd (none-some o h)
 
-pub calculated_integers : (c : Calculator) (x y : Ty) (o : Operands) → meets (sort_of (binary_of c)) x y ≡ Some o
+pub calculated_integers : (c : Calculator) (x y : Ty) (o : Operands) → meets (operator_class_of (binary_of c)) x y ≡ Some o
     → o ≡ operands.Integers (integers_in o)
 calculated_integers calculators.Multiply x y o h = arithmetic_integers x y o h
 calculated_integers calculators.Divide x y o h = arithmetic_integers x y o h
@@ -112,13 +112,13 @@ right_is sort.Shift o b u = refl
 right_is _ o b u = refl
 
 pub met_is : (op : BinaryOp) (t u : Term) (o : Operands) (a b : ℕ) → Meet op t u o
-    → met op (placed a t) (placed b u)
-    ≡ Ok (record { left = placed a (adapted_to (sort_of op) u t); operands = o; right = right_of op o t u })
-unfolding met
+    → unify_operands op (placed a t) (placed b u)
+    ≡ Ok (record { left = placed a (adapted_to (operator_class_of op) u t); operands = o; right = right_of op o t u })
+unfolding unify_operands
 met_is op t u o a b h =
     rw (
-      adapted_is (sort_of op) u t a,
-      adapted_is (sort_of op) t u b,
-      meets_assumed (sort_of op) (adapted_to (sort_of op) u t).ty (adapted_to (sort_of op) t u).ty o h,
-      right_is (sort_of op) o b (adapted_to (sort_of op) t u),
+      adapted_is (operator_class_of op) u t a,
+      adapted_is (operator_class_of op) t u b,
+      meets_assumed (operator_class_of op) (adapted_to (operator_class_of op) u t).ty (adapted_to (operator_class_of op) t u).ty o h,
+      right_is (operator_class_of op) o b (adapted_to (operator_class_of op) t u),
     ) refl

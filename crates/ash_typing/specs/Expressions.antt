@@ -31,7 +31,7 @@ use Rattle.ash_typed.specs.declared.tree.operations.Operands.{Operands}
 use Rattle.ash_typed.specs.declared.tree.operations.Step.{Step}
 use Rattle.ash_typed.specs.declared.tree.operations.Step.TheVariants as steps
 use Rattle.ash_typing.specs.TypingResult.{TypingResult, ◌>>=◌, broken}
-use Rattle.ash_typing.specs.Types.{var_type, signed, common, ty_of, ty_of_element, sort_of, binary_of, integers_in}
+use Rattle.ash_typing.specs.Types.{var_type, signed, common, ty_of, ty_of_element, operator_class_of, binary_of, integers_in}
 use Rattle.ash_typing.specs.Types.{takes, assumed, meets, outcome}
 use Rattle.ash_typed.specs.Tree.{Expr, Truth, Null, This, Read, Invoke, Cast, Alter, Conditional, Assign, Update, Count}
 use Rattle.ash_typed.specs.Tree.{Place, Held, Indexed, Exprs, no_expr, expr}
@@ -57,8 +57,8 @@ placed at t = record { at = at; ty = t.ty; form = t.form; tree = t.tree }
 abbrev pub term_of : Typed → Term
 term_of t = record { ty = t.ty; form = t.form; tree = t.tree }
 
-abbrev pub made : ℕ → Ty → Expr → Typed
-made at of tree = placed at (term of tree)
+abbrev pub term_at : ℕ → Ty → Expr → Typed
+term_at at of tree = placed at (term of tree)
 
 abbrev pub read_at : ℕ → Ty → Expr → Typed
 read_at at of tree = placed at (read_term of tree)
@@ -110,39 +110,39 @@ unified_as s a b None = broken TypeMismatch (if takes s a.ty then b.at else a.at
 abbrev pub unified_by : OperatorClass → Typed → Typed → TypingResult UnifiedOperands
 unified_by s a b = unified_as s a b (meets s (assumed s b.ty a.ty) (assumed s a.ty b.ty))
 
-unfoldable pub met : BinaryOp → Typed → Typed → TypingResult UnifiedOperands
-met op a b = unified_by (sort_of op) (adapted (sort_of op) b.form b.ty a) (adapted (sort_of op) a.form a.ty b)
+unfoldable pub unify_operands : BinaryOp → Typed → Typed → TypingResult UnifiedOperands
+unify_operands op a b = unified_by (operator_class_of op) (adapted (operator_class_of op) b.form b.ty a) (adapted (operator_class_of op) a.form a.ty b)
 
 abbrev pub operated : BinaryOp → UnifiedOperands → Typed
 operated op m =
-    made m.left.at (outcome (sort_of op) m.operands)
+    term_at m.left.at (outcome (operator_class_of op) m.operands)
     (applied op m.operands (coerced (operand_type m.operands) m.left) m.right)
 
 unfoldable pub operate : BinaryOp → Typed → Typed → TypingResult Typed
-operate op a b = met op a b >>= λ m. Ok (operated op m)
+operate op a b = unify_operands op a b >>= λ m. Ok (operated op m)
 
 -- operators before an operand
 
 unfoldable pub counted : ℕ → Step → Typed → Option Place → TypingResult Typed
 counted at step t None = broken NotAssignable t.at
-counted at step t (Some p) = integer_of t.at t.ty >>= λ k. Ok (made at (ty.Integer k) (Count p k step))
+counted at step t (Some p) = integer_of t.at t.ty >>= λ k. Ok (term_at at (ty.Integer k) (Count p k step))
 
 abbrev pub altered : ℕ → Kind → Change → Typed → Typed
-altered at k change t = made at (ty.Integer k) (Alter change (coerced (ty.Integer k) t))
+altered at k change t = term_at at (ty.Integer k) (Alter change (coerced (ty.Integer k) t))
 
 -- `integer_at at k t` is the value alone, which can't be assigned.
 abbrev pub integer_at : ℕ → Kind → Typed → Typed
-integer_at at k t = made at (ty.Integer k) (coerced (ty.Integer k) t)
+integer_at at k t = term_at at (ty.Integer k) (coerced (ty.Integer k) t)
 
 abbrev pub handle_at : Bool → ℕ → Typed → TypingResult Typed
 handle_at true at t = Ok (record { at = at; ty = t.ty; form = handle_form t.form; tree = t.tree })
-handle_at false at t = handle_of t.at t.ty >>= λ h. Ok (made at h t.tree)
+handle_at false at t = handle_of t.at t.ty >>= λ h. Ok (term_at at h t.tree)
 
 unfoldable pub unary_at : Bool → ℕ → UnaryOp → Typed → TypingResult Typed
 unary_at left at unary.Plus t = integer_of t.at t.ty >>= λ k. Ok (integer_at at k t)
 unary_at left at unary.Minus t = integer_of t.at t.ty >>= λ k. Ok (altered at (signed k) (changes.Negate (signed k)) t)
 unary_at left at unary.BitNot t = integer_of t.at t.ty >>= λ k. Ok (altered at k (changes.Complement k) t)
-unary_at left at unary.Not t = bool_of t.at t.ty >>= λ yes. Ok (made at ty.Bool (Alter changes.Not t.tree))
+unary_at left at unary.Not t = bool_of t.at t.ty >>= λ yes. Ok (term_at at ty.Bool (Alter changes.Not t.tree))
 unary_at left at unary.Increment t = counted at steps.Increment t (assignable t.form t.tree)
 unary_at left at unary.Decrement t = counted at steps.Decrement t (assignable t.form t.tree)
 unary_at left at unary.Handle t = handle_at left at t
@@ -150,7 +150,7 @@ unary_at left at unary.Handle t = handle_at left at t
 -- `prim(e)` converts so.
 abbrev pub converting : ℕ → Ty → Typed → TypingResult Typed
 converting at (ty.Integer k) t = integer_of t.at t.ty >>= λ j. Ok (integer_at at k t)
-converting at _ t = bool_of t.at t.ty >>= λ yes. Ok (made at ty.Bool t.tree)
+converting at _ t = bool_of t.at t.ty >>= λ yes. Ok (term_at at ty.Bool t.tree)
 
 unfoldable pub convert_at : ℕ → Primitive → Typed → TypingResult Typed
 convert_at at to t = converting at (ty_of to) t
@@ -162,7 +162,7 @@ is_void ty.Void = true
 is_void _ = false
 
 abbrev pub chosen : Typed → Typed → Typed → Option Ty → TypingResult Typed
-chosen c a b (Some t) = Ok (made c.at t (Conditional c.tree (coerced t a) (coerced t b)))
+chosen c a b (Some t) = Ok (term_at c.at t (Conditional c.tree (coerced t a) (coerced t b)))
 chosen c a b None = broken TypeMismatch (if is_void a.ty then a.at else b.at)
 
 unfoldable pub choice : Typed → Typed → Typed → TypingResult Typed
@@ -173,11 +173,11 @@ choice c a b = bool_of c.at c.ty >>= λ yes. chosen c a b (common a.ty b.ty)
 -- What is at a place is an operand of its type.
 abbrev pub updated : ℕ → Ty → Place → Calculator → Typed → TypingResult Typed
 updated at of p c v =
-    met (binary_of c) (made at of Null) v >>= λ m. integer_of at of
-    >>= λ k. Ok (made at (ty.Integer k) (Update p k (record { operator = c; of = integers_in m.operands }) m.right))
+    unify_operands (binary_of c) (term_at at of Null) v >>= λ m. integer_of at of
+    >>= λ k. Ok (term_at at (ty.Integer k) (Update p k (record { operator = c; of = integers_in m.operands }) m.right))
 
 unfoldable pub stored : List Class → ℕ → Ty → Place → Option Calculator → Typed → TypingResult Typed
-stored classes at of p None v = coerced_for_assignment classes of v >>= λ e. Ok (made at of (Assign p e))
+stored classes at of p None v = coerced_for_assignment classes of v >>= λ e. Ok (term_at at of (Assign p e))
 stored classes at of p (Some op) v = updated at of p op v
 
 abbrev pub assigned_to : List Class → Typed → AssignOp → Typed → Option Place → TypingResult Typed
@@ -206,7 +206,7 @@ unfoldable pub called : List Class → ℕ → Callee → List Typed → Option 
 called classes at callee ts None = broken NoFactory at
 called classes at callee ts (Some parameters) =
     arguments_at classes at parameters ts
-    >>= λ es. Ok (made at callee.result (call_of callee.target (map var_type parameters) es))
+    >>= λ es. Ok (term_at at callee.result (call_of callee.target (map var_type parameters) es))
 
 abbrev pub callee_at : ℕ → Option Callee → TypingResult Callee
 callee_at at None = broken UnknownName at
@@ -220,7 +220,7 @@ known_at at (Some known) = Ok (read_at at known.1 known.0)
 
 abbrev pub this_at : ℕ → Option ℕ → TypingResult Typed
 this_at at None = broken Misplaced at
-this_at at (Some class) = Ok (made at (ty.Handle (objects.Class class)) (This class))
+this_at at (Some class) = Ok (term_at at (ty.Handle (objects.Class class)) (This class))
 
 -- suffixes
 
@@ -247,10 +247,10 @@ method_of env t ty.Unknown at name = Ok None
 method_of env t _ at name = broken TypeMismatch t.at
 
 unfoldable pub invoked : List Class → Typed → ℕ → List Typed → Option Invoked → TypingResult Typed
-invoked classes t at ts None = Ok (made t.at ty.Unknown Null)
+invoked classes t at ts None = Ok (term_at t.at ty.Unknown Null)
 invoked classes t at ts (Some m) =
     arguments_at classes at m.parameters ts
-    >>= λ es. Ok (made t.at m.result (Invoke t.tree m.method (map var_type m.parameters) es))
+    >>= λ es. Ok (term_at t.at m.result (Invoke t.tree m.method (map var_type m.parameters) es))
 
 abbrev pub in_brackets : ℕ → Typed → Typed
 in_brackets at t = record { at = at; ty = t.ty; form = bracketed t.form; tree = t.tree }
@@ -309,14 +309,14 @@ cast_type at None = broken UnknownType at
 
 -- An object or a handle is cast.
 unfoldable pub cast_at : ℕ → ObjectType → Typed → TypingResult Typed
-cast_at at to t = handle_of t.at t.ty >>= λ h. Ok (made at (ty.Handle to) (Cast to t.tree))
+cast_at at to t = handle_of t.at t.ty >>= λ h. Ok (term_at at (ty.Handle to) (Cast to t.tree))
 
 -- The walk. `left` is whether the expression is left of `=`.
 abbrev mutual
   pub typed : Environment → Bool → written.Expr → TypingResult Typed
   typed env left (written.Number p n) = Ok (placed p.at (number_term n))
-  typed env left (written.Truth p b) = Ok (made p.at ty.Bool (Truth b))
-  typed env left (written.Null p) = Ok (made p.at ty.Null Null)
+  typed env left (written.Truth p b) = Ok (term_at p.at ty.Bool (Truth b))
+  typed env left (written.Null p) = Ok (term_at p.at ty.Null Null)
   typed env left (written.This p) = this_at p.at env.this
   typed env left (written.Name p name) = known_at p.at (variable_in env name)
   typed env left (written.Call p name es) = call_typed env p.at name (all_typed env es)

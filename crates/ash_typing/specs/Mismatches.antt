@@ -23,7 +23,7 @@ use Rattle.ash_typing.specs.Coercions.{fits}
 use Rattle.ash_typing.specs.Environment.{Environment, Class, Callee, Invoked, callee_in, method_in, construction}
 use Rattle.ash_typing.specs.ModuleDeclarations.{declarations, object_named}
 use Rattle.ash_typing.specs.Typing.{is_object}
-use Rattle.ash_typing.specs.Expressions.{Typed, made, is_void, is_assign, met, typed, all_typed}
+use Rattle.ash_typing.specs.Expressions.{Typed, term_at, is_void, is_assign, unify_operands, typed, all_typed}
 use Rattle.ash_typing.specs.Terms.{operator_of, array_parameters}
 use Rattle.ash_typing.specs.Scopes.{Scope, block_of, after}
 use Rattle.ash_typing.specs.Statements.{gives_nothing}
@@ -151,7 +151,7 @@ pub data Mismatches (calls : List Registration) (script : List written.Item) : �
   operands : {env : Environment} {t u : Typed} {op : BinaryOp} {e : written.Expr} {ls : written.Links} {at : ℕ}
       → Occurs calls script (Links env t (written.link op e ls))
       → typed env false e ≡ Ok u
-      → met op t u ≡ broken TypeMismatch at
+      → unify_operands op t u ≡ broken TypeMismatch at
       → Mismatches calls script at
   converted : {env : Environment} {p : Place} {to : Primitive} {e : written.Expr} {t : Typed}
       → Occurs calls script (Expression env (written.Convert p to e))
@@ -194,7 +194,7 @@ pub data Mismatches (calls : List Registration) (script : List written.Item) : �
       → typed env (is_assign op) e ≡ Ok t
       → typed env false v ≡ Ok u
       → operator_of op ≡ Some c
-      → met (binary_of c) (made t.at t.ty Null) u ≡ broken TypeMismatch at
+      → unify_operands (binary_of c) (term_at t.at t.ty Null) u ≡ broken TypeMismatch at
       → Mismatches calls script at
   updated_place : {env : Environment} {p : Place} {op : AssignOp} {c : Calculator} {e v : written.Expr} {t : Typed}
       → Occurs calls script (Expression env (written.Assign p e op v))

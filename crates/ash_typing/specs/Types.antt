@@ -225,30 +225,30 @@ common _ _ = None
 
 -- operators
 
--- `sort_of op` is what an operator between two operands is of.
-abbrev pub sort_of : BinaryOp → OperatorClass
-sort_of binary.Multiply = sort.Arithmetic
-sort_of binary.Divide = sort.Arithmetic
-sort_of binary.Remainder = sort.Arithmetic
-sort_of binary.Add = sort.Arithmetic
-sort_of binary.Subtract = sort.Arithmetic
-sort_of binary.ShiftLeft = sort.Shift
-sort_of binary.ShiftRight = sort.Shift
-sort_of binary.ShiftRightArithmetic = sort.Shift
-sort_of binary.BitAnd = sort.Arithmetic
-sort_of binary.BitXor = sort.Arithmetic
-sort_of binary.BitOr = sort.Arithmetic
-sort_of binary.Less = sort.Order
-sort_of binary.LessOrEqual = sort.Order
-sort_of binary.Greater = sort.Order
-sort_of binary.GreaterOrEqual = sort.Order
-sort_of binary.Equal = sort.Equality
-sort_of binary.NotEqual = sort.Equality
-sort_of binary.Is = sort.Identity
-sort_of binary.NotIs = sort.Identity
-sort_of binary.Xor = sort.Logic
-sort_of binary.And = sort.Logic
-sort_of binary.Or = sort.Logic
+-- `operator_class_of op` is what an operator between two operands is of.
+abbrev pub operator_class_of : BinaryOp → OperatorClass
+operator_class_of binary.Multiply = sort.Arithmetic
+operator_class_of binary.Divide = sort.Arithmetic
+operator_class_of binary.Remainder = sort.Arithmetic
+operator_class_of binary.Add = sort.Arithmetic
+operator_class_of binary.Subtract = sort.Arithmetic
+operator_class_of binary.ShiftLeft = sort.Shift
+operator_class_of binary.ShiftRight = sort.Shift
+operator_class_of binary.ShiftRightArithmetic = sort.Shift
+operator_class_of binary.BitAnd = sort.Arithmetic
+operator_class_of binary.BitXor = sort.Arithmetic
+operator_class_of binary.BitOr = sort.Arithmetic
+operator_class_of binary.Less = sort.Order
+operator_class_of binary.LessOrEqual = sort.Order
+operator_class_of binary.Greater = sort.Order
+operator_class_of binary.GreaterOrEqual = sort.Order
+operator_class_of binary.Equal = sort.Equality
+operator_class_of binary.NotEqual = sort.Equality
+operator_class_of binary.Is = sort.Identity
+operator_class_of binary.NotIs = sort.Identity
+operator_class_of binary.Xor = sort.Logic
+operator_class_of binary.And = sort.Logic
+operator_class_of binary.Or = sort.Logic
 
 -- `typed_operator op` is what an operator is in a typed tree.
 abbrev pub typed_operator : BinaryOp → Operator

@@ -30,7 +30,7 @@ use Rattle.ash_typed.specs.declared.tree.operations.Operands.{Operands}
 use Rattle.ash_typed.specs.declared.tree.operations.Operands.TheVariants as operands
 use Rattle.ash_typed.specs.declared.tree.operations.Step.TheVariants as steps
 use Rattle.ash_typing.specs.Types.{is_variable, is_result, var_type, signed, common, object_of, ty_of, ty_of_element}
-use Rattle.ash_typing.specs.Types.{sort_of, binary_of, meets, outcome}
+use Rattle.ash_typing.specs.Types.{operator_class_of, binary_of, meets, outcome}
 use Rattle.ash_typed.specs.Tree.{Expr, Truth, Null, This, Read, Invoke, Cast, Call, Alter, Conditional, Assign, Update}
 use Rattle.ash_typed.specs.Tree.{Count, Place, Held, Indexed, Exprs, no_expr, expr}
 use Rattle.ash_typing.specs.Coercions.{fits}
@@ -85,15 +85,15 @@ pub record IsKnown (env : Environment) : Type 0 where
 
 -- The operator takes the two terms, each adapted to the other, for these operands.
 abbrev pub Meet : BinaryOp → Term → Term → Operands → Type 0
-Meet op t u o = meets (sort_of op) (adapted_to (sort_of op) u t).ty (adapted_to (sort_of op) t u).ty ≡ Some o
+Meet op t u o = meets (operator_class_of op) (adapted_to (operator_class_of op) u t).ty (adapted_to (operator_class_of op) t u).ty ≡ Some o
 
 -- `left_of` is what becomes of the left operand.
 abbrev pub left_of : BinaryOp → Operands → Term → Term → Expr
-left_of op o t u = converted_to (operand_type o) (adapted_to (sort_of op) u t)
+left_of op o t u = converted_to (operand_type o) (adapted_to (operator_class_of op) u t)
 
 -- `right_of` is what becomes of the right operand.
 abbrev pub right_of : BinaryOp → Operands → Term → Term → Expr
-right_of op o t u = right_by (sort_of op) o (adapted_to (sort_of op) t u)
+right_of op o t u = right_by (operator_class_of op) o (adapted_to (operator_class_of op) t u)
 
 -- As many arguments as parameters, each of which fits its parameter and is converted to its type.
 pub data AreArguments (classes : List Class) : List Ty → List Term → Exprs → Type 0 where
@@ -253,7 +253,7 @@ mutual
     operated : {op : BinaryOp} {e : written.Expr} {ls : written.Links} {t u v : Term} {o : Operands}
         → HasType env false e u
         → Meet op t u o
-        → LinksHaveType env (term (outcome (sort_of op) o) (applied op o (left_of op o t u) (right_of op o t u))) ls v
+        → LinksHaveType env (term (outcome (operator_class_of op) o) (applied op o (left_of op o t u) (right_of op o t u))) ls v
         → LinksHaveType env t (written.link op e ls) v
 
   -- Suffixes have the type of the term, with what is before the first.
