@@ -80,14 +80,14 @@ fn unify_adapted(
     })
 }
 
-#[tactic(auto, unfolding(ash_typing::specs::Expressions::met))]
+#[tactic(auto, unfolding(ash_typing::specs::Expressions::unify_operands))]
 pub(crate) fn unify_operands(
     alloc: Global,
     operator: BinaryOp,
     mut left: TypedExpr,
     mut right: TypedExpr,
 ) -> CheckResult<UnifiedOperands>
-    ensures { Agrees unified_of result (typing.met operator (typed_of left) (typed_of right)) }
+    ensures { Agrees unified_of result (typing.unify_operands operator (typed_of left) (typed_of right)) }
 {
     let sort = operator_sort(operator);
     let (form, of) = (right.form, right.ty);
