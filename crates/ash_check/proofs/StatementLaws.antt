@@ -181,7 +181,7 @@ first_is scope kind before done labels i x within is =
     ∙ ap (λ c. cases_after done (cases_typed scope kind before (written.next_case c (written.cases (map case_of (drop (i + 1) labels)))))) (case_is x)
 
 pub cases_step : (done new : List typed_case.Case) (one : typed_case.Case) (scope next : Scope) (kind : Option Kind) (before more : List Label) (labels : List code_case.Case) (i : ℕ) (x : code_case.Case) (known : Label) (body : Stmts) (whole : TypingResult Cases) → new ≡ done ++ one ∷ [] → more ≡ before ++ (code_case.out-Case x).label ∷ [] → next ≡ scope → i < length labels → x ≡ get_or labels i x → known_at kind before x (drop (i + 1) labels) ≡ Ok known → body_at scope x ≡ Ok body → typed_views.case_of one ≡ labelled known body → walked scope kind before (map typed_views.case_of done) (drop i labels) ≡ whole → walked next kind more (map typed_views.case_of new) (drop (i + 1) labels) ≡ whole
-cases_step done new one scope next kind before more labels i x known body whole n m same within is h k term_at so =
+cases_step done new one scope next kind before more labels i x known body whole n m same within is h k one_is so =
     let rest : List code_case.Case = drop (i + 1) labels in
     let earlier : List Case = map typed_views.case_of done in
     let added : List Label = before ++ (code_case.out-Case x).label ∷ [] in
@@ -189,7 +189,7 @@ cases_step done new one scope next kind before more labels i x known body whole 
     ∙ ap (λ y. walked scope kind y (map typed_views.case_of new) rest) m
     ∙ ap (λ y. walked scope kind added (map typed_views.case_of y) rest) n
     ∙ ap (λ y. walked scope kind added y rest) (map-append typed_views.case_of done (one ∷ []))
-    ∙ ap (λ y. walked scope kind added (earlier ++ y ∷ []) rest) term_at
+    ∙ ap (λ y. walked scope kind added (earlier ++ y ∷ []) rest) one_is
     ∙ sym (cases_after_more earlier (labelled known body) (cases_typed scope kind added (written.cases (map case_of rest))))
     ∙ sym (ap (first_label scope kind before earlier x rest (Ok known)) k)
     ∙ sym (ap (λ y. first_label scope kind before earlier x rest y (body_at scope x)) h)
@@ -220,7 +220,7 @@ cases_end done scope kind before labels i whole past so =
 -- the scope of a block, and what is left after a `for`
 
 abbrev pub at_first : Scope → ℕ → Scope
-at_first scope n = record { env = scope.env; first = n; gives = scope.gives; in_loop = scope.in_loop; in_switch = scope.in_switch }
+at_first scope n = record { env = scope.env; first = n; result = scope.result; in_loop = scope.in_loop; in_switch = scope.in_switch }
 
 pub first_is_all : (scope : Scope) (n : ℕ) → n ≡ length scope.env.locals → at_first scope n ≡ block_of scope
 first_is_all scope n h = ap (at_first scope) h

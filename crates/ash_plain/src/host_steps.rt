@@ -75,7 +75,7 @@ impl Activity {
         let Some(before) = self.state_of(target) else {
             return Err(RunError::NoStep);
         };
-        let Some(next) = self.world.answers.prefix() else {
+        let Some(next) = self.world.answers.front() else {
             return Err(RunError::NoStep);
         };
         if !is_of(target, call, before, next) {

@@ -24,7 +24,7 @@ outside s = record { signatures = s; this = None; locals = [] }
 abbrev pub body_scope : Environment → Function → Scope
 body_scope env f = record {
   env = record { signatures = env.signatures; this = env.this; locals = f.parameters };
-  gives = f.result;
+  result = f.result;
   may_break = false;
   may_continue = false;
 }

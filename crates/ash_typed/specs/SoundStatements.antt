@@ -32,7 +32,7 @@ use Rattle.ash_typed.specs.SoundExpressions.{Environment, IsWellTyped, Fits}
 -- next turn of a loop.
 pub record Scope : Type 0 where
   pub env : Environment
-  pub gives : Option VarType
+  pub result : Option VarType
   pub may_break : Bool
   pub may_continue : Bool
 
@@ -42,16 +42,16 @@ with_locals env types = record { signatures = env.signatures; this = env.this; l
 abbrev pub declaring : Scope → List VarType → Scope
 declaring scope types = record {
   env = with_locals scope.env types;
-  gives = scope.gives;
+  result = scope.result;
   may_break = scope.may_break;
   may_continue = scope.may_continue;
 }
 
 abbrev pub in_loop : Scope → Scope
-in_loop scope = record { env = scope.env; gives = scope.gives; may_break = true; may_continue = true }
+in_loop scope = record { env = scope.env; result = scope.result; may_break = true; may_continue = true }
 
 abbrev pub in_switch : Scope → Scope
-in_switch scope = record { env = scope.env; gives = scope.gives; may_break = true; may_continue = scope.may_continue }
+in_switch scope = record { env = scope.env; result = scope.result; may_break = true; may_continue = scope.may_continue }
 
 -- variables
 
@@ -182,10 +182,10 @@ mutual
         → scope.may_continue ≡ true
         → IsStmt scope (Continue line)
     return_nothing : {scope : Scope} {line : ℕ}
-        → scope.gives ≡ None
+        → scope.result ≡ None
         → IsStmt scope (Return line None)
     return_value : {scope : Scope} {line : ℕ} {of : VarType} {e : Expr}
-        → scope.gives ≡ Some of
+        → scope.result ≡ Some of
         → Fits scope.env of e
         → IsStmt scope (Return line (Some e))
 

@@ -137,11 +137,11 @@ return_in : (script : Script) (scope : Scope) (p : place.Place) (e : Option writ
     → OccursIn script (phrases.Statement scope (written.Return p e)) → Fine script (return_typed scope p e)
 unfolding return_typed
 return_in script scope p None h k r =
-    either (gives_nothing scope.gives) (λ b. fine tt)
+    either (gives_nothing scope.result) (λ b. fine tt)
     (λ b. faulty (reserved words.Return, h, refl, meaning.mismatch (mismatches.returned_nothing r b)))
 return_in script scope p (Some e) h k r =
     bind_by (typed_in script scope.env false e k (phrases.returned r)) (λ t a l.
-    bind (returned_in script scope.env.declarations.classes scope.gives p.at t h l (λ b. mismatches.returned_value r b)
+    bind (returned_in script scope.env.declarations.classes scope.result p.at t h l (λ b. mismatches.returned_value r b)
     (λ b. mismatches.returned r a b))
     (λ value u. fine tt))
 

@@ -327,13 +327,13 @@ classes_known calls named (c ∷ cs) h = (
 
 -- what is found, by its place
 abbrev object_at : {A : Type 0} → (ℕ → ObjectType) → Option (ℕ × A) → Option ObjectType
-object_at {A} term_at found = option_map (λ (f : ℕ × A). term_at f.0) found
+object_at {A} of_place found = option_map (λ (f : ℕ × A). of_place f.0) found
 
-same_first : {A : Type 0} (term_at : ℕ → ObjectType) (i : ℕ) (b : Bool) (c d : A) (x y : Option (ℕ × A))
-    → object_at term_at x ≡ object_at term_at y
-    → object_at term_at (cond b (Some (i, c)) x) ≡ object_at term_at (cond b (Some (i, d)) y)
-same_first term_at i true c d x y h = refl
-same_first term_at i false c d x y h = h
+same_first : {A : Type 0} (of_place : ℕ → ObjectType) (i : ℕ) (b : Bool) (c d : A) (x y : Option (ℕ × A))
+    → object_at of_place x ≡ object_at of_place y
+    → object_at of_place (cond b (Some (i, c)) x) ≡ object_at of_place (cond b (Some (i, d)) y)
+same_first of_place i true c d x y h = refl
+same_first of_place i false c d x y h = h
 
 abbrev class_from : List ℕ → ℕ → List Class → Option ObjectType
 class_from name i cs = object_at OfClass (first_from (is_class name) i cs)

@@ -144,12 +144,12 @@ arguments_sound env (argument {of = of} {t = t} e rest) known h =
     sound.argument (fits_sound env of t (variable_is_known of known.0) h.0.1 h.0.0 e)
     (arguments_sound env rest known.1 h.1)
 
-called_sound : (env : Environment) (target : Callable) (parameters : List VarType) (gives : Option VarType)
-    (trees : Exprs) → IsCalled env target parameters gives → sound.AreArguments (seen_in env) parameters trees
-    → sound.IsWellTyped (seen_in env) (call_of target parameters trees) (value_of_result gives)
-called_sound env (callables.OwnMethod class place result) parameters gives trees h args =
+called_sound : (env : Environment) (target : Callable) (parameters : List VarType) (returned : Option VarType)
+    (trees : Exprs) → IsCalled env target parameters returned → sound.AreArguments (seen_in env) parameters trees
+    → sound.IsWellTyped (seen_in env) (call_of target parameters trees) (value_of_result returned)
+called_sound env (callables.OwnMethod class place result) parameters returned trees h args =
     sound.invoke (sound.this h.0) h.1 args
-called_sound env (callables.Target target) parameters gives trees h args = sound.call h args
+called_sound env (callables.Target target) parameters returned trees h args = sound.call h args
 
 -- a call of what takes these parameters
 pub call_sound : (env : Environment) (callee : Callee) (parameters : List Ty) (trees : Exprs)
@@ -348,7 +348,7 @@ mutual
       (fits_sound env t.ty u (known_type h known) (known_type k known) (term_sound k known).gives l)))
   term_sound {env} (update {c = c} {t = t} {u = u} {at = at} {j = j} {k = k} f h i s l m n) known =
       let right = adapted_to (operator_class_of (binary_of c)) (term t.ty Null) u in
-      let term_at = updated_sound env c (adapted_to (operator_class_of (binary_of c)) u (term t.ty Null)).ty right j k at
+      let assigned = updated_sound env c (adapted_to (operator_class_of (binary_of c)) u (term t.ty Null)).ty right j k at
       (integer_place env t at k (term_sound h known) i l)
       (adapted_sound env (operator_class_of (binary_of c)) (term t.ty Null) u (term_sound m known).gives) n in
       plain env t.ty
@@ -356,7 +356,7 @@ mutual
       (right_of (binary_of c) (operands.Integers j) (term t.ty Null) u))
       (subst (GivesType env
       (Update at k (record { operator = c; of = j })
-      (right_of (binary_of c) (operands.Integers j) (term t.ty Null) u))) (sym l) term_at)
+      (right_of (binary_of c) (operands.Integers j) (term t.ty Null) u))) (sym l) assigned)
 
   pub terms_sound : {env : Environment} {es : written.Exprs} {ts : List Term} → AllHaveType env es ts → IsKnown env
       → AllByRecursion (IsArgument env) ts

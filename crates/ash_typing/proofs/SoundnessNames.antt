@@ -129,11 +129,11 @@ method_sound env (OfArray of) text known = let found =
 
 -- it takes these parameters and gives this
 abbrev pub IsCalled : Environment → Callable → List VarType → Option VarType → Type 0
-IsCalled env (callables.OwnMethod class method result) parameters gives =
+IsCalled env (callables.OwnMethod class method result) parameters returned =
     (env.this ≡ Some class)
-    × operations.IsMethod (seen_in env).signatures (OfClass class) (methods.Script class method result) parameters gives
-IsCalled env (callables.Target target) parameters gives =
-    operations.IsTarget (seen_in env).signatures target parameters gives
+    × operations.IsMethod (seen_in env).signatures (OfClass class) (methods.Script class method result) parameters returned
+IsCalled env (callables.Target target) parameters returned =
+    operations.IsTarget (seen_in env).signatures target parameters returned
 
 abbrev pub IsCalledWith : Environment → Callee → List Ty → Type 0
 IsCalledWith env callee parameters =

@@ -45,13 +45,13 @@ use Rattle.ash_typing.specs.Scopes.{Scope, block_of, loop_of, switch_of, with_va
 -- scopes
 
 block_known : (scope : Scope) → IsKnownScope scope → IsKnownScope (block_of scope)
-block_known scope k = record { env = k.env; gives = k.gives }
+block_known scope k = record { env = k.env; result = k.result }
 
 loop_known : (scope : Scope) → IsKnownScope scope → IsKnownScope (loop_of scope)
-loop_known scope k = record { env = k.env; gives = k.gives }
+loop_known scope k = record { env = k.env; result = k.result }
 
 switch_known : (scope : Scope) → IsKnownScope scope → IsKnownScope (switch_of scope)
-switch_known scope k = record { env = k.env; gives = k.gives }
+switch_known scope k = record { env = k.env; result = k.result }
 
 -- what is seen after variables
 declaring_is : (scope : Scope) (v : written.Vars)
@@ -60,7 +60,7 @@ declaring_is : (scope : Scope) (v : written.Vars)
 declaring_is scope v =
     ap (λ env. record {
       env = env;
-      gives = result_type scope.gives;
+      result = result_type scope.result;
       may_break = scope.in_loop || scope.in_switch;
       may_continue = scope.in_loop;
     }) (seen_with scope.env (declared_in scope v))
@@ -70,7 +70,7 @@ nothing_declared scope =
     ap (λ locals.
     record {
       env = record { signatures = scope.env.signatures; this = scope.env.this; locals = locals };
-      gives = scope.gives;
+      result = scope.result;
       may_break = scope.may_break;
       may_continue = scope.may_continue;
     }) (sym (append-nil scope.env.locals))
@@ -83,7 +83,7 @@ switch_is : (scope : Scope) → seen_at (switch_of scope) ≡ sound_statements.i
 switch_is scope =
     ap (λ may. record {
       env = seen_in scope.env;
-      gives = result_type scope.gives;
+      result = result_type scope.result;
       may_break = may;
       may_continue = scope.in_loop;
     }) (either scope.in_loop)
@@ -285,9 +285,9 @@ mutual
       plain scope (written.Return p None) (Return p.line None) refl known
       (sound_statements.return_nothing (ap result_type h))
   stmt_sound {scope} (return_value {p = p} {e = e} {t = t} h i) known nest =
-      plain scope (written.Return p (Some e)) (Return p.line (Some (converted_to scope.gives t))) refl known
-      (sound_statements.return_value (returned_type scope.env.declarations.classes scope.gives t.ty i)
-      (fits_sound scope.env scope.gives t known.gives (known_type h known.env) (term_sound h known.env).gives i))
+      plain scope (written.Return p (Some e)) (Return p.line (Some (converted_to scope.result t))) refl known
+      (sound_statements.return_value (returned_type scope.env.declarations.classes scope.result t.ty i)
+      (fits_sound scope.env scope.result t known.result (known_type h known.env) (term_sound h known.env).gives i))
 
   pub stmts_sound : {scope : Scope} {ss : written.Stmts} {ts : Stmts} → AreStmts scope ss ts → IsKnownScope scope
       → AllDeclareInBlocks ss → sound_statements.AreStmts (seen_at scope) ts

@@ -156,7 +156,7 @@ continue_is : (leaves : Bool) (p : Place) → leaves ≡ true → continue_typed
 unfolding continue_typed
 continue_is leaves p h = rw h refl
 
-nothing_is : (scope : Scope) (p : Place) → scope.gives ≡ ty.Void → return_typed scope p None ≡ Ok (Return p.line None)
+nothing_is : (scope : Scope) (p : Place) → scope.result ≡ ty.Void → return_typed scope p None ≡ Ok (Return p.line None)
 unfolding return_typed
 nothing_is scope p h = rw h refl
 
@@ -175,10 +175,10 @@ unfolding returned
 returned_is classes of at a t h = rw (no_void classes of t.ty h) (coerced_for_assignment_is classes of a t h)
 
 value_is : (scope : Scope) (p : Place) (e : written.Expr) (t : Term)
-    → typed scope.env false e ≡ Ok (placed (first_at e) t) → fits scope.env.declarations.classes scope.gives t.ty ≡ true
-    → return_typed scope p (Some e) ≡ Ok (Return p.line (Some (converted_to scope.gives t)))
+    → typed scope.env false e ≡ Ok (placed (first_at e) t) → fits scope.env.declarations.classes scope.result t.ty ≡ true
+    → return_typed scope p (Some e) ≡ Ok (Return p.line (Some (converted_to scope.result t)))
 unfolding return_typed
-value_is scope p e t h fit = rw (h, returned_is scope.env.declarations.classes scope.gives p.at (first_at e) t fit) refl
+value_is scope p e t h fit = rw (h, returned_is scope.env.declarations.classes scope.result p.at (first_at e) t fit) refl
 
 -- labels
 

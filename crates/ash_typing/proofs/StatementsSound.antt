@@ -62,17 +62,17 @@ more_known scope vs k h = record {
     globals = k.env.globals;
     locals = all_append IsKnownVariable scope.env.locals vs k.env.locals h;
   };
-  gives = k.gives;
+  result = k.result;
 }
 
 block_known : (scope : Scope) → IsKnownScope scope → IsKnownScope (block_of scope)
-block_known scope k = record { env = k.env; gives = k.gives }
+block_known scope k = record { env = k.env; result = k.result }
 
 loop_known : (scope : Scope) → IsKnownScope scope → IsKnownScope (loop_of scope)
-loop_known scope k = record { env = k.env; gives = k.gives }
+loop_known scope k = record { env = k.env; result = k.result }
 
 switch_known : (scope : Scope) → IsKnownScope scope → IsKnownScope (switch_of scope)
-switch_known scope k = record { env = k.env; gives = k.gives }
+switch_known scope k = record { env = k.env; result = k.result }
 
 known_after : (scope : Scope) (s : written.Stmt) (t : Stmt) → IsKnownScope scope → stmt_typed scope s ≡ Ok t
     → IsKnownScope (after scope s)
@@ -288,14 +288,14 @@ return_sound : (scope : Scope) → IsKnownScope scope → (p : Place) (e : Optio
     → return_typed scope p e ≡ Ok t → IsStmt scope (written.Return p e) t
 unfolding return_typed
 return_sound scope k p None t h =
-    if_ok (gives_nothing scope.gives) _ _ (Ok t) h
+    if_ok (gives_nothing scope.result) _ _ (Ok t) h
     (λ b e. subst (IsStmt scope (written.Return p None)) (ok_is _ t e)
-    (return_nothing (nothing_returned scope.gives k.gives b)))
+    (return_nothing (nothing_returned scope.result k.result b)))
     (λ b e. absurd (no_err _ t e))
 return_sound scope k p (Some e) t h =
     let v = bind_ok (typed scope.env false e) _ t h in
-    let r = bind_ok (returned scope.env.declarations.classes scope.gives p.at v.0) _ t v.2 in
-    let s = returned_sound scope.env.declarations.classes scope.gives p.at v.0 r.0 r.1 in
+    let r = bind_ok (returned scope.env.declarations.classes scope.result p.at v.0) _ t v.2 in
+    let s = returned_sound scope.env.declarations.classes scope.result p.at v.0 r.0 r.1 in
     subst (IsStmt scope (written.Return p (Some e))) (ap (λ (x : Expr). Return p.line (Some x)) s.1 ∙ ok_is _ t r.2)
     (return_value (sound scope.env k.env false e v.0 v.1) s.0)
 

@@ -177,7 +177,7 @@ body_sound : (env : Environment) (of : Ty) (body : List written.Stmt) (typed : B
     → body_typed env of body ≡ Ok typed → IsBody env of body typed
 unfolding body_typed
 body_sound env of body typed k known_of h =
-    stmts_sound (body_scope env of) (record { env = k; gives = known_of }) (written.stmts body) typed h
+    stmts_sound (body_scope env of) (record { env = k; result = known_of }) (written.stmts body) typed h
 
 body_complete : (env : Environment) (of : Ty) (body : List written.Stmt) (typed : Body) → IsBody env of body typed
     → body_typed env of body ≡ Ok typed

@@ -171,7 +171,7 @@ pub data IsWrong (calls : List Registration) (script : List written.Item) : Rule
       → IsWrong calls script rules.UnknownName p.at (name text)
   -- no method, function, class or registered type or function has this name
   no_callee : {env : Environment} {p : Place} {text : List ℕ} {es : written.Exprs}
-      → Occurs calls script (Expression env (written.Registration p text es))
+      → Occurs calls script (Expression env (written.Call p text es))
       → callee_in env text ≡ None
       → IsWrong calls script rules.UnknownName p.at (name text)
   -- objects of the type of what is before the point have no field and no property of this name, or no method
@@ -227,7 +227,7 @@ pub data IsWrong (calls : List Registration) (script : List written.Item) : Rule
   -- what is called takes another number of arguments than it is given
   call_count : {env : Environment} {p : Place} {text : List ℕ} {es : written.Exprs} {callee : Callee}
       {parameters : List Ty}
-      → Occurs calls script (Expression env (written.Registration p text es))
+      → Occurs calls script (Expression env (written.Call p text es))
       → callee_in env text ≡ Some callee
       → callee.parameters ≡ Some parameters
       → nat_eq (length parameters) (argument_count es) ≡ false
@@ -252,7 +252,7 @@ pub data IsWrong (calls : List Registration) (script : List written.Item) : Rule
       → IsWrong calls script rules.WrongArgumentCount of_at m
   -- a registered type is constructed, and has no factory
   call_factory : {env : Environment} {p : Place} {text : List ℕ} {es : written.Exprs} {callee : Callee}
-      → Occurs calls script (Expression env (written.Registration p text es))
+      → Occurs calls script (Expression env (written.Call p text es))
       → callee_in env text ≡ Some callee
       → callee.parameters ≡ None
       → IsWrong calls script rules.NoFactory p.at (name text)

@@ -100,7 +100,7 @@ environment_of (Items env before is) = env
 pub data Occurs (calls : List Registration) (script : List written.Item) : Phrase → Type 0 where
   -- expressions
   call_arguments : {env : Environment} {p : Place} {text : List ℕ} {es : written.Exprs}
-      → Occurs calls script (Expression env (written.Registration p text es))
+      → Occurs calls script (Expression env (written.Call p text es))
       → Occurs calls script (Arguments env es)
   in_brackets : {env : Environment} {p : Place} {e : written.Expr}
       → Occurs calls script (Expression env (written.Brackets p e))

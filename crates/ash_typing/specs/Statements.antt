@@ -114,9 +114,9 @@ unfoldable pub returned : List Class → Ty → ℕ → Typed → TypingResult E
 returned classes of at t = if is_void of then broken TypeMismatch at else coerced_for_assignment classes of t
 
 unfoldable pub return_typed : Scope → Place → Option written.Expr → TypingResult Stmt
-return_typed scope p None = if gives_nothing scope.gives then Ok (Return p.line None) else broken TypeMismatch p.at
+return_typed scope p None = if gives_nothing scope.result then Ok (Return p.line None) else broken TypeMismatch p.at
 return_typed scope p (Some e) =
-    typed scope.env false e >>= λ t. returned scope.env.declarations.classes scope.gives p.at t
+    typed scope.env false e >>= λ t. returned scope.env.declarations.classes scope.result p.at t
     >>= λ value. Ok (Return p.line (Some value))
 
 -- the walk

@@ -30,7 +30,7 @@ use Rattle.ash_typing.specs.Scopes.{Scope, block_of, loop_of, switch_of, with_va
 -- The types of a scope are known.
 pub record IsKnownScope (scope : Scope) : Type 0 where
   pub env : IsKnown scope.env
-  pub gives : IsKnownType scope.gives
+  pub result : IsKnownType scope.result
 
 -- Variables of a type are each seen from the end of their own on, and none of their names is taken in the block.
 pub data AreDeclared : Scope → Ty → List written.Decl → List Initialization → Type 0 where
@@ -142,12 +142,12 @@ mutual
         → IsStmt scope (written.Continue p) (Continue p.line)
     -- return; and return e;
     return_nothing : {scope : Scope} {p : place.Place}
-        → scope.gives ≡ ty.Void
+        → scope.result ≡ ty.Void
         → IsStmt scope (written.Return p None) (Return p.line None)
     return_value : {scope : Scope} {p : place.Place} {e : written.Expr} {t : Term}
         → HasType scope.env false e t
-        → fits scope.env.declarations.classes scope.gives t.ty ≡ true
-        → IsStmt scope (written.Return p (Some e)) (Return p.line (Some (converted_to scope.gives t)))
+        → fits scope.env.declarations.classes scope.result t.ty ≡ true
+        → IsStmt scope (written.Return p (Some e)) (Return p.line (Some (converted_to scope.result t)))
 
   -- Statements each see the variables of those before them.
   pub data AreStmts : Scope → written.Stmts → Stmts → Type 0 where
