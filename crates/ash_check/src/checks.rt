@@ -14,7 +14,7 @@ ghost use Rattle.ash_typing.specs.Items as definition;
 ghost use Rattle.ash_typing.specs.Nesting.{ItemsDeclareInBlocks};
 ghost use Rattle.ash_typing.specs.TypedModules.{IsTyped};
 ghost use Rattle.ash_classes.specs.References.{Refers, classes_of, seen};
-ghost use Rattle.ash_classes.specs.Ways.{IsReported, Reaches, AreRanks};
+ghost use Rattle.ash_classes.specs.Ways.{IsReportedCycle, Reaches, AreRanks};
 ghost use Rattle.ash_check.specs.CheckedModules.{IsChecked};
 ghost use Rattle.ash_check.specs.Checks.{Broken, Cyclic, checked, Reports, script_fault_of, name_at, round_of, GoesRoundIfCyclic};
 
@@ -147,7 +147,7 @@ pub fn check_is_exact()
     ensures names { (calls : List Registration) (items : List Item) (names : List (List ℕ)) →
         (checked calls items ≡ Err (Cyclic names)) ↔
         ((typed : modules.Module) × (first : ℕ) × (others : List ℕ) × IsTyped calls items typed ×
-        IsReported (Refers (classes_of items)) first others × (names ≡ round_of (classes_of items) (first, others))) }
+        IsReportedCycle (Refers (classes_of items)) first others × (names ≡ round_of (classes_of items) (first, others))) }
     ensures broken { (calls : List Registration) (items : List Item) (fault : Fault) →
         (checked calls items ≡ Err (Broken fault)) ↔ (definition.module_typed calls items ≡ Err fault) }
 {}

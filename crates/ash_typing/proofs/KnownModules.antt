@@ -30,7 +30,7 @@ use Rattle.ash_typing.specs.TypedModules.{IsSignature, IsInterface, AreInterface
 use Rattle.ash_typing.specs.TypedModules.{environment}
 use Rattle.ash_typing.proofs.Bindings.{bind_ok}
 use Rattle.ash_typing.proofs.TakenNames.{all_append}
-use Rattle.ash_typing.proofs.StatementsSound.{decls_known}
+use Rattle.ash_typing.proofs.StatementPartsSound.{decls_known}
 use Rattle.ash_typing.proofs.TypingKnown.{variable_is_result}
 use Rattle.ash_typing.proofs.TypedVariables.{known_sound}
 use Rattle.ash_typing.proofs.TypedRoutines.{passed_variable, parameters_sound, result_sound}

@@ -36,7 +36,7 @@ use Rattle.ash_typing.specs.Nesting.{IsNoDeclaration, DeclaresInBlocks, AllDecla
 use Rattle.ash_typing.specs.Nesting.{LabelledDeclareInBlocks}
 use Rattle.ash_typing.specs.Soundness.{seen_in, seen_at}
 use Rattle.ash_typing.proofs.TypingKnown.{known_type, variable_is_known}
-use Rattle.ash_typing.proofs.StatementsSound.{decls_known, more_known}
+use Rattle.ash_typing.proofs.StatementPartsSound.{decls_known, more_known}
 use Rattle.ash_typing.proofs.SoundnessTypes.{of_type, within, fits_sound}
 use Rattle.ash_typing.proofs.SoundnessExpressions.{term_sound}
 use Rattle.ash_typing.proofs.SoundnessVariables.{type_sound, seen_with, variables_sound}

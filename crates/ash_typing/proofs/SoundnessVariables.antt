@@ -39,7 +39,7 @@ use Rattle.ash_typing.specs.TypedStatements.{IsKnownScope, AreDeclared, none_dec
 use Rattle.ash_typing.specs.Offered.{factory_at}
 use Rattle.ash_typing.specs.Soundness.{signatures_in, seen_in}
 use Rattle.ash_typing.proofs.TypingKnown.{at_some, if_then, known_type}
-use Rattle.ash_typing.proofs.StatementsSound.{more_known}
+use Rattle.ash_typing.proofs.StatementPartsSound.{more_known}
 use Rattle.ash_typing.proofs.SoundnessLookUps.{found_with}
 use Rattle.ash_typing.proofs.SoundnessNames.{class_takes, host_found, object_sound, element_sound}
 use Rattle.ash_typing.proofs.SoundnessTypes.{fits_sound}

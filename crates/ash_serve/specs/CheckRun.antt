@@ -5,7 +5,7 @@ use Rattle.ash_registry.specs.Calls.{Registration}
 use Rattle.ash_meaning.specs.declared.refusal.Refusal as code
 use Rattle.ash_meaning.specs.Refusals.{Refusal, refusal_of}
 use Rattle.ash_meaning.specs.Refusals as refusals
-use Rattle.ash_meaning.specs.Checking.{CheckResult, checked_source}
+use Rattle.ash_meaning.specs.CheckedSource.{CheckResult, checked_source}
 use Rattle.ash_lines.specs.Source.{Feed, Faults}
 use Rattle.ash_lines.specs.Sink.{Outlet, WritesAll, FailsPartway}
 use Rattle.ash_lines.specs.Reading.{source_prefix}
