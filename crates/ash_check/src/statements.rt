@@ -20,7 +20,7 @@ use crate::scopes::Scope;
 use crate::switches::{LabelContext, check_label, integer_type_in, is_last};
 use ash_expressions::{Binding, CheckResult, Position, check_expr, check_exprs, integer_type};
 use ash_tree::{Case, Expr, Place, Stmt, StmtKind, Vars};
-use ash_typed::{Case as TypedCase, Kind, Stmt as TypedStmt, StmtKind as TypedKind, nodes};
+use ash_typed::{Case as TypedCase, IntType, Stmt as TypedStmt, StmtKind as TypedKind, nodes};
 
 /// The branches of `if` with `else`.
 #[derive(Clone, Copy)]
@@ -356,7 +356,7 @@ fn check_switch<'n>(
 fn check_cases<'n>(
     scope: &Scope<'_, 'n>,
     locals: &mut Vec<Binding<'n>>,
-    kind: Option<Kind>,
+    kind: Option<IntType>,
     labels: &'n [Case],
 ) -> CheckResult<Vec<TypedCase>>
     ensures typed { Agrees cases_in result

@@ -10,11 +10,11 @@ ghost use Rattle.ash_expressions.specs.Agreement.{Agrees};
 
 use ash_expressions::{CheckResult, fault_at, holds};
 use ash_tree::{Case, Label};
-use ash_typed::Kind;
+use ash_typed::IntType;
 use ash_typing::{Rule, Ty};
 
 /// The integer type of the value, where it has one.
-pub(crate) fn integer_type_in(of: Ty) -> Option<Kind>
+pub(crate) fn integer_type_in(of: Ty) -> Option<IntType>
     ensures { result ≡ definition.kind_in of }
 {
     match of {
@@ -24,19 +24,19 @@ pub(crate) fn integer_type_in(of: Ty) -> Option<Kind>
 }
 
 /// Whether a type holds what is this much below zero.
-fn holds_minus(kind: Kind, number: u64) -> bool
+fn holds_minus(kind: IntType, number: u64) -> bool
     ensures { result ≡ constants.holds_minus kind number }
 {
     match kind {
-        Kind::Int => number <= 1 << 31,
-        Kind::Int64 => number <= 1 << 63,
-        Kind::Uint | Kind::Uint64 => number == 0,
+        IntType::Int => number <= 1 << 31,
+        IntType::Int64 => number <= 1 << 63,
+        IntType::Uint | IntType::Uint64 => number == 0,
     }
 }
 
 /// Whether a type holds the constant of a label. No range is known without an integer type.
 #[tactic(auto, unfolding(ash_typing::specs::Switches::is_within))]
-fn is_within(kind: Option<Kind>, label: Label) -> bool
+fn is_within(kind: Option<IntType>, label: Label) -> bool
     ensures { result ≡ definition.is_within kind label }
 {
     match (kind, label) {
@@ -81,7 +81,7 @@ pub(crate) fn is_last(labels: &[Case], i: usize) -> bool
 /// What a label is checked against: the integer type of the value, where it has one, and the other labels.
 #[derive(Clone, Copy)]
 pub(crate) struct LabelContext<'a> {
-    pub(crate) kind: Option<Kind>,
+    pub(crate) kind: Option<IntType>,
     pub(crate) before: &'a [Label],
     pub(crate) is_last: bool,
 }
@@ -89,7 +89,7 @@ pub(crate) struct LabelContext<'a> {
 /// The constant of a label at this offset, after the labels before it.
 #[tactic(auto, unfolding(ash_typing::specs::Switches::constant_typed))]
 fn check_constant(
-    kind: Option<Kind>,
+    kind: Option<IntType>,
     before: &[Label],
     at: usize,
     label: Label,

@@ -18,7 +18,7 @@ use crate::typed_expr::{TypedExpr, adapt_operand, check_bool, coerce, handle_typ
 use crate::types::{common_type, conversion, is_void, signed_type, ty_of};
 use ash_tree::{BinaryOp, Primitive, UnaryOp};
 use ash_typed::{
-    Calculation, Change, Expr, Kind, Lazy, ObjectType, Operand, Operands, Operation, Step, nodes,
+    Calculation, Change, Expr, IntType, Lazy, ObjectType, Operand, Operands, Operation, Step, nodes,
 };
 use ash_typing::{Operator, Rule, OperatorClass, Ty};
 use std::alloc::{AllocError, Global};
@@ -206,7 +206,7 @@ pub(crate) fn build_step(
 fn build_integer_change(
     alloc: Global,
     at: usize,
-    kind: Kind,
+    kind: IntType,
     change: Change,
     operand: TypedExpr,
 ) -> CheckResult<TypedExpr>
@@ -217,7 +217,7 @@ fn build_integer_change(
 }
 
 /// The value alone, which can't be assigned.
-fn build_integer(alloc: Global, at: usize, kind: Kind, operand: TypedExpr) -> CheckResult<TypedExpr>
+fn build_integer(alloc: Global, at: usize, kind: IntType, operand: TypedExpr) -> CheckResult<TypedExpr>
     ensures { Agrees typed_of result (Ok (typing.integer_at at kind (typed_of operand))) }
 {
     let value = coerce(alloc, Ty::Integer(kind), operand)?;

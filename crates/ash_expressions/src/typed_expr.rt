@@ -12,7 +12,7 @@ use crate::environment::Environment;
 use crate::error::{CheckResult, fault_at};
 use crate::fitting::fits;
 use crate::types::{conversion, holds, number_type};
-use ash_typed::{Expr, Kind, nodes};
+use ash_typed::{Expr, IntType, nodes};
 use ash_typing::{Form, Rule, OperatorClass, Ty};
 use std::alloc::{AllocError, Global};
 
@@ -86,12 +86,12 @@ pub fn coerce_for_assignment(env: &Environment, to: Ty, typed: TypedExpr) -> Che
 }
 
 /// The integer type of an operand.
-pub fn integer_type(at: usize, of: Ty) -> CheckResult<Kind>
+pub fn integer_type(at: usize, of: Ty) -> CheckResult<IntType>
     ensures { Agrees (λ k. k) result (typing.integer_of at of) }
 {
     match of {
         Ty::Integer(kind) => Ok(kind),
-        Ty::Unknown => Ok(Kind::Int),
+        Ty::Unknown => Ok(IntType::Int),
         _ => Err(fault_at(Rule::TypeMismatch, at)),
     }
 }

@@ -6,19 +6,19 @@ ghost use Rattle.ash_typing.specs.Terms as terms;
 ghost use Rattle.ash_typing.specs.Expressions as typing;
 
 use ash_tree::Primitive;
-use ash_typed::{Conversion, Element, Kind, ObjectType, VarType};
+use ash_typed::{Conversion, Element, IntType, ObjectType, VarType};
 use ash_typing::Ty;
 
-pub(crate) fn is_signed(kind: Kind) -> bool
+pub(crate) fn is_signed(kind: IntType) -> bool
     ensures { result ≡ types.is_signed kind }
 {
-    matches!(kind, Kind::Int | Kind::Int64)
+    matches!(kind, IntType::Int | IntType::Int64)
 }
 
-pub(crate) fn is_wide(kind: Kind) -> bool
+pub(crate) fn is_wide(kind: IntType) -> bool
     ensures { result ≡ types.is_wide kind }
 {
-    matches!(kind, Kind::Int64 | Kind::Uint64)
+    matches!(kind, IntType::Int64 | IntType::Uint64)
 }
 
 /// The sign and the width of an integer type.
@@ -28,19 +28,19 @@ struct Shape {
     is_wide: bool,
 }
 
-fn integer_type_of(shape: Shape) -> Kind
+fn integer_type_of(shape: Shape) -> IntType
     ensures { result ≡ types.kind_by shape.is_signed shape.is_wide }
 {
     match (shape.is_signed, shape.is_wide) {
-        (true, false) => Kind::Int,
-        (false, false) => Kind::Uint,
-        (true, true) => Kind::Int64,
-        (false, true) => Kind::Uint64,
+        (true, false) => IntType::Int,
+        (false, false) => IntType::Uint,
+        (true, true) => IntType::Int64,
+        (false, true) => IntType::Uint64,
     }
 }
 
 /// The integer type that operands of two integer types are converted to.
-pub(crate) fn common_integer_type(one: Kind, other: Kind) -> Kind
+pub(crate) fn common_integer_type(one: IntType, other: IntType) -> IntType
     ensures { result ≡ types.meeting one other }
 {
     integer_type_of(Shape {
@@ -50,7 +50,7 @@ pub(crate) fn common_integer_type(one: Kind, other: Kind) -> Kind
 }
 
 /// The signed type of the same width.
-pub(crate) fn signed_type(kind: Kind) -> Kind
+pub(crate) fn signed_type(kind: IntType) -> IntType
     ensures { result ≡ types.signed kind }
 {
     integer_type_of(Shape {
@@ -59,41 +59,41 @@ pub(crate) fn signed_type(kind: Kind) -> Kind
     })
 }
 
-pub(crate) fn is_same_kind(one: Kind, other: Kind) -> bool
+pub(crate) fn is_same_kind(one: IntType, other: IntType) -> bool
     ensures { result ≡ types.is_same_kind one other }
 {
     match one {
-        Kind::Int => matches!(other, Kind::Int),
-        Kind::Uint => matches!(other, Kind::Uint),
-        Kind::Int64 => matches!(other, Kind::Int64),
-        Kind::Uint64 => matches!(other, Kind::Uint64),
+        IntType::Int => matches!(other, IntType::Int),
+        IntType::Uint => matches!(other, IntType::Uint),
+        IntType::Int64 => matches!(other, IntType::Int64),
+        IntType::Uint64 => matches!(other, IntType::Uint64),
     }
 }
 
 /// Whether a type holds a number.
-pub fn holds(kind: Kind, number: u64) -> bool
+pub fn holds(kind: IntType, number: u64) -> bool
     ensures { result ≡ types.holds kind number }
 {
     match kind {
-        Kind::Int => number < 1 << 31,
-        Kind::Uint => number < 1 << 32,
-        Kind::Int64 => number < 1 << 63,
-        Kind::Uint64 => true,
+        IntType::Int => number < 1 << 31,
+        IntType::Uint => number < 1 << 32,
+        IntType::Int64 => number < 1 << 63,
+        IntType::Uint64 => true,
     }
 }
 
 /// The first type that holds a number.
-pub(crate) fn number_type(number: u64) -> Kind
+pub(crate) fn number_type(number: u64) -> IntType
     ensures { result ≡ types.kind_of number }
 {
-    if holds(Kind::Int, number) {
-        Kind::Int
-    } else if holds(Kind::Uint, number) {
-        Kind::Uint
-    } else if holds(Kind::Int64, number) {
-        Kind::Int64
+    if holds(IntType::Int, number) {
+        IntType::Int
+    } else if holds(IntType::Uint, number) {
+        IntType::Uint
+    } else if holds(IntType::Int64, number) {
+        IntType::Int64
     } else {
-        Kind::Uint64
+        IntType::Uint64
     }
 }
 
@@ -154,10 +154,10 @@ pub fn ty_of(primitive: Primitive) -> Ty
 {
     match primitive {
         Primitive::Bool => Ty::Bool,
-        Primitive::Int => Ty::Integer(Kind::Int),
-        Primitive::Int64 => Ty::Integer(Kind::Int64),
-        Primitive::Uint => Ty::Integer(Kind::Uint),
-        Primitive::Uint64 => Ty::Integer(Kind::Uint64),
+        Primitive::Int => Ty::Integer(IntType::Int),
+        Primitive::Int64 => Ty::Integer(IntType::Int64),
+        Primitive::Uint => Ty::Integer(IntType::Uint),
+        Primitive::Uint64 => Ty::Integer(IntType::Uint64),
     }
 }
 

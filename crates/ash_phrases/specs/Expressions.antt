@@ -2,7 +2,7 @@
 use Rattle.std.specs.Prelude.{List, [], ◌∷◌, Bool, true, false, if◌then◌else◌, pos}
 use Rattle.ash_host.specs.declared.word.Word.{Word}
 use Rattle.ash_host.specs.declared.word.Word.TheVariants as words
-use Rattle.ash_typed.specs.declared.types.Kind.{Kind}
+use Rattle.ash_integers.specs.declared.int_type.IntType.{IntType}
 use Rattle.ash_typed.specs.declared.tree.operations.Calculation.{Calculation}
 use Rattle.ash_typed.specs.declared.tree.operations.Step.{Step}
 use Rattle.ash_typed.specs.declared.tree.operations.Lazy.{Lazy}
@@ -21,14 +21,14 @@ abbrev pub store : Word → Location → Run Word
 store word location = write location word >> give word
 
 -- `p op= e` after `e` and `p`: the place is read, and what the operator makes is converted to its type and stored.
-abbrev pub update : Kind → Calculation → Word → Location → Run Word
+abbrev pub update : IntType → Calculation → Word → Location → Run Word
 update kind calculation right location =
     read location
     >>= (λ left. calculate calculation (converted_to calculation.of left) right)
     >>= (λ word. store (converted_to kind word) location)
 
 -- `++` or `--` after its place
-abbrev pub count_at : Kind → Step → Location → Run Word
+abbrev pub count_at : IntType → Step → Location → Run Word
 count_at kind step location =
     read location
     >>= (λ old. write location (counted step kind old) >> give (given_by step old (counted step kind old)))

@@ -1,6 +1,6 @@
 -- These definitions say what a typed expression gives, which its tree alone says.
 use Rattle.std.specs.Prelude.{Option, Some, None}
-use Rattle.ash_typed.specs.declared.types.Kind.TheVariants as kinds
+use Rattle.ash_integers.specs.declared.int_type.IntType.TheVariants as ints
 use Rattle.ash_typed.specs.declared.types.Element.{Element}
 use Rattle.ash_typed.specs.declared.types.Element.TheVariants as elements
 use Rattle.ash_typed.specs.declared.types.ObjectType.TheVariants as objects
@@ -45,7 +45,7 @@ type_of_place (Indexed array index of) = type_of_element of
 
 -- `result_of_array_method method` is what a method of arrays gives.
 abbrev pub result_of_array_method : ArrayMethod → Option VarType
-result_of_array_method arrays.Length = Some (vars.Integer kinds.Uint)
+result_of_array_method arrays.Length = Some (vars.Integer ints.Uint)
 result_of_array_method arrays.Resize = None
 result_of_array_method arrays.InsertLast = None
 result_of_array_method arrays.RemoveLast = None

@@ -10,7 +10,7 @@ use Rattle.ash_tree.specs.Tokens.{Tokens}
 use Rattle.ash_tree.specs.declared.tree.places.Place as place
 use Rattle.ash_tree.specs.declared.tree.statements.Label.{Label}
 use Rattle.ash_tree.specs.declared.tree.statements.Label.TheVariants as labels
-use Rattle.ash_typed.specs.declared.types.Kind.{Kind}
+use Rattle.ash_integers.specs.declared.int_type.IntType.{IntType}
 use Rattle.ash_typing.specs.declared.types.Ty.{Ty}
 use Rattle.ash_typed.specs.StatementTree.{Stmt, Head}
 use Rattle.ash_typing.specs.TypingResult.{TypingResult}
@@ -146,12 +146,12 @@ return_in script scope p (Some e) h k r =
     (λ value u. fine tt))
 
 -- labels, each with the statements after it and the other labels
-abbrev pub AtLabel : Script → Scope → Option Kind → List Label → place.Place → Label → written.Stmts → written.Cases
+abbrev pub AtLabel : Script → Scope → Option IntType → List Label → place.Place → Label → written.Stmts → written.Cases
     → Type 0
 AtLabel script scope kind before p l ss cs =
     OccursIn script (phrases.Cases scope kind before (written.next_case (written.labelled p l ss) cs))
 
-constant_in : (script : Script) (scope : Scope) (kind : Option Kind) (before : List Label) (p : place.Place) (l : Label)
+constant_in : (script : Script) (scope : Scope) (kind : Option IntType) (before : List Label) (p : place.Place) (l : Label)
     (ss : written.Stmts) (cs : written.Cases) (m : Meaning) → HasToken script.tokens m p.at → begins_constant m ≡ true
     → AtLabel script scope kind before p l ss cs → Fine script (constant_typed kind before p.at l)
 unfolding constant_typed
@@ -160,7 +160,7 @@ constant_in script scope kind before p l ss cs m h k r =
     (λ a. either (list_any (is_same_constant l) before) (λ b. faulty (m, h, k, meaning.duplicate r b)) (λ b. fine tt))
     (λ a. faulty (m, h, k, meaning.out_of_range r a))
 
-label_in : (script : Script) (scope : Scope) (kind : Option Kind) (before : List Label) (p : place.Place) (l : Label)
+label_in : (script : Script) (scope : Scope) (kind : Option IntType) (before : List Label) (p : place.Place) (l : Label)
     (ss : written.Stmts) (cs : written.Cases) → LabelIn script.tokens p l → AtLabel script scope kind before p l ss cs
     → Fine script (label_typed kind before (is_last cs) p.at l)
 unfolding label_typed
@@ -253,7 +253,7 @@ mutual
       bind (stmt_in script scope s h.0 (phrases.statement r)) (λ t u.
       bind (stmts_in script (after scope s) ss h.1 (phrases.other_statements r)) (λ ts v. fine tt))
 
-  cases_in : (script : Script) (scope : Scope) (kind : Option Kind) (before : List Label) (cs : written.Cases)
+  cases_in : (script : Script) (scope : Scope) (kind : Option IntType) (before : List Label) (cs : written.Cases)
       → CasesIn script.tokens cs → OccursIn script (phrases.Cases scope kind before cs)
       → Fine script (cases_typed scope kind before cs)
   cases_in script scope kind before written.no_case h r = fine tt

@@ -6,7 +6,7 @@ use Rattle.ash_tree.specs.declared.tree.statements.Label.{Label}
 use Rattle.ash_tree.specs.declared.tree.statements.Label.TheVariants as labels
 use Rattle.ash_tree.specs.declared.tree.places.Place.{Place}
 use Rattle.ash_tree.specs.Tree as written
-use Rattle.ash_typed.specs.declared.types.Kind.{Kind}
+use Rattle.ash_integers.specs.declared.int_type.IntType.{IntType}
 use Rattle.ash_typing.specs.declared.types.Ty.{Ty}
 use Rattle.ash_typing.specs.declared.types.Ty.TheVariants as ty
 use Rattle.ash_typing.specs.Coercions.{fits}
@@ -171,7 +171,7 @@ bool_sound at (ty.Object o) fit k h = absurd (no_err _ fit h)
 bool_sound at (ty.Handle o) fit k h = absurd (no_err _ fit h)
 bool_sound at ty.Null fit k h = absurd (no_err _ fit h)
 
-integer_sound : (at : ℕ) (of : Ty) (j : Kind) → IsKnownType of → integer_of at of ≡ Ok j → of ≡ ty.Integer j
+integer_sound : (at : ℕ) (of : Ty) (j : IntType) → IsKnownType of → integer_of at of ≡ Ok j → of ≡ ty.Integer j
 integer_sound at (ty.Integer i) j k h = ap ty.Integer (ok_is i j h)
 integer_sound at ty.Unknown j k h = absurd (cc)
 integer_sound at ty.Void j k h = absurd (no_err _ j h)
@@ -301,7 +301,7 @@ return_sound scope k p (Some e) t h =
 
 -- labels
 
-constant_sound : (k : Kind) (before : List Label) (last : Bool) (at : ℕ) (l r : Label) → is_default l ≡ false
+constant_sound : (k : IntType) (before : List Label) (last : Bool) (at : ℕ) (l r : Label) → is_default l ≡ false
     → constant_typed (Some k) before at l ≡ Ok r → IsLabel k before last l × (r ≡ l)
 unfolding constant_typed is_within
 constant_sound k before last at l r d h = if_ok (holds_label k l) _ _ (Ok r) h
@@ -310,7 +310,7 @@ constant_sound k before last at l r d h = if_ok (holds_label k l) _ _ (Ok r) h
     (λ c f. (constant d b c, sym (ok_is l r f))))
     (λ b e. absurd (no_err _ r e))
 
-label_sound : (k : Kind) (before : List Label) (last : Bool) (at : ℕ) (l r : Label)
+label_sound : (k : IntType) (before : List Label) (last : Bool) (at : ℕ) (l r : Label)
     → label_typed (Some k) before last at l ≡ Ok r → IsLabel k before last l × (r ≡ l)
 unfolding label_typed
 label_sound k before true at labels.Default r h = (otherwise, sym (ok_is _ r h))
@@ -318,7 +318,7 @@ label_sound k before false at labels.Default r h = absurd (no_err _ r h)
 label_sound k before last at (labels.Case n) r h = constant_sound k before last at (labels.Case n) r refl h
 label_sound k before last at (labels.CaseMinus n) r h = constant_sound k before last at (labels.CaseMinus n) r refl h
 
-kind_found : (of : Ty) (k : Kind) → of ≡ ty.Integer k → kind_in of ≡ Some k
+kind_found : (of : Ty) (k : IntType) → of ≡ ty.Integer k → kind_in of ≡ Some k
 kind_found of k h = rw h refl
 
 -- statements
@@ -391,7 +391,7 @@ mutual
       (stmts_sound (after scope s) (known_after scope s t.0 k t.1) ss r.0 r.1))
 
   pub cases_sound : (scope : Scope) → IsKnownScope scope
-      → (k : Kind) (before : List Label) (cs : written.Cases) (rows : Cases)
+      → (k : IntType) (before : List Label) (cs : written.Cases) (rows : Cases)
       → cases_typed scope (Some k) before cs ≡ Ok rows → AreCases scope k before cs rows
   cases_sound scope known k before written.no_case rows h =
       subst (AreCases scope k before written.no_case) (ok_is _ rows h) no_more_cases

@@ -9,7 +9,7 @@ use Rattle.ash_tree.specs.declared.tree.operators.UnaryOp.{UnaryOp}
 use Rattle.ash_tree.specs.declared.tree.operators.BinaryOp.{BinaryOp}
 use Rattle.ash_tree.specs.declared.tree.operators.AssignOp.{AssignOp}
 use Rattle.ash_tree.specs.declared.tree.statements.Label.{Label}
-use Rattle.ash_typed.specs.declared.types.Kind.{Kind}
+use Rattle.ash_integers.specs.declared.int_type.IntType.{IntType}
 use Rattle.ash_typing.specs.declared.types.Ty.{Ty}
 use Rattle.ash_typing.specs.declared.types.Ty.TheVariants as ty
 use Rattle.ash_typing.specs.Environment.{Environment, Declared, with_locals, inside}
@@ -61,7 +61,7 @@ pub data Phrase : Type 0 where
   Statement : Scope → written.Stmt → Phrase
   Statements : Scope → written.Stmts → Phrase
   -- labels of a `switch` over a value of this type, after those
-  Cases : Scope → Option Kind → List Label → written.Cases → Phrase
+  Cases : Scope → Option IntType → List Label → written.Cases → Phrase
   -- after these
   Parameters : Environment → List Declared → List written.Parameter → Phrase
   -- what gives this type
@@ -250,11 +250,11 @@ pub data Occurs (calls : List Registration) (script : List written.Item) : Phras
   other_statements : {scope : Scope} {s : written.Stmt} {ss : written.Stmts}
       → Occurs calls script (Statements scope (written.stmt s ss))
       → Occurs calls script (Statements (after scope s) ss)
-  labelled : {scope : Scope} {kind : Option Kind} {before : List Label} {p : Place} {l : Label} {ss : written.Stmts}
+  labelled : {scope : Scope} {kind : Option IntType} {before : List Label} {p : Place} {l : Label} {ss : written.Stmts}
       {cs : written.Cases}
       → Occurs calls script (Cases scope kind before (written.next_case (written.labelled p l ss) cs))
       → Occurs calls script (Statements scope ss)
-  other_cases : {scope : Scope} {kind : Option Kind} {before : List Label} {p : Place} {l : Label} {ss : written.Stmts}
+  other_cases : {scope : Scope} {kind : Option IntType} {before : List Label} {p : Place} {l : Label} {ss : written.Stmts}
       {cs : written.Cases}
       → Occurs calls script (Cases scope kind before (written.next_case (written.labelled p l ss) cs))
       → Occurs calls script (Cases scope kind (before ++ l ∷ []) cs)

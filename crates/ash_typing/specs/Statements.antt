@@ -7,7 +7,7 @@ use Rattle.ash_tree.specs.declared.tree.places.Place.{Place}
 use Rattle.ash_tree.specs.declared.tree.statements.Label.{Label}
 use Rattle.ash_tree.specs.Tree as written
 use Rattle.ash_typing.specs.declared.fault.Rule.TheVariants.{NameTaken, TypeMismatch, Misplaced}
-use Rattle.ash_typed.specs.declared.types.Kind.{Kind}
+use Rattle.ash_integers.specs.declared.int_type.IntType.{IntType}
 use Rattle.ash_typing.specs.declared.types.Ty.{Ty}
 use Rattle.ash_typing.specs.declared.types.Ty.TheVariants as ty
 use Rattle.ash_typing.specs.TypingResult.{TypingResult, ◌>>=◌, broken}
@@ -150,7 +150,7 @@ abbrev mutual
       stmt_typed scope s >>= λ t. stmts_typed (after scope s) ss >>= λ ts. Ok (stmt t ts)
 
   -- labels, each after those before it, with the statements after them
-  pub cases_typed : Scope → Option Kind → List Label → written.Cases → TypingResult Cases
+  pub cases_typed : Scope → Option IntType → List Label → written.Cases → TypingResult Cases
   cases_typed scope kind before written.no_case = Ok no_case
   cases_typed scope kind before (written.next_case (written.labelled p l ss) cs) =
       label_typed kind before (is_last cs) p.at l >>= λ label. stmts_typed scope ss

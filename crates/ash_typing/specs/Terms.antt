@@ -4,7 +4,7 @@ use Rattle.std.specs.Prelude.{ℕ, List, [], ◌∷◌, Bool, true, false, Optio
 use Rattle.ash_tree.specs.declared.tree.operators.BinaryOp.{BinaryOp}
 use Rattle.ash_tree.specs.declared.tree.operators.AssignOp.{AssignOp}
 use Rattle.ash_tree.specs.declared.tree.operators.AssignOp.TheVariants as assigns
-use Rattle.ash_typed.specs.declared.types.Kind.TheVariants as kinds
+use Rattle.ash_integers.specs.declared.int_type.IntType.TheVariants as ints
 use Rattle.ash_typing.specs.declared.types.Ty.{Ty}
 use Rattle.ash_typing.specs.declared.types.Ty.TheVariants as ty
 use Rattle.ash_typing.specs.declared.forms.OperatorClass.{OperatorClass}
@@ -148,7 +148,7 @@ call_of (callables.Target target) parameters es = Call target parameters es
 
 -- The construction of an array takes, of so many arguments, at most one: how many elements it has.
 abbrev pub array_parameters : ℕ → List Ty
-array_parameters count = if nat_eq count 0 then [] else ty.Integer kinds.Uint ∷ []
+array_parameters count = if nat_eq count 0 then [] else ty.Integer ints.Uint ∷ []
 
 -- variables
 

@@ -4,8 +4,8 @@ use Rattle.ash_tree.specs.declared.tree.types.Primitive.{Primitive}
 use Rattle.ash_tree.specs.declared.tree.types.Primitive.TheVariants as primitives
 use Rattle.ash_tree.specs.declared.tree.operators.BinaryOp.{BinaryOp}
 use Rattle.ash_tree.specs.declared.tree.operators.BinaryOp.TheVariants as binary
-use Rattle.ash_typed.specs.declared.types.Kind.{Kind}
-use Rattle.ash_typed.specs.declared.types.Kind.TheVariants.{Int, Uint, Int64, Uint64}
+use Rattle.ash_integers.specs.declared.int_type.IntType.{IntType}
+use Rattle.ash_integers.specs.declared.int_type.IntType.TheVariants.{Int, Uint, Int64, Uint64}
 use Rattle.ash_typed.specs.declared.types.ObjectType.{ObjectType}
 use Rattle.ash_typed.specs.declared.types.Element.{Element}
 use Rattle.ash_typed.specs.declared.types.Element.TheVariants as elements
@@ -28,34 +28,34 @@ use Rattle.ash_typed.specs.TypeOf.{ValueType, no_value, null_value, value, as_va
 
 -- integer types
 
-abbrev pub is_signed : Kind → Bool
+abbrev pub is_signed : IntType → Bool
 is_signed Int = true
 is_signed Uint = false
 is_signed Int64 = true
 is_signed Uint64 = false
 
-abbrev pub is_wide : Kind → Bool
+abbrev pub is_wide : IntType → Bool
 is_wide Int = false
 is_wide Uint = false
 is_wide Int64 = true
 is_wide Uint64 = true
 
 -- `kind_by signed wide` is the integer type with a sign or without, of 64 bits or of 32.
-abbrev pub kind_by : (signed wide : Bool) → Kind
+abbrev pub kind_by : (signed wide : Bool) → IntType
 kind_by true false = Int
 kind_by false false = Uint
 kind_by true true = Int64
 kind_by false true = Uint64
 
 -- Two integer types meet at the greater width, signed where either is.
-abbrev pub meeting : Kind → Kind → Kind
+abbrev pub meeting : IntType → IntType → IntType
 meeting j k = kind_by (is_signed j || is_signed k) (is_wide j || is_wide k)
 
 -- `signed k` is the signed type of the same width.
-abbrev pub signed : Kind → Kind
+abbrev pub signed : IntType → IntType
 signed k = kind_by true (is_wide k)
 
-abbrev pub is_same_kind : Kind → Kind → Bool
+abbrev pub is_same_kind : IntType → IntType → Bool
 is_same_kind Int Int = true
 is_same_kind Uint Uint = true
 is_same_kind Int64 Int64 = true
@@ -63,14 +63,14 @@ is_same_kind Uint64 Uint64 = true
 is_same_kind _ _ = false
 
 -- The type holds a number that is not negative.
-abbrev pub holds : Kind → ℕ → Bool
+abbrev pub holds : IntType → ℕ → Bool
 holds Int n = nat_lt n (2 ^ 31)
 holds Uint n = nat_lt n (2 ^ 32)
 holds Int64 n = nat_lt n (2 ^ 63)
 holds Uint64 n = true
 
 -- `kind_of n` is the type of a number by itself: the first that holds it.
-abbrev pub kind_of : ℕ → Kind
+abbrev pub kind_of : ℕ → IntType
 kind_of n = if holds Int n then Int else (if holds Uint n then Uint else (if holds Int64 n then Int64 else Uint64))
 
 -- objects
@@ -290,7 +290,7 @@ binary_of calculators.BitXor = binary.BitXor
 binary_of calculators.BitOr = binary.BitOr
 
 -- `integers_in o` is the integer type of operands, where they are integers.
-abbrev pub integers_in : Operands → Kind
+abbrev pub integers_in : Operands → IntType
 integers_in (operands.Integers k) = k
 integers_in _ = Int
 

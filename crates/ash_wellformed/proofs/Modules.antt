@@ -6,7 +6,7 @@ use Rattle.std.proofs.lemmas.Option.{same_Some}
 use Rattle.ash_host.specs.declared.word.Word.{Word}
 use Rattle.ash_host.specs.Objects.{Element, Plain, Array, Host, Objects, object_at, handle, handles, fields_of}
 use Rattle.ash_host.specs.Reach.{Root, Field, ReachableIn}
-use Rattle.ash_typed.specs.declared.types.Kind.TheVariants as kinds
+use Rattle.ash_integers.specs.declared.int_type.IntType.TheVariants as ints
 use Rattle.ash_typed.specs.declared.types.Element as typed_element
 use Rattle.ash_typed.specs.declared.types.Element.TheVariants as elements
 use Rattle.ash_typed.specs.declared.types.ObjectType.{ObjectType}
@@ -42,10 +42,10 @@ more_modules_keep modules others all knows h = record { each = λ n o at. more_o
 module _ (modules : Known) where
   elements_known : (q : Program) (of : typed_element.Element) → IsSome (modules q.name) → IsKnownShape modules (OfElements (element_of q of))
   elements_known q elements.Bool some = tt
-  elements_known q (elements.Integer kinds.Int) some = tt
-  elements_known q (elements.Integer kinds.Uint) some = tt
-  elements_known q (elements.Integer kinds.Int64) some = tt
-  elements_known q (elements.Integer kinds.Uint64) some = tt
+  elements_known q (elements.Integer ints.Int) some = tt
+  elements_known q (elements.Integer ints.Uint) some = tt
+  elements_known q (elements.Integer ints.Int64) some = tt
+  elements_known q (elements.Integer ints.Uint64) some = tt
   elements_known q (elements.Class class) some = some
   elements_known q (elements.Interface interface) some = some
   elements_known q (elements.Host kind) some = tt

@@ -10,7 +10,7 @@ use Rattle.ash_typed.specs.declared.types.VarType.{VarType}
 use Rattle.ash_typed.specs.declared.types.VarType.TheVariants as vars
 use Rattle.ash_typed.specs.Signatures.{Host}
 use Rattle.ash_phrases.specs.Activity.{World}
-use Rattle.ash_phrases.specs.Operators.{int_type, word_at}
+use Rattle.ash_phrases.specs.Operators.{word_at}
 use Rattle.ash_phrases.specs.Classes.{Program}
 use Rattle.ash_phrases.specs.Ends.{End, Finished, Threw, Aborted, call_function, load_module}
 use Rattle.ash_wellformed.specs.WellFormed.{IsValue, is_truth, is_integer, AreValues, no_values, and_value}
@@ -39,7 +39,7 @@ argument_value : {p : Program} {all : Objects (List ℕ)} (of : VarType) (a : Ar
 argument_value {p} {all} vars.Bool (arguments.Truth b) w e = subst (IsValue p all vars.Bool) (same_Some _ w e) is_truth
 argument_value vars.Bool (arguments.Number z) w e = absurd (cc)
 argument_value (vars.Integer kind) (arguments.Truth b) w e = absurd (cc)
-argument_value (vars.Integer kind) (arguments.Number z) w e = number_from kind z w (int_eq (reduced (int_type kind) z) z) e
+argument_value (vars.Integer kind) (arguments.Number z) w e = number_from kind z w (int_eq (reduced kind z) z) e
 argument_value (vars.Object o) a w e = absurd (cc)
 argument_value (vars.Handle o) a w e = absurd (cc)
 
