@@ -80,7 +80,7 @@ pub(crate) fn operand_integer_type(operands: Operands) -> IntType
     ensures { result ≡ types.integers_in operands }
 {
     match operands {
-        Operands::Integers(kind) => kind,
+        Operands::Integers(int_type) => int_type,
         _ => IntType::Int,
     }
 }
@@ -195,7 +195,7 @@ pub(crate) fn operator_result(sort: OperatorClass, operands: Operands) -> Ty
     ensures { result ≡ types.outcome sort operands }
 {
     match (sort, operands) {
-        (OperatorClass::Arithmetic | OperatorClass::Shift, Operands::Integers(kind)) => Ty::Integer(kind),
+        (OperatorClass::Arithmetic | OperatorClass::Shift, Operands::Integers(int_type)) => Ty::Integer(int_type),
         _ => Ty::Bool,
     }
 }
@@ -204,7 +204,7 @@ pub(crate) fn operand_type(operands: Operands) -> Ty
     ensures { result ≡ terms.operand_type operands }
 {
     match operands {
-        Operands::Integers(kind) => Ty::Integer(kind),
+        Operands::Integers(int_type) => Ty::Integer(int_type),
         Operands::Bools => Ty::Bool,
         Operands::Handles => Ty::Null,
     }

@@ -9,16 +9,16 @@ use ash_tree::Primitive;
 use ash_typed::{Conversion, Element, IntType, ObjectType, VarType};
 use ash_typing::Ty;
 
-pub(crate) fn is_signed(kind: IntType) -> bool
-    ensures { result ≡ types.is_signed kind }
+pub(crate) fn is_signed(int_type: IntType) -> bool
+    ensures { result ≡ types.is_signed int_type }
 {
-    matches!(kind, IntType::Int | IntType::Int64)
+    matches!(int_type, IntType::Int | IntType::Int64)
 }
 
-pub(crate) fn is_wide(kind: IntType) -> bool
-    ensures { result ≡ types.is_wide kind }
+pub(crate) fn is_wide(int_type: IntType) -> bool
+    ensures { result ≡ types.is_wide int_type }
 {
-    matches!(kind, IntType::Int64 | IntType::Uint64)
+    matches!(int_type, IntType::Int64 | IntType::Uint64)
 }
 
 /// The sign and the width of an integer type.
@@ -29,7 +29,7 @@ struct Shape {
 }
 
 fn integer_type_of(shape: Shape) -> IntType
-    ensures { result ≡ types.kind_by shape.is_signed shape.is_wide }
+    ensures { result ≡ types.integer_type_of shape.is_signed shape.is_wide }
 {
     match (shape.is_signed, shape.is_wide) {
         (true, false) => IntType::Int,
@@ -50,17 +50,17 @@ pub(crate) fn common_integer_type(one: IntType, other: IntType) -> IntType
 }
 
 /// The signed type of the same width.
-pub(crate) fn signed_type(kind: IntType) -> IntType
-    ensures { result ≡ types.signed kind }
+pub(crate) fn signed_type(int_type: IntType) -> IntType
+    ensures { result ≡ types.signed int_type }
 {
     integer_type_of(Shape {
         is_signed: true,
-        is_wide: is_wide(kind),
+        is_wide: is_wide(int_type),
     })
 }
 
-pub(crate) fn is_same_kind(one: IntType, other: IntType) -> bool
-    ensures { result ≡ types.is_same_kind one other }
+pub(crate) fn is_same_integer_type(one: IntType, other: IntType) -> bool
+    ensures { result ≡ types.is_same_integer_type one other }
 {
     match one {
         IntType::Int => matches!(other, IntType::Int),
@@ -71,10 +71,10 @@ pub(crate) fn is_same_kind(one: IntType, other: IntType) -> bool
 }
 
 /// Whether a type holds a number.
-pub fn holds(kind: IntType, number: u64) -> bool
-    ensures { result ≡ types.holds kind number }
+pub fn holds(int_type: IntType, number: u64) -> bool
+    ensures { result ≡ types.holds int_type number }
 {
-    match kind {
+    match int_type {
         IntType::Int => number < 1 << 31,
         IntType::Uint => number < 1 << 32,
         IntType::Int64 => number < 1 << 63,
@@ -84,7 +84,7 @@ pub fn holds(kind: IntType, number: u64) -> bool
 
 /// The first type that holds a number.
 pub(crate) fn number_type(number: u64) -> IntType
-    ensures { result ≡ types.kind_of number }
+    ensures { result ≡ types.number_type number }
 {
     if holds(IntType::Int, number) {
         IntType::Int
@@ -102,7 +102,7 @@ fn is_same_element(one: Element, other: Element) -> bool
 {
     match (one, other) {
         (Element::Bool, Element::Bool) => true,
-        (Element::Integer(j), Element::Integer(k)) => is_same_kind(j, k),
+        (Element::Integer(j), Element::Integer(k)) => is_same_integer_type(j, k),
         (Element::Class(a), Element::Class(b)) => a == b,
         (Element::Interface(a), Element::Interface(b)) => a == b,
         (Element::Host(a), Element::Host(b)) => a == b,
@@ -129,7 +129,7 @@ pub fn is_same(one: Ty, other: Ty) -> bool
     match (one, other) {
         (Ty::Unknown, _) | (_, Ty::Unknown) => true,
         (Ty::Bool, Ty::Bool) | (Ty::Null, Ty::Null) | (Ty::Void, Ty::Void) => true,
-        (Ty::Integer(j), Ty::Integer(k)) => is_same_kind(j, k),
+        (Ty::Integer(j), Ty::Integer(k)) => is_same_integer_type(j, k),
         (Ty::Object(a), Ty::Object(b)) | (Ty::Handle(a), Ty::Handle(b)) => is_same_object(a, b),
         _ => false,
     }
@@ -141,7 +141,7 @@ pub fn ty_of_element(of: Element) -> Ty
 {
     match of {
         Element::Bool => Ty::Bool,
-        Element::Integer(kind) => Ty::Integer(kind),
+        Element::Integer(int_type) => Ty::Integer(int_type),
         Element::Class(class) => Ty::Handle(ObjectType::Class(class)),
         Element::Interface(interface) => Ty::Handle(ObjectType::Interface(interface)),
         Element::Host(kind) => Ty::Handle(ObjectType::Host(kind)),
@@ -167,7 +167,7 @@ pub fn var_type(of: Ty) -> VarType
 {
     match of {
         Ty::Bool | Ty::Null | Ty::Void | Ty::Unknown => VarType::Bool,
-        Ty::Integer(kind) => VarType::Integer(kind),
+        Ty::Integer(int_type) => VarType::Integer(int_type),
         Ty::Object(object) => VarType::Object(object),
         Ty::Handle(object) => VarType::Handle(object),
     }
@@ -227,7 +227,7 @@ pub(crate) fn conversion(to: Ty, of: Ty) -> Option<Conversion>
 {
     match (to, of) {
         (Ty::Integer(to), Ty::Integer(from)) => {
-            if is_same_kind(from, to) {
+            if is_same_integer_type(from, to) {
                 None
             } else {
                 Some(Conversion { from, to })

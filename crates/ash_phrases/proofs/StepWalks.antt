@@ -250,11 +250,12 @@ module _ {n : ℕ} where
   pub to_store : (w : Word) (l : Location) → Walk n (store w l) (store w l)
   to_store w l = followed (to_write l w) (given w)
 
-  pub to_update : (kind : IntType) (c : Calculation) (right : Word) (l : Location) → Walk n (update kind c right l) (update kind c right l)
-  to_update kind c right l = bound (bound (to_read l) (λ left. to_calculate c (converted_to c.of left) right)) (λ w. to_store (converted_to kind w) l)
+  pub to_update : (int_type : IntType) (c : Calculation) (right : Word) (l : Location) → Walk n (update int_type c right l) (update int_type c right l)
+  to_update int_type c right l = bound (bound (to_read l) (λ left. to_calculate c (converted_to c.of left) right)) (λ w. to_store (converted_to int_type w) l)
 
-  pub to_count_at : (kind : IntType) (step : Step) (l : Location) → Walk n (count_at kind step l) (count_at kind step l)
-  to_count_at kind step l = bound (to_read l) (λ old. followed (to_write l (counted step kind old)) (given (given_by step old (counted step kind old))))
+  pub to_count_at : (int_type : IntType) (step : Step) (l : Location)
+      → Walk n (count_at int_type step l) (count_at int_type step l)
+  to_count_at int_type step l = bound (to_read l) (λ old. followed (to_write l (counted step int_type old)) (given (given_by step old (counted step int_type old))))
 
   -- arrays
 

@@ -32,16 +32,16 @@ use Rattle.ash_phrases.specs.Runs.{Run, give, raise}
 
 -- the word of an integer type that a whole number leaves
 abbrev pub word_at : IntType → ℤ → Word
-word_at kind number = word_of kind number
+word_at int_type number = word_of int_type number
 
 -- a word of any integer type, converted
 abbrev pub converted_to : IntType → Word → Word
-converted_to kind word = word_at kind (number_of word)
+converted_to int_type word = word_at int_type (number_of word)
 
 -- what a variable holds before anything is written to it
 abbrev pub zero_of : VarType → Word
 zero_of vars.Bool = words.Bool false
-zero_of (vars.Integer kind) = word_at kind (pos 0)
+zero_of (vars.Integer int_type) = word_at int_type (pos 0)
 zero_of (vars.Object of) = words.Null
 zero_of (vars.Handle of) = words.Null
 
@@ -96,7 +96,8 @@ holds_of_words comparators.Xor left right = not (is_same_word left right)
 holds_of_words _ left right = false
 
 abbrev pub holds : Comparator → Operands → Word → Word → Bool
-holds comparator (operands.Integers kind) left right = holds_of_numbers comparator (number_of left) (number_of right)
+holds comparator (operands.Integers int_type) left right =
+    holds_of_numbers comparator (number_of left) (number_of right)
 holds comparator operands.Bools left right = holds_of_words comparator left right
 holds comparator operands.Handles left right = holds_of_words comparator left right
 
@@ -107,16 +108,16 @@ operate (operations.Compare comparator of) left right = give (words.Bool (holds 
 -- operators of one operand
 
 abbrev pub altered : Change → Word → Word
-altered (changes.Negate kind) word = word_at kind (pos 0 -ℤ number_of word)
-altered (changes.Complement kind) word = word_at kind (complement_of (number_of word))
+altered (changes.Negate int_type) word = word_at int_type (pos 0 -ℤ number_of word)
+altered (changes.Complement int_type) word = word_at int_type (complement_of (number_of word))
 altered changes.Not word = words.Bool (not (is_true word))
 
 -- what `++` and `--` leave in a place of this type, and which of its values they give
 abbrev pub counted : Step → IntType → Word → Word
-counted steps.Increment kind word = word_at kind (number_of word +ℤ pos 1)
-counted steps.IncrementAfter kind word = word_at kind (number_of word +ℤ pos 1)
-counted steps.Decrement kind word = word_at kind (number_of word -ℤ pos 1)
-counted steps.DecrementAfter kind word = word_at kind (number_of word -ℤ pos 1)
+counted steps.Increment int_type word = word_at int_type (number_of word +ℤ pos 1)
+counted steps.IncrementAfter int_type word = word_at int_type (number_of word +ℤ pos 1)
+counted steps.Decrement int_type word = word_at int_type (number_of word -ℤ pos 1)
+counted steps.DecrementAfter int_type word = word_at int_type (number_of word -ℤ pos 1)
 
 abbrev pub given_by : Step → Word → Word → Word
 given_by steps.Increment old new = new

@@ -30,7 +30,7 @@ number_made (Err fault) = Err fault
 
 -- what an operator on a type makes of each of these pairs
 abbrev pub made_of : Calculator → IntType → List (ℤ × ℤ) → List (Result ℤ DivisionFault)
-made_of operator kind pairs = map (λ (p : ℤ × ℤ). number_made (calculated_by operator kind (word_at kind p.0) (word_at kind p.1))) pairs
+made_of operator int_type pairs = map (λ (p : ℤ × ℤ). number_made (calculated_by operator int_type (word_at int_type p.0) (word_at int_type p.1))) pairs
 
 -- pairs of numbers of so many bits, signed and unsigned: the extremes, both signs, zero, and a shift by more than the width
 abbrev pub signed_pairs : ℕ → List (ℤ × ℤ)
@@ -52,7 +52,7 @@ unsigned_pairs bits = (greatest, greatest) ∷ (greatest, pos 2) ∷ (pos 7, pos
 
 -- what a conversion to a type makes of words of each type
 abbrev pub conversions_to : IntType → List Word
-conversions_to kind = map (converted_to kind) (words.Int (negsuc 2147483647) ∷ words.Int (negsuc 0) ∷ words.Int (pos 2147483647) ∷ words.Uint 4294967295 ∷ words.Int64 (negsuc 9223372036854775807) ∷ words.Int64 (negsuc 2147483648) ∷ words.Int64 (pos 9223372036854775807) ∷ words.Uint64 18446744073709551615 ∷ words.Uint64 4294967303 ∷ [])
+conversions_to int_type = map (converted_to int_type) (words.Int (negsuc 2147483647) ∷ words.Int (negsuc 0) ∷ words.Int (pos 2147483647) ∷ words.Uint 4294967295 ∷ words.Int64 (negsuc 9223372036854775807) ∷ words.Int64 (negsuc 2147483648) ∷ words.Int64 (pos 9223372036854775807) ∷ words.Uint64 18446744073709551615 ∷ words.Uint64 4294967303 ∷ [])
 
 -- ticks
 

@@ -38,7 +38,8 @@ pub record Environment : Type 0 where
 
 mutual
   pub data IsWellTyped (env : Environment) : Expr → ValueType → Type 0 where
-    number : {kind : IntType} {n : ℕ} → IsWithin kind n → IsWellTyped env (Number kind n) (value (vars.Integer kind))
+    number : {int_type : IntType} {n : ℕ} → IsWithin int_type n
+        → IsWellTyped env (Number int_type n) (value (vars.Integer int_type))
     truth : {b : Bool} → IsWellTyped env (Truth b) (value vars.Bool)
     null : IsWellTyped env Null null_value
     this : {class : ℕ}
@@ -107,18 +108,20 @@ mutual
         → IsAssigned of
         → Fits env of e
         → IsWellTyped env (Assign place e) (value (as_value of))
-    update : {place : Place} {kind of : IntType} {operator : Calculator} {e : Expr}
-        → HasPlace env place (vars.Integer kind)
+    update : {place : Place} {int_type of : IntType} {operator : Calculator} {e : Expr}
+        → HasPlace env place (vars.Integer int_type)
         → IsWellTyped env e (value (vars.Integer of))
-        → IsWellTyped env (Update place kind (record { operator = operator; of = of }) e) (value (vars.Integer kind))
-    update_by_shift : {place : Place} {kind of count : IntType} {operator : Calculator} {e : Expr}
+        → IsWellTyped env (Update place int_type (record { operator = operator; of = of }) e)
+        (value (vars.Integer int_type))
+    update_by_shift : {place : Place} {int_type of count : IntType} {operator : Calculator} {e : Expr}
         → IsShift operator
-        → HasPlace env place (vars.Integer kind)
+        → HasPlace env place (vars.Integer int_type)
         → IsWellTyped env e (value (vars.Integer count))
-        → IsWellTyped env (Update place kind (record { operator = operator; of = of }) e) (value (vars.Integer kind))
-    count : {place : Place} {kind : IntType} {step : Step}
-        → HasPlace env place (vars.Integer kind)
-        → IsWellTyped env (Count place kind step) (value (vars.Integer kind))
+        → IsWellTyped env (Update place int_type (record { operator = operator; of = of }) e)
+        (value (vars.Integer int_type))
+    count : {place : Place} {int_type : IntType} {step : Step}
+        → HasPlace env place (vars.Integer int_type)
+        → IsWellTyped env (Count place int_type step) (value (vars.Integer int_type))
     call : {target : Target} {parameters : List VarType} {result : Option VarType} {es : Exprs}
         → IsTarget env.signatures target parameters result
         → AreArguments env parameters es

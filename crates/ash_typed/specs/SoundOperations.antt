@@ -110,12 +110,12 @@ pub data IsShift : Calculator → Type 0 where
 
 -- The operator compares two of these operands.
 pub data Compares : Comparator → Operands → Type 0 where
-  less : {kind : IntType} → Compares comparators.Less (operands.Integers kind)
-  less_or_equal : {kind : IntType} → Compares comparators.LessOrEqual (operands.Integers kind)
-  greater : {kind : IntType} → Compares comparators.Greater (operands.Integers kind)
-  greater_or_equal : {kind : IntType} → Compares comparators.GreaterOrEqual (operands.Integers kind)
-  equal : {kind : IntType} → Compares comparators.Equal (operands.Integers kind)
-  not_equal : {kind : IntType} → Compares comparators.NotEqual (operands.Integers kind)
+  less : {int_type : IntType} → Compares comparators.Less (operands.Integers int_type)
+  less_or_equal : {int_type : IntType} → Compares comparators.LessOrEqual (operands.Integers int_type)
+  greater : {int_type : IntType} → Compares comparators.Greater (operands.Integers int_type)
+  greater_or_equal : {int_type : IntType} → Compares comparators.GreaterOrEqual (operands.Integers int_type)
+  equal : {int_type : IntType} → Compares comparators.Equal (operands.Integers int_type)
+  not_equal : {int_type : IntType} → Compares comparators.NotEqual (operands.Integers int_type)
   same_truth : Compares comparators.Equal operands.Bools
   other_truth : Compares comparators.NotEqual operands.Bools
   xor : Compares comparators.Xor operands.Bools
@@ -124,7 +124,7 @@ pub data Compares : Comparator → Operands → Type 0 where
 
 -- Each of these operands gives this.
 pub data IsOperand : Operands → ValueType → Type 0 where
-  integer : {kind : IntType} → IsOperand (operands.Integers kind) (value (vars.Integer kind))
+  integer : {int_type : IntType} → IsOperand (operands.Integers int_type) (value (vars.Integer int_type))
   truth : IsOperand operands.Bools (value vars.Bool)
   object : {o : ObjectType} → IsOperand operands.Handles (value (vars.Handle o))
   no_object : IsOperand operands.Handles null_value
@@ -136,8 +136,8 @@ pub data IsSigned : IntType → Type 0 where
 
 -- An operator before its operand takes the first type and gives the second.
 pub data IsChange : Change → VarType → Type 0 where
-  negate : {kind : IntType} → IsSigned kind → IsChange (changes.Negate kind) (vars.Integer kind)
-  complement : {kind : IntType} → IsChange (changes.Complement kind) (vars.Integer kind)
+  negate : {int_type : IntType} → IsSigned int_type → IsChange (changes.Negate int_type) (vars.Integer int_type)
+  complement : {int_type : IntType} → IsChange (changes.Complement int_type) (vars.Integer int_type)
   not : IsChange changes.Not vars.Bool
 
 -- An object is cast to a class or to an interface.
@@ -149,5 +149,5 @@ pub data IsCastType (s : Signatures) : ObjectType → Type 0 where
 -- A place of the type is assigned to: it is one of primitives or of handles, since objects are not assigned.
 pub data IsAssigned : VarType → Type 0 where
   truth : IsAssigned vars.Bool
-  integer : {kind : IntType} → IsAssigned (vars.Integer kind)
+  integer : {int_type : IntType} → IsAssigned (vars.Integer int_type)
   handle : {o : ObjectType} → IsAssigned (vars.Handle o)

@@ -127,21 +127,21 @@ constant_of (labels.CaseMinus n) = Some (minus n)
 constant_of labels.Default = None
 
 abbrev pub IsConstant : IntType → Label → Type 0
-IsConstant kind (labels.Case n) = IsWithin kind n
-IsConstant kind (labels.CaseMinus n) = IsWithinMinus kind n
-IsConstant kind labels.Default = ⊥
+IsConstant int_type (labels.Case n) = IsWithin int_type n
+IsConstant int_type (labels.CaseMinus n) = IsWithinMinus int_type n
+IsConstant int_type labels.Default = ⊥
 
 abbrev pub Differs : Label → Label → Type 0
 Differs l other = constant_of l ≢ constant_of other
 
 -- The constant of a label after these is of the type, and no label before it has the constant; `default` is the last
 -- one.
-pub data IsLabel (kind : IntType) : List Label → Label → Cases → Type 0 where
+pub data IsLabel (int_type : IntType) : List Label → Label → Cases → Type 0 where
   constant : {before : List Label} {l : Label} {after : Cases}
-      → IsConstant kind l
+      → IsConstant int_type l
       → AllByRecursion (Differs l) before
-      → IsLabel kind before l after
-  otherwise : {before : List Label} → IsLabel kind before labels.Default no_case
+      → IsLabel int_type before l after
+  otherwise : {before : List Label} → IsLabel int_type before labels.Default no_case
 
 -- statements
 
@@ -171,10 +171,10 @@ mutual
         → IsHead scope.env head types
         → IsLoop (declaring scope types) inside
         → IsStmt scope (For line head inside)
-    switch : {scope : Scope} {line : ℕ} {kind : IntType} {e : Expr} {cs : Cases}
-        → IsWellTyped scope.env e (value (vars.Integer kind))
-        → AreCases (in_switch scope) kind [] cs
-        → IsStmt scope (Switch line kind e cs)
+    switch : {scope : Scope} {line : ℕ} {int_type : IntType} {e : Expr} {cs : Cases}
+        → IsWellTyped scope.env e (value (vars.Integer int_type))
+        → AreCases (in_switch scope) int_type [] cs
+        → IsStmt scope (Switch line int_type e cs)
     break_out : {scope : Scope} {line : ℕ}
         → scope.may_break ≡ true
         → IsStmt scope (Break line)
@@ -210,12 +210,12 @@ mutual
 
   -- Labels come after those before them, with the statements after each, none of which declares variables.
   pub data AreCases : Scope → IntType → List Label → Cases → Type 0 where
-    no_cases : {scope : Scope} {kind : IntType} {before : List Label} → AreCases scope kind before no_case
-    more_cases : {scope : Scope} {kind : IntType} {before : List Label} {l : Label} {ss : Stmts} {cs : Cases}
-        → IsLabel kind before l cs
+    no_cases : {scope : Scope} {int_type : IntType} {before : List Label} → AreCases scope int_type before no_case
+    more_cases : {scope : Scope} {int_type : IntType} {before : List Label} {l : Label} {ss : Stmts} {cs : Cases}
+        → IsLabel int_type before l cs
         → AreLabelled scope ss
-        → AreCases scope kind (before ++ l ∷ []) cs
-        → AreCases scope kind before (next_case (labelled l ss) cs)
+        → AreCases scope int_type (before ++ l ∷ []) cs
+        → AreCases scope int_type before (next_case (labelled l ss) cs)
 
   pub data AreLabelled : Scope → Stmts → Type 0 where
     none_labelled : {scope : Scope} → AreLabelled scope no_stmt

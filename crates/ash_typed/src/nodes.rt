@@ -318,13 +318,14 @@ pub fn for_loop(line: usize, head: Head, inside: Loop) -> Stmt
 }
 
 /// `switch (value) { cases }`, of this integer type
-pub fn switch(line: usize, of: IntType, value: Expr, labels: Vec<Case>) -> Stmt
-    ensures { stmt_of result ≡ Switch line of (expr_of value) (cases (map case_of labels.items)) }
+pub fn switch(line: usize, int_type: IntType, value: Expr, labels: Vec<Case>) -> Stmt
+    ensures { stmt_of result
+        ≡ Switch line int_type (expr_of value) (cases (map case_of labels.items)) }
 {
     Stmt {
         line,
         kind: StmtKind::Switch {
-            kind: of,
+            of: int_type,
             value,
             cases: labels,
         },

@@ -21,7 +21,7 @@ use Rattle.ash_typing.specs.Expressions.{all_placed}
 use Rattle.ash_typing.specs.ModuleDeclarations.{declared, ty_in}
 use Rattle.ash_typing.specs.Declarations.{at_type, known_ty, decl_typed}
 use Rattle.ash_typing.specs.Returning.{is_default}
-use Rattle.ash_typing.specs.Switches.{kind_in, is_within, constant_typed, label_typed}
+use Rattle.ash_typing.specs.Switches.{integer_type_in, is_within, constant_typed, label_typed}
 use Rattle.ash_typing.specs.Statements.{fresh, decls_typed, vars_typed, condition_is, if_typed, if_else_typed}
 use Rattle.ash_typing.specs.Statements.{while_typed, do_while_typed, maybe_typed, maybe_condition_is, tree_of}
 use Rattle.ash_typing.specs.Statements.{head_typed, for_typed, break_typed, continue_typed, returned, return_typed}
@@ -208,8 +208,8 @@ label_complete (otherwise {k = k} {before = before}) at = default_is k before at
 integer_is : (at : ℕ) (of : Ty) (k : IntType) → of ≡ ty.Integer k → integer_of at of ≡ Ok k
 integer_is at of k h = rw h refl
 
-kind_is : (of : Ty) (k : IntType) → of ≡ ty.Integer k → kind_in of ≡ Some k
-kind_is of k h = rw h refl
+integer_type_is : (of : Ty) (k : IntType) → of ≡ ty.Integer k → integer_type_in of ≡ Some k
+integer_type_is of k h = rw h refl
 
 -- `switch`, of which the labels are typed
 switch_is : (scope : Scope) (p : Place) (e : written.Expr) (cs : written.Cases) (t : Term) (k : IntType) (rows : Cases)
@@ -218,8 +218,8 @@ switch_is : (scope : Scope) (p : Place) (e : written.Expr) (cs : written.Cases) 
     → stmt_typed scope (written.Switch p e cs) ≡ Ok (Switch p.line k t.tree rows)
 switch_is scope p e cs t k rows h is i =
     bind_is (typed scope.env false e) _ (placed (first_at e) t) _ h
-    (bind_is (cases_typed (switch_of scope) (kind_in t.ty) [] cs) _ rows _
-    (ap (λ kind. cases_typed (switch_of scope) kind [] cs) (kind_is t.ty k is) ∙ i)
+    (bind_is (cases_typed (switch_of scope) (integer_type_in t.ty) [] cs) _ rows _
+    (ap (λ int_type. cases_typed (switch_of scope) int_type [] cs) (integer_type_is t.ty k is) ∙ i)
     (bind_is (integer_of (first_at e) t.ty) _ k _ (integer_is (first_at e) t.ty k is) refl))
 
 -- statements

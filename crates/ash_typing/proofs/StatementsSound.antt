@@ -21,7 +21,7 @@ use Rattle.ash_typing.specs.ModuleDeclarations.{declared, ty_in}
 use Rattle.ash_typing.specs.Declarations.{at_type, known_ty, decl_typed}
 use Rattle.ash_typing.specs.Typing.{AllHaveType, IsKnown, IsKnownType, IsVariableType, IsKnownVariable}
 use Rattle.ash_typing.specs.Returning.{is_default}
-use Rattle.ash_typing.specs.Switches.{kind_in, is_within, constant_typed, label_typed}
+use Rattle.ash_typing.specs.Switches.{integer_type_in, is_within, constant_typed, label_typed}
 use Rattle.ash_typing.specs.Statements.{fresh, decls_typed, vars_typed, condition_is, if_typed, if_else_typed}
 use Rattle.ash_typing.specs.Statements.{while_typed, do_while_typed, maybe_typed, maybe_condition_is, tree_of}
 use Rattle.ash_typing.specs.Statements.{head_typed, for_typed, break_typed, continue_typed, gives_nothing, returned}
@@ -318,8 +318,8 @@ label_sound k before false at labels.Default r h = absurd (no_err _ r h)
 label_sound k before last at (labels.Case n) r h = constant_sound k before last at (labels.Case n) r refl h
 label_sound k before last at (labels.CaseMinus n) r h = constant_sound k before last at (labels.CaseMinus n) r refl h
 
-kind_found : (of : Ty) (k : IntType) → of ≡ ty.Integer k → kind_in of ≡ Some k
-kind_found of k h = rw h refl
+integer_type_found : (of : Ty) (k : IntType) → of ≡ ty.Integer k → integer_type_in of ≡ Some k
+integer_type_found of k h = rw h refl
 
 -- statements
 
@@ -368,14 +368,15 @@ mutual
       (steps_sound within.env inner.env es us j) (stmt_sound (loop_of within) (loop_known within inner) s u l)))
   stmt_sound scope k (written.Switch p e cs) t h =
       let v = bind_ok (typed scope.env false e) _ t h in
-      let rows = bind_ok (cases_typed (switch_of scope) (kind_in (v.0).ty) [] cs) _ t v.2 in
+      let rows = bind_ok (cases_typed (switch_of scope) (integer_type_in (v.0).ty) [] cs) _ t v.2 in
       let j = bind_ok (integer_of (v.0).at (v.0).ty) _ t rows.2 in
       let has = sound scope.env k.env false e v.0 v.1 in
       let is = integer_sound (v.0).at (v.0).ty j.0 (known_type has k.env) j.1 in
       subst (IsStmt scope (written.Switch p e cs)) (ok_is _ t j.2)
       (switch has is
       (cases_sound (switch_of scope) (switch_known scope k) j.0 [] cs rows.0
-      (subst (λ kind. cases_typed (switch_of scope) kind [] cs ≡ Ok rows.0) (kind_found (v.0).ty j.0 is) rows.1)))
+      (subst (λ int_type. cases_typed (switch_of scope) int_type [] cs ≡ Ok rows.0)
+      (integer_type_found (v.0).ty j.0 is) rows.1)))
   stmt_sound scope k (written.Break p) t h = break_sound scope p t h
   stmt_sound scope k (written.Continue p) t h = continue_sound scope p t h
   stmt_sound scope k (written.Return p e) t h = return_sound scope k p e t h

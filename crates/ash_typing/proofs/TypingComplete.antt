@@ -44,7 +44,7 @@ use Rattle.ash_typing.specs.Typing.{minus, complement, not, increment, decrement
 use Rattle.ash_typing.specs.Typing.{conditional, assign, update, none_left, each, no_more, operated, no_suffixes}
 use Rattle.ash_typing.specs.Typing.{suffixed, field, method, index, increment_after, decrement_after, Meet, left_of}
 use Rattle.ash_typing.specs.Typing.{right_of}
-use Rattle.ash_typing.proofs.TypingWords.{same_kind, met_is}
+use Rattle.ash_typing.proofs.TypingWords.{same_integer_type, met_is}
 use Rattle.ash_typing.specs.Terms.{operator_of, is_stored, applied, call_of, assignable, handle_form, array_parameters}
 use Rattle.ash_typing.specs.Terms.{Term, term, read_term, converted_to}
 
@@ -113,7 +113,7 @@ bool_is at b to t h i = rw (h, i) refl
 plus_is : (left : Bool) (at b : ℕ) (t : Term) (k : IntType) → t.ty ≡ ty.Integer k
     → unary_at left at unary.Plus (placed b t) ≡ Ok (placed at (term (ty.Integer k) t.tree))
 unfolding unary_at
-plus_is left at b t k h = rw (h, same_kind k) refl
+plus_is left at b t k h = rw (h, same_integer_type k) refl
 
 minus_is : (left : Bool) (at b : ℕ) (t : Term) (k : IntType) → t.ty ≡ ty.Integer k
     → unary_at left at unary.Minus (placed b t)
@@ -126,7 +126,7 @@ complement_is : (left : Bool) (at b : ℕ) (t : Term) (k : IntType) → t.ty ≡
     → unary_at left at unary.BitNot (placed b t)
     ≡ Ok (placed at (term (ty.Integer k) (Alter (changes.Complement k) t.tree)))
 unfolding unary_at
-complement_is left at b t k h = rw (h, same_kind k) refl
+complement_is left at b t k h = rw (h, same_integer_type k) refl
 
 not_is : (left : Bool) (at b : ℕ) (t : Term) → t.ty ≡ ty.Bool
     → unary_at left at unary.Not (placed b t) ≡ Ok (placed at (term ty.Bool (Alter changes.Not t.tree)))
@@ -140,15 +140,15 @@ counted_is : (at b : ℕ) (step : Step) (t : Term) (target : Place) (k : IntType
 unfolding counted
 counted_is at b step t target k h i = rw (h, i) refl
 
-increment_is : (left : Bool) (at b : ℕ) (t : Term) (target : Place) (k : IntType) → assignable t.form t.tree ≡ Some target
-    → t.ty ≡ ty.Integer k
+increment_is : (left : Bool) (at b : ℕ) (t : Term) (target : Place) (k : IntType)
+    → assignable t.form t.tree ≡ Some target → t.ty ≡ ty.Integer k
     → unary_at left at unary.Increment (placed b t)
     ≡ Ok (placed at (term (ty.Integer k) (Count target k steps.Increment)))
 unfolding unary_at
 increment_is left at b t target k h i = counted_is at b steps.Increment t target k h i
 
-decrement_is : (left : Bool) (at b : ℕ) (t : Term) (target : Place) (k : IntType) → assignable t.form t.tree ≡ Some target
-    → t.ty ≡ ty.Integer k
+decrement_is : (left : Bool) (at b : ℕ) (t : Term) (target : Place) (k : IntType)
+    → assignable t.form t.tree ≡ Some target → t.ty ≡ ty.Integer k
     → unary_at left at unary.Decrement (placed b t)
     ≡ Ok (placed at (term (ty.Integer k) (Count target k steps.Decrement)))
 unfolding unary_at
@@ -187,7 +187,8 @@ assign_is : (classes : List Class) (t u : Term) (a b : ℕ) (target : Place) →
 unfolding assigned stored
 assign_is classes t u a b target p s h = rw (p, s, coerced_for_assignment_is classes t.ty b u h) refl
 
-update_is : (classes : List Class) (op : AssignOp) (c : Calculator) (t u : Term) (a b : ℕ) (target : Place) (j k : IntType)
+update_is : (classes : List Class) (op : AssignOp) (c : Calculator) (t u : Term) (a b : ℕ) (target : Place)
+    (j k : IntType)
     → operator_of op ≡ Some c → assignable t.form t.tree ≡ Some target → is_stored t.form t.ty ≡ true
     → t.ty ≡ ty.Integer k → Meet (binary_of c) (term t.ty Null) u (operands.Integers j)
     → assigned classes (placed a t) op (placed b u)

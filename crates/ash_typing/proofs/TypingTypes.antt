@@ -20,7 +20,7 @@ use Rattle.ash_typed.specs.Tree.{Expr, This, Read, Place, Stored, Held, place_in
 use Rattle.ash_typed.specs.TypeOf.{type_of, type_of_place, value, value_of_result, as_value, chosen_type}
 use Rattle.ash_typed.specs.declared.types.VarType.{VarType}
 use Rattle.ash_typed.specs.declared.types.VarType.TheVariants as vars
-use Rattle.ash_typing.specs.Types.{var_type, value_type, is_same_kind, gives_object, common, object_of, meeting}
+use Rattle.ash_typing.specs.Types.{var_type, value_type, is_same_integer_type, gives_object, common, object_of, meeting}
 use Rattle.ash_typing.specs.Types.{operator_class_of, integers_in, meets, outcome}
 use Rattle.ash_typing.specs.Environment.{Environment, Declared, Class, Known, first_from, last_named, declares}
 use Rattle.ash_typing.specs.Environment.{this_class, variable_in, callee_in, member_in, method_in, field_in, local_in}
@@ -43,32 +43,33 @@ use Rattle.ash_typing.proofs.TypingCallees.{variable_type, variable_value}
 
 -- conversions
 
-pub equal_kinds : (j k : IntType) → is_same_kind j k ≡ true → j ≡ k
-equal_kinds ints.Int ints.Int h = refl
-equal_kinds ints.Int ints.Uint h = absurd (cc)
-equal_kinds ints.Int ints.Int64 h = absurd (cc)
-equal_kinds ints.Int ints.Uint64 h = absurd (cc)
-equal_kinds ints.Uint ints.Int h = absurd (cc)
-equal_kinds ints.Uint ints.Uint h = refl
-equal_kinds ints.Uint ints.Int64 h = absurd (cc)
-equal_kinds ints.Uint ints.Uint64 h = absurd (cc)
-equal_kinds ints.Int64 ints.Int h = absurd (cc)
-equal_kinds ints.Int64 ints.Uint h = absurd (cc)
-equal_kinds ints.Int64 ints.Int64 h = refl
-equal_kinds ints.Int64 ints.Uint64 h = absurd (cc)
-equal_kinds ints.Uint64 ints.Int h = absurd (cc)
-equal_kinds ints.Uint64 ints.Uint h = absurd (cc)
-equal_kinds ints.Uint64 ints.Int64 h = absurd (cc)
-equal_kinds ints.Uint64 ints.Uint64 h = refl
+pub equal_integer_types : (j k : IntType) → is_same_integer_type j k ≡ true → j ≡ k
+equal_integer_types ints.Int ints.Int h = refl
+equal_integer_types ints.Int ints.Uint h = absurd (cc)
+equal_integer_types ints.Int ints.Int64 h = absurd (cc)
+equal_integer_types ints.Int ints.Uint64 h = absurd (cc)
+equal_integer_types ints.Uint ints.Int h = absurd (cc)
+equal_integer_types ints.Uint ints.Uint h = refl
+equal_integer_types ints.Uint ints.Int64 h = absurd (cc)
+equal_integer_types ints.Uint ints.Uint64 h = absurd (cc)
+equal_integer_types ints.Int64 ints.Int h = absurd (cc)
+equal_integer_types ints.Int64 ints.Uint h = absurd (cc)
+equal_integer_types ints.Int64 ints.Int64 h = refl
+equal_integer_types ints.Int64 ints.Uint64 h = absurd (cc)
+equal_integer_types ints.Uint64 ints.Int h = absurd (cc)
+equal_integer_types ints.Uint64 ints.Uint h = absurd (cc)
+equal_integer_types ints.Uint64 ints.Int64 h = absurd (cc)
+equal_integer_types ints.Uint64 ints.Uint64 h = refl
 
-converted_if : (j k : IntType) (tree : Expr) (b : Bool) → is_same_kind j k ≡ b → type_of tree ≡ value (vars.Integer j)
+converted_if : (j k : IntType) (tree : Expr) (b : Bool) → is_same_integer_type j k ≡ b
+    → type_of tree ≡ value (vars.Integer j)
     → type_of (converted (cond b None (Some (record { from = j; to = k }))) tree) ≡ value (vars.Integer k)
-converted_if j k tree true h i = i ∙ ap (λ (x : IntType). value (vars.Integer x)) (equal_kinds j k h)
+converted_if j k tree true h i = i ∙ ap (λ (x : IntType). value (vars.Integer x)) (equal_integer_types j k h)
 converted_if j k tree false h i = refl
 
 integer_converted : (k j : IntType) (tree : Expr) → type_of tree ≡ value (vars.Integer j)
     → type_of (converted (conversion (ty.Integer k) (ty.Integer j)) tree) ≡ value (vars.Integer k)
-integer_converted k j tree h = converted_if j k tree (is_same_kind j k) refl h
+integer_converted k j tree h = converted_if j k tree (is_same_integer_type j k) refl h
 
 converted_type : (k j : IntType) (t : Term) → type_of t.tree ≡ value_type t.ty → t.ty ≡ ty.Integer j
     → type_of (converted_to (ty.Integer k) t) ≡ value (vars.Integer k)

@@ -14,7 +14,8 @@ use Rattle.ash_typed.specs.declared.tree.operations.Calculator.TheVariants as ca
 use Rattle.ash_typed.specs.declared.tree.operations.Operands.{Operands}
 use Rattle.ash_typed.specs.declared.tree.operations.Operands.TheVariants as operands
 use Rattle.ash_typing.specs.TypingResult.{TypingResult, ◌>>=◌}
-use Rattle.ash_typing.specs.Types.{is_same_kind, meeting, operator_class_of, binary_of, integers_in, meets, assumed}
+use Rattle.ash_typing.specs.Types.{is_same_integer_type, meeting, operator_class_of, binary_of}
+use Rattle.ash_typing.specs.Types.{integers_in, meets, assumed}
 use Rattle.ash_typing.specs.Expressions.{adapted, unify_operands, placed, term_of}
 use Rattle.ash_typing.specs.Typing.{is_known, Meet, right_of}
 use Rattle.ash_typing.specs.Terms.{Term, adapted_to, converted_to, right_by}
@@ -46,14 +47,14 @@ no_fault_at r x h = subst (λ (r : TypingResult _). IsOk r) (sym h) refl
 
 -- integer types
 
-pub same_kind : (k : IntType) → is_same_kind k k ≡ true
-same_kind ints.Int = refl
-same_kind ints.Uint = refl
-same_kind ints.Int64 = refl
-same_kind ints.Uint64 = refl
+pub same_integer_type : (k : IntType) → is_same_integer_type k k ≡ true
+same_integer_type ints.Int = refl
+same_integer_type ints.Uint = refl
+same_integer_type ints.Int64 = refl
+same_integer_type ints.Uint64 = refl
 
 pub unconverted : (k : IntType) (t : Term) → t.ty ≡ ty.Integer k → converted_to (ty.Integer k) t ≡ t.tree
-unconverted k t h = rw h (rw (same_kind k) refl)
+unconverted k t h = rw h (rw (same_integer_type k) refl)
 
 -- operands
 
@@ -80,7 +81,8 @@ meets_assumed s x y o h = h
 
 -- what calculates takes integers
 
-same_integers : (k : IntType) (o : Operands) → Some (operands.Integers k) ≡ Some o → o ≡ operands.Integers (integers_in o)
+same_integers : (k : IntType) (o : Operands) → Some (operands.Integers k) ≡ Some o
+    → o ≡ operands.Integers (integers_in o)
 same_integers k o h =
     subst (λ (x : Operands). x ≡ operands.Integers (integers_in x)) (same_Some (operands.Integers k) o h) refl
 

@@ -72,7 +72,7 @@ reference_lives : {all : Objects (List ℕ)} {Fits : Shape → Type 0} {w : Word
 reference_lives n to_nothing e = absurd (cc)
 reference_lives {all} n (to_object {number} {shape} at fits) e = subst (λ (k : ℕ). Lives all k) (same_Some number n e) (shape_lives number all shape at)
 
-pub integer_is_none : {kind : IntType} {w : Word} (n : ℕ) → IsInteger kind w → handle w ≡ Some n → ⊥
+pub integer_is_none : {int_type : IntType} {w : Word} (n : ℕ) → IsInteger int_type w → handle w ≡ Some n → ⊥
 integer_is_none n (int f) e = cc
 integer_is_none n (uint f) e = cc
 integer_is_none n (int64 f) e = cc

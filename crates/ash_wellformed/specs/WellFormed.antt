@@ -126,7 +126,7 @@ pub data IsInteger : IntType → Word → Type 0 where
 -- a word is a value of the type: null where there is no object
 pub data IsValue (p : Program) (all : Objects (List ℕ)) : VarType → Word → Type 0 where
   is_truth : {b : Bool} → IsValue p all vars.Bool (words.Bool b)
-  is_integer : {kind : IntType} {word : Word} → IsInteger kind word → IsValue p all (vars.Integer kind) word
+  is_integer : {int_type : IntType} {word : Word} → IsInteger int_type word → IsValue p all (vars.Integer int_type) word
   is_object : {of : ObjectType} {word : Word} → IsReference all (IsOf p of) word → IsValue p all (vars.Object of) word
   is_handle : {of : ObjectType} {word : Word} → IsReference all (IsOf p of) word → IsValue p all (vars.Handle of) word
 

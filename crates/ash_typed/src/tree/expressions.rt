@@ -15,7 +15,7 @@ use ash_integers::IntType;
 pub enum Expr {
     /// A number of an integer type that holds it.
     Number {
-        kind: IntType,
+        of: IntType,
         value: u64,
     },
     Bool(bool),

@@ -64,7 +64,7 @@ pub enum StmtKind {
     },
     /// The value is of an integer type, which holds the constant of each label.
     Switch {
-        kind: IntType,
+        of: IntType,
         value: Expr,
         cases: Vec<Case>,
     },
