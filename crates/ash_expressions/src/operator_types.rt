@@ -195,7 +195,9 @@ pub(crate) fn operator_result(sort: OperatorClass, operands: Operands) -> Ty
     ensures { result ≡ types.outcome sort operands }
 {
     match (sort, operands) {
-        (OperatorClass::Arithmetic | OperatorClass::Shift, Operands::Integers(int_type)) => Ty::Integer(int_type),
+        (OperatorClass::Arithmetic | OperatorClass::Shift, Operands::Integers(int_type)) => {
+            Ty::Integer(int_type)
+        }
         _ => Ty::Bool,
     }
 }

@@ -217,7 +217,12 @@ fn build_integer_change(
 }
 
 /// The value alone, which can't be assigned.
-fn build_integer(alloc: Global, at: usize, int_type: IntType, operand: TypedExpr) -> CheckResult<TypedExpr>
+fn build_integer(
+    alloc: Global,
+    at: usize,
+    int_type: IntType,
+    operand: TypedExpr,
+) -> CheckResult<TypedExpr>
     ensures { Agrees typed_of result (Ok (typing.integer_at at int_type (typed_of operand))) }
 {
     let value = coerce(alloc, Ty::Integer(int_type), operand)?;

@@ -31,7 +31,8 @@ pub fn worked_int_table()
     ensures shifted_right { made_of Calculator.ShiftRight IntType.Int (signed_pairs 32)
         ≡ (Ok (pos 1) ∷ Ok (pos 1) ∷ Ok (pos 0) ∷ Ok (pos 1073741822) ∷ Ok (pos 0) ∷ Ok (pos 5) ∷
         Ok (pos 0) ∷ []) }
-    ensures shifted_with_sign { made_of Calculator.ShiftRightArithmetic IntType.Int (signed_pairs 32)
+    ensures shifted_with_sign { made_of Calculator.ShiftRightArithmetic IntType.Int
+        (signed_pairs 32)
         ≡ (Ok (negsuc 0) ∷ Ok (negsuc 0) ∷ Ok (pos 0) ∷ Ok (negsuc 1) ∷ Ok (pos 0) ∷ Ok (pos 5) ∷
         Ok (pos 0) ∷ []) }
     ensures ands { made_of Calculator.BitAnd IntType.Int (signed_pairs 32)
@@ -68,7 +69,8 @@ pub fn worked_uint_table()
     ensures shifted_right { made_of Calculator.ShiftRight IntType.Uint (unsigned_pairs 32)
         ≡ (Ok (pos 1) ∷ Ok (pos 1073741823) ∷ Ok (pos 1) ∷ Ok (pos 0) ∷ Ok (pos 0) ∷ Ok (pos 5) ∷
         Ok (pos 0) ∷ []) }
-    ensures shifted_with_sign { made_of Calculator.ShiftRightArithmetic IntType.Uint (unsigned_pairs 32)
+    ensures shifted_with_sign { made_of Calculator.ShiftRightArithmetic IntType.Uint
+        (unsigned_pairs 32)
         ≡ (Ok (pos 4294967295) ∷ Ok (pos 4294967295) ∷ Ok (pos 1) ∷ Ok (pos 0) ∷ Ok (pos 0) ∷
         Ok (pos 5) ∷ Ok (pos 0) ∷ []) }
     ensures ands { made_of Calculator.BitAnd IntType.Uint (unsigned_pairs 32)
@@ -105,7 +107,8 @@ pub fn worked_int64_table()
     ensures shifted_right { made_of Calculator.ShiftRight IntType.Int64 (signed_pairs 64)
         ≡ (Ok (pos 1) ∷ Ok (pos 1) ∷ Ok (pos 0) ∷ Ok (pos 4611686018427387902) ∷ Ok (pos 0) ∷
         Ok (pos 5) ∷ Ok (pos 0) ∷ []) }
-    ensures shifted_with_sign { made_of Calculator.ShiftRightArithmetic IntType.Int64 (signed_pairs 64)
+    ensures shifted_with_sign { made_of Calculator.ShiftRightArithmetic IntType.Int64
+        (signed_pairs 64)
         ≡ (Ok (negsuc 0) ∷ Ok (negsuc 0) ∷ Ok (pos 0) ∷ Ok (negsuc 1) ∷ Ok (pos 0) ∷ Ok (pos 5) ∷
         Ok (pos 0) ∷ []) }
     ensures ands { made_of Calculator.BitAnd IntType.Int64 (signed_pairs 64)
@@ -142,7 +145,8 @@ pub fn worked_uint64_table()
     ensures shifted_right { made_of Calculator.ShiftRight IntType.Uint64 (unsigned_pairs 64)
         ≡ (Ok (pos 1) ∷ Ok (pos 4611686018427387903) ∷ Ok (pos 1) ∷ Ok (pos 0) ∷ Ok (pos 0) ∷
         Ok (pos 5) ∷ Ok (pos 0) ∷ []) }
-    ensures shifted_with_sign { made_of Calculator.ShiftRightArithmetic IntType.Uint64 (unsigned_pairs 64)
+    ensures shifted_with_sign { made_of Calculator.ShiftRightArithmetic IntType.Uint64
+        (unsigned_pairs 64)
         ≡ (Ok (pos 18446744073709551615) ∷ Ok (pos 18446744073709551615) ∷ Ok (pos 1) ∷
         Ok (pos 0) ∷ Ok (pos 0) ∷ Ok (pos 5) ∷ Ok (pos 0) ∷ []) }
     ensures ands { made_of Calculator.BitAnd IntType.Uint64 (unsigned_pairs 64)
