@@ -6,7 +6,7 @@ ghost use Rattle.ash_typing.specs.Terms as terms;
 
 use crate::types::{common_integer_type, is_same_object};
 use ash_tree::{AssignOp, BinaryOp};
-use ash_typed::{Calculator, Comparator, Kind, Lazy, ObjectType, Operands};
+use ash_typed::{Calculator, Comparator, IntType, Lazy, ObjectType, Operands};
 use ash_typing::{Operator, OperatorClass, Ty};
 
 /// The sort of an operator.
@@ -76,12 +76,12 @@ pub(crate) fn calculator_operator(operator: Calculator) -> BinaryOp
 }
 
 /// The integer type of operands, where they are integers.
-pub(crate) fn operand_integer_type(operands: Operands) -> Kind
+pub(crate) fn operand_integer_type(operands: Operands) -> IntType
     ensures { result ≡ types.integers_in operands }
 {
     match operands {
-        Operands::Integers(kind) => kind,
-        _ => Kind::Int,
+        Operands::Integers(int_type) => int_type,
+        _ => IntType::Int,
     }
 }
 
@@ -127,7 +127,7 @@ pub(crate) fn assumed_type(sort: OperatorClass, other: Ty, of: Ty) -> Ty
         (OperatorClass::Equality, Ty::Bool, Ty::Unknown) => Ty::Bool,
         (OperatorClass::Identity, _, Ty::Unknown) => Ty::Null,
         (OperatorClass::Logic, _, Ty::Unknown) => Ty::Bool,
-        (_, _, Ty::Unknown) => Ty::Integer(Kind::Int),
+        (_, _, Ty::Unknown) => Ty::Integer(IntType::Int),
         _ => of,
     }
 }
@@ -195,7 +195,9 @@ pub(crate) fn operator_result(sort: OperatorClass, operands: Operands) -> Ty
     ensures { result ≡ types.outcome sort operands }
 {
     match (sort, operands) {
-        (OperatorClass::Arithmetic | OperatorClass::Shift, Operands::Integers(kind)) => Ty::Integer(kind),
+        (OperatorClass::Arithmetic | OperatorClass::Shift, Operands::Integers(int_type)) => {
+            Ty::Integer(int_type)
+        }
         _ => Ty::Bool,
     }
 }
@@ -204,7 +206,7 @@ pub(crate) fn operand_type(operands: Operands) -> Ty
     ensures { result ≡ terms.operand_type operands }
 {
     match operands {
-        Operands::Integers(kind) => Ty::Integer(kind),
+        Operands::Integers(int_type) => Ty::Integer(int_type),
         Operands::Bools => Ty::Bool,
         Operands::Handles => Ty::Null,
     }

@@ -18,7 +18,7 @@ use crate::typed_expr::{TypedExpr, adapt_operand, check_bool, coerce, handle_typ
 use crate::types::{common_type, conversion, is_void, signed_type, ty_of};
 use ash_tree::{BinaryOp, Primitive, UnaryOp};
 use ash_typed::{
-    Calculation, Change, Expr, Kind, Lazy, ObjectType, Operand, Operands, Operation, Step, nodes,
+    Calculation, Change, Expr, IntType, Lazy, ObjectType, Operand, Operands, Operation, Step, nodes,
 };
 use ash_typing::{Operator, Rule, OperatorClass, Ty};
 use std::alloc::{AllocError, Global};
@@ -199,29 +199,34 @@ pub(crate) fn build_step(
     let Some(place) = assignable_place(alloc, operand.form, operand.tree)? else {
         return Err(fault_at(Rule::NotAssignable, operand.at));
     };
-    let kind = integer_type(operand.at, operand.ty)?;
-    Ok(TypedExpr::value(at, Ty::Integer(kind), nodes::count(place, kind, step)))
+    let int_type = integer_type(operand.at, operand.ty)?;
+    Ok(TypedExpr::value(at, Ty::Integer(int_type), nodes::count(place, int_type, step)))
 }
 
 fn build_integer_change(
     alloc: Global,
     at: usize,
-    kind: Kind,
+    int_type: IntType,
     change: Change,
     operand: TypedExpr,
 ) -> CheckResult<TypedExpr>
-    ensures { Agrees typed_of result (Ok (typing.altered at kind change (typed_of operand))) }
+    ensures { Agrees typed_of result (Ok (typing.altered at int_type change (typed_of operand))) }
 {
-    let value = coerce(alloc, Ty::Integer(kind), operand)?;
-    Ok(TypedExpr::value(at, Ty::Integer(kind), nodes::alter(alloc, change, value)?))
+    let value = coerce(alloc, Ty::Integer(int_type), operand)?;
+    Ok(TypedExpr::value(at, Ty::Integer(int_type), nodes::alter(alloc, change, value)?))
 }
 
 /// The value alone, which can't be assigned.
-fn build_integer(alloc: Global, at: usize, kind: Kind, operand: TypedExpr) -> CheckResult<TypedExpr>
-    ensures { Agrees typed_of result (Ok (typing.integer_at at kind (typed_of operand))) }
+fn build_integer(
+    alloc: Global,
+    at: usize,
+    int_type: IntType,
+    operand: TypedExpr,
+) -> CheckResult<TypedExpr>
+    ensures { Agrees typed_of result (Ok (typing.integer_at at int_type (typed_of operand))) }
 {
-    let value = coerce(alloc, Ty::Integer(kind), operand)?;
-    Ok(TypedExpr::value(at, Ty::Integer(kind), value))
+    let value = coerce(alloc, Ty::Integer(int_type), operand)?;
+    Ok(TypedExpr::value(at, Ty::Integer(int_type), value))
 }
 
 fn build_change(
@@ -268,16 +273,16 @@ pub(crate) fn build_unary(
     let at = prefix.at;
     match prefix.operator {
         UnaryOp::Plus => {
-            let kind = integer_type(operand.at, operand.ty)?;
-            build_integer(alloc, at, kind, operand)
+            let int_type = integer_type(operand.at, operand.ty)?;
+            build_integer(alloc, at, int_type, operand)
         }
         UnaryOp::Minus => {
-            let kind = signed_type(integer_type(operand.at, operand.ty)?);
-            build_integer_change(alloc, at, kind, Change::Negate(kind), operand)
+            let int_type = signed_type(integer_type(operand.at, operand.ty)?);
+            build_integer_change(alloc, at, int_type, Change::Negate(int_type), operand)
         }
         UnaryOp::BitNot => {
-            let kind = integer_type(operand.at, operand.ty)?;
-            build_integer_change(alloc, at, kind, Change::Complement(kind), operand)
+            let int_type = integer_type(operand.at, operand.ty)?;
+            build_integer_change(alloc, at, int_type, Change::Complement(int_type), operand)
         }
         UnaryOp::Not => {
             check_bool(operand.at, operand.ty)?;
@@ -300,9 +305,9 @@ pub(crate) fn build_conversion(
     ensures { Agrees typed_of result (typing.convert_at at to (typed_of value)) }
 {
     match ty_of(to) {
-        Ty::Integer(kind) => {
+        Ty::Integer(int_type) => {
             integer_type(value.at, value.ty)?;
-            build_integer(alloc, at, kind, value)
+            build_integer(alloc, at, int_type, value)
         }
         _ => {
             check_bool(value.at, value.ty)?;

@@ -12,7 +12,7 @@ use crate::environment::Environment;
 use crate::error::{CheckResult, fault_at};
 use crate::fitting::fits;
 use crate::types::{conversion, holds, number_type};
-use ash_typed::{Expr, Kind, nodes};
+use ash_typed::{Expr, IntType, nodes};
 use ash_typing::{Form, Rule, OperatorClass, Ty};
 use std::alloc::{AllocError, Global};
 
@@ -54,13 +54,13 @@ impl TypedExpr {
     pub(crate) fn number(at: usize, number: u64) -> TypedExpr
         ensures { typed_of result ≡ typing.placed at (terms.number_term number) }
     {
-        let kind = number_type(number);
+        let int_type = number_type(number);
         TypedExpr {
             at,
-            ty: Ty::Integer(kind),
+            ty: Ty::Integer(int_type),
             form: Form::Number(number),
             tree: Expr::Number {
-                kind,
+                of: int_type,
                 value: number,
             },
         }
@@ -86,12 +86,12 @@ pub fn coerce_for_assignment(env: &Environment, to: Ty, typed: TypedExpr) -> Che
 }
 
 /// The integer type of an operand.
-pub fn integer_type(at: usize, of: Ty) -> CheckResult<Kind>
+pub fn integer_type(at: usize, of: Ty) -> CheckResult<IntType>
     ensures { Agrees (λ k. k) result (typing.integer_of at of) }
 {
     match of {
-        Ty::Integer(kind) => Ok(kind),
-        Ty::Unknown => Ok(Kind::Int),
+        Ty::Integer(int_type) => Ok(int_type),
+        Ty::Unknown => Ok(IntType::Int),
         _ => Err(fault_at(Rule::TypeMismatch, at)),
     }
 }
@@ -125,10 +125,10 @@ fn adapt_number(other: Form, of: Ty, typed: &mut TypedExpr)
 {
     match (other, of, typed.form) {
         (Form::Number(_), _, Form::Number(_)) => {}
-        (_, Ty::Integer(kind), Form::Number(number)) if holds(kind, number) => {
-            typed.ty = Ty::Integer(kind);
+        (_, Ty::Integer(int_type), Form::Number(number)) if holds(int_type, number) => {
+            typed.ty = Ty::Integer(int_type);
             typed.tree = Expr::Number {
-                kind,
+                of: int_type,
                 value: number,
             };
         }

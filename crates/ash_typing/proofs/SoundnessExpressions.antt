@@ -5,8 +5,8 @@ use Rattle.std.proofs.lemmas.Option.{none-some, same_Some}
 use Rattle.std.proofs.Common.{◌≡◌, ℕ, length, List, [], ◌∷◌, Bool, true, false, cond, map, Option, Some, nat_eq, refl}
 use Rattle.std.proofs.Common.{sym, ap, subst, ◌∙◌}
 use Rattle.ash_tree.specs.Tree as written
-use Rattle.ash_typed.specs.declared.types.Kind.{Kind}
-use Rattle.ash_typed.specs.declared.types.Kind.TheVariants as kinds
+use Rattle.ash_integers.specs.declared.int_type.IntType.{IntType}
+use Rattle.ash_integers.specs.declared.int_type.IntType.TheVariants as ints
 use Rattle.ash_typed.specs.declared.types.ObjectType.{ObjectType}
 use Rattle.ash_typed.specs.declared.types.ObjectType.TheVariants as objects
 use Rattle.ash_typed.specs.declared.types.VarType.{VarType}
@@ -97,7 +97,7 @@ assigned_place env form.HandlePlace tree of at h e = place_is env tree of at h e
 assigned_place env (form.Number n) tree of at h e = absurd (none-some at e)
 assigned_place env form.Value tree of at h e = absurd (none-some at e)
 
-integer_place : (env : Environment) (t : Term) (at : Place) (k : Kind) → IsSound env t
+integer_place : (env : Environment) (t : Term) (at : Place) (k : IntType) → IsSound env t
     → assignable t.form t.tree ≡ Some at → t.ty ≡ ty.Integer k → sound.HasPlace (seen_in env) at (vars.Integer k)
 integer_place env t at k h e l =
     subst (λ of. sound.HasPlace (seen_in env) at (var_type of)) l (assigned_place env t.form t.tree t.ty at h.place e)
@@ -125,11 +125,11 @@ handle_sound : (env : Environment) (t : Term) (o : ObjectType) → object_of t.t
     → sound.IsWellTyped (seen_in env) t.tree (value (vars.Handle o))
 handle_sound env t o e h = subst (sound.IsWellTyped (seen_in env) t.tree) (value_type_of_object t.ty o e) h
 
-signed_is : (k : Kind) → operations.IsSigned (signed k)
-signed_is kinds.Int = operations.int
-signed_is kinds.Uint = operations.int
-signed_is kinds.Int64 = operations.int64
-signed_is kinds.Uint64 = operations.int64
+signed_is : (k : IntType) → operations.IsSigned (signed k)
+signed_is ints.Int = operations.int
+signed_is ints.Uint = operations.int
+signed_is ints.Int64 = operations.int64
+signed_is ints.Uint64 = operations.int64
 
 -- arguments
 
@@ -163,8 +163,8 @@ call_sound env callee parameters trees r takes args =
 
 array_if : (env : Environment) (of : Element) (b : Bool) → IsElement (seen_in env).signatures of
     → operations.IsTarget (seen_in env).signatures (targets.Array of)
-    (map var_type (cond b [] (ty.Integer kinds.Uint ∷ []))) (Some (vars.Handle (objects.Array of)))
-    × AllByRecursion IsVariableType (cond b [] (ty.Integer kinds.Uint ∷ []))
+    (map var_type (cond b [] (ty.Integer ints.Uint ∷ []))) (Some (vars.Handle (objects.Array of)))
+    × AllByRecursion IsVariableType (cond b [] (ty.Integer ints.Uint ∷ []))
 array_if env of true h = (operations.empty_array h, tt)
 array_if env of false h = (operations.sized_array h, (refl, tt))
 
@@ -181,31 +181,31 @@ cast_is env o to_interface h = operations.to_interface h
 
 -- updates
 
-arithmetic_right : (env : Environment) (a b : Ty) (f : Form) (y : Expr) (j : Kind) → GivesType env y b
+arithmetic_right : (env : Environment) (a b : Ty) (f : Form) (y : Expr) (j : IntType) → GivesType env y b
     → meets sort.Arithmetic a b ≡ Some (operands.Integers j)
     → GivesType env (converted (conversion (ty.Integer j) b) y) (ty.Integer j)
 arithmetic_right env (ty.Integer m) (ty.Integer n) f y j h e = integer_sound env n j y h
 arithmetic_right env _ _ f y j h e = absurd (none-some (operands.Integers j) e)
 
 shift_right : (env : Environment) (a b : Ty) (y : Expr) (o : Operands) → GivesType env y b
-    → meets sort.Shift a b ≡ Some o → (k : Kind) × GivesType env y (ty.Integer k)
+    → meets sort.Shift a b ≡ Some o → (k : IntType) × GivesType env y (ty.Integer k)
 shift_right env (ty.Integer m) (ty.Integer n) y o h e = (n, h)
 shift_right env _ _ y o h e = absurd (none-some o e)
 
-by_arithmetic : (env : Environment) (c : Calculator) (a : Ty) (u : Term) (j k : Kind) (at : Place)
+by_arithmetic : (env : Environment) (c : Calculator) (a : Ty) (u : Term) (j k : IntType) (at : Place)
     → sound.HasPlace (seen_in env) at (vars.Integer k) → GivesType env u.tree u.ty
     → meets sort.Arithmetic a u.ty ≡ Some (operands.Integers j)
     → GivesType env (Update at k (record { operator = c; of = j }) (converted_to (ty.Integer j) u)) (ty.Integer k)
 by_arithmetic env c a u j k at p h e = sound.update p (arithmetic_right env a u.ty u.form u.tree j h e)
 
-by_shift : (env : Environment) (c : Calculator) (a : Ty) (u : Term) (j k : Kind) (at : Place) → operations.IsShift c
+by_shift : (env : Environment) (c : Calculator) (a : Ty) (u : Term) (j k : IntType) (at : Place) → operations.IsShift c
     → sound.HasPlace (seen_in env) at (vars.Integer k) → GivesType env u.tree u.ty
     → meets sort.Shift a u.ty ≡ Some (operands.Integers j)
     → GivesType env (Update at k (record { operator = c; of = j }) u.tree) (ty.Integer k)
 by_shift env c a u j k at s p h e =
     sound.update_by_shift s p (shift_right env a u.ty u.tree (operands.Integers j) h e).1
 
-updated_sound : (env : Environment) (c : Calculator) (a : Ty) (u : Term) (j k : Kind) (at : Place)
+updated_sound : (env : Environment) (c : Calculator) (a : Ty) (u : Term) (j k : IntType) (at : Place)
     → sound.HasPlace (seen_in env) at (vars.Integer k) → GivesType env u.tree u.ty
     → meets (operator_class_of (binary_of c)) a u.ty ≡ Some (operands.Integers j)
     → GivesType env
@@ -264,17 +264,17 @@ invoked_sound env t o text m trees known h i args =
     (at_some (λ m. IsResultType m.result) (method_in env o text) m (method_known env o text known) i))
     (sound.invoke h (at_some (IsSoundMethod env o) (method_in env o text) m (method_sound env o text known) i).0 args)
 
-element_place : (env : Environment) (t u : Term) (of : Element) (k : Kind) → object_of t.ty ≡ Some (objects.Array of)
+element_place : (env : Environment) (t u : Term) (of : Element) (k : IntType) → object_of t.ty ≡ Some (objects.Array of)
     → GivesType env t.tree t.ty → u.ty ≡ ty.Integer k → GivesType env u.tree u.ty
-    → IsSound env (read_term (ty_of_element of) (Read (Indexed t.tree (converted_to (ty.Integer kinds.Uint) u) of)))
+    → IsSound env (read_term (ty_of_element of) (Read (Indexed t.tree (converted_to (ty.Integer ints.Uint) u) of)))
 element_place env t u of k e h i g =
-    read_sound env (Read (Indexed t.tree (converted_to (ty.Integer kinds.Uint) u) of)) (ty_of_element of)
+    read_sound env (Read (Indexed t.tree (converted_to (ty.Integer ints.Uint) u) of)) (ty_of_element of)
     (element_known of) (
       _,
       refl,
-      subst (sound.HasPlace (seen_in env) (Indexed t.tree (converted_to (ty.Integer kinds.Uint) u) of))
+      subst (sound.HasPlace (seen_in env) (Indexed t.tree (converted_to (ty.Integer ints.Uint) u) of))
           (sym (element_type of))
-          (sound.element (handle_sound env t (objects.Array of) e h) (converted_sound env u k kinds.Uint i g)),
+          (sound.element (handle_sound env t (objects.Array of) e h) (converted_sound env u k ints.Uint i g)),
     )
 
 -- expressions

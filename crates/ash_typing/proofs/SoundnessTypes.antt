@@ -6,8 +6,8 @@ use Rattle.std.proofs.lemmas.Map.Views.{Contains-from_any}
 use Rattle.std.proofs.Common.{◌≡◌, ◌^◌, ℕ, Bool, true, false, cond, Option, Some, None, slice_get, refl, sym, ap, subst}
 use Rattle.ash_tree.specs.declared.tree.operators.BinaryOp.{BinaryOp}
 use Rattle.ash_tree.specs.declared.tree.operators.BinaryOp.TheVariants as binary
-use Rattle.ash_typed.specs.declared.types.Kind.{Kind}
-use Rattle.ash_typed.specs.declared.types.Kind.TheVariants as kinds
+use Rattle.ash_integers.specs.declared.int_type.IntType.{IntType}
+use Rattle.ash_integers.specs.declared.int_type.IntType.TheVariants as ints
 use Rattle.ash_typed.specs.declared.types.Element.{Element}
 use Rattle.ash_typed.specs.declared.types.Element.TheVariants as elements
 use Rattle.ash_typed.specs.declared.types.ObjectType.{ObjectType}
@@ -26,14 +26,15 @@ use Rattle.ash_typing.specs.declared.forms.OperatorClass.{OperatorClass}
 use Rattle.ash_typing.specs.declared.forms.OperatorClass.TheVariants as sort
 use Rattle.ash_typing.specs.declared.forms.Form.{Form}
 use Rattle.ash_typing.specs.declared.forms.Form.TheVariants as form
-use Rattle.ash_typing.specs.Types.{is_same_kind, is_same_element, is_same_object, holds, kind_of, meeting, common}
+use Rattle.ash_typing.specs.Types.{is_same_integer_type, is_same_element, is_same_object, holds}
+use Rattle.ash_typing.specs.Types.{number_type, meeting, common}
 use Rattle.ash_typing.specs.Types.{gives_object, agrees, operator_class_of, meets, outcome, var_type, value_type}
 use Rattle.ash_typing.specs.Environment.{Environment, Class}
 use Rattle.ash_typing.specs.Coercions.{has_interface, lists, is_of, fits}
 use Rattle.ash_typing.specs.Terms.{conversion, operand_type, applied, Term, converted_to, taking, adapted_to, right_by}
 use Rattle.ash_typing.specs.Typing.{is_known, IsKnownType}
 use Rattle.ash_typing.specs.Soundness.{signature_of_class, seen_in}
-use Rattle.ash_typing.proofs.TypingTypes.{equal_kinds}
+use Rattle.ash_typing.proofs.TypingTypes.{equal_integer_types}
 use Rattle.ash_typing.proofs.SoundnessLookUps.{mapped}
 
 -- the tree gives what an expression of the type gives
@@ -44,7 +45,8 @@ GivesType env tree of = sound.IsWellTyped (seen_in env) tree (value_type of)
 
 equal_elements : (e f : Element) → is_same_element e f ≡ true → e ≡ f
 equal_elements elements.Bool elements.Bool h = refl
-equal_elements (elements.Integer j) (elements.Integer k) h = ap (λ kind. elements.Integer kind) (equal_kinds j k h)
+equal_elements (elements.Integer j) (elements.Integer k) h =
+    ap (λ int_type. elements.Integer int_type) (equal_integer_types j k h)
 equal_elements (elements.Class a) (elements.Class b) h = ap (λ place. elements.Class place) (eqb-true a b h)
 equal_elements (elements.Interface a) (elements.Interface b) h = ap (λ place. elements.Interface place) (eqb-true a b h)
 equal_elements (elements.Host a) (elements.Host b) h = ap (λ kind. elements.Host kind) (eqb-true a b h)
@@ -59,42 +61,43 @@ equal_objects o p h = absurd (cc)
 
 -- numbers
 
-pub within : (k : Kind) (n : ℕ) → holds k n ≡ true → operations.IsWithin k n
-within kinds.Int n h = ltb-true n (2 ^ 31) h
-within kinds.Uint n h = ltb-true n (2 ^ 32) h
-within kinds.Int64 n h = ltb-true n (2 ^ 63) h
-within kinds.Uint64 n h = tt
+pub within : (k : IntType) (n : ℕ) → holds k n ≡ true → operations.IsWithin k n
+within ints.Int n h = ltb-true n (2 ^ 31) h
+within ints.Uint n h = ltb-true n (2 ^ 32) h
+within ints.Int64 n h = ltb-true n (2 ^ 63) h
+within ints.Uint64 n h = tt
 
-kind_within : (n : ℕ) (a b c : Bool) → holds kinds.Int n ≡ a → holds kinds.Uint n ≡ b → holds kinds.Int64 n ≡ c
-    → operations.IsWithin (cond a kinds.Int (cond b kinds.Uint (cond c kinds.Int64 kinds.Uint64))) n
-kind_within n true b c h i k = within kinds.Int n h
-kind_within n false true c h i k = within kinds.Uint n i
-kind_within n false false true h i k = within kinds.Int64 n k
-kind_within n false false false h i k = tt
+number_type_within : (n : ℕ) (a b c : Bool) → holds ints.Int n ≡ a → holds ints.Uint n ≡ b → holds ints.Int64 n ≡ c
+    → operations.IsWithin (cond a ints.Int (cond b ints.Uint (cond c ints.Int64 ints.Uint64))) n
+number_type_within n true b c h i k = within ints.Int n h
+number_type_within n false true c h i k = within ints.Uint n i
+number_type_within n false false true h i k = within ints.Int64 n k
+number_type_within n false false false h i k = tt
 
 -- a number has a type that holds it
-pub number_sound : (env : Environment) (n : ℕ) → GivesType env (Number (kind_of n) n) (ty.Integer (kind_of n))
+pub number_sound : (env : Environment) (n : ℕ) → GivesType env (Number (number_type n) n) (ty.Integer (number_type n))
 number_sound env n =
-    sound.number (kind_within n (holds kinds.Int n) (holds kinds.Uint n) (holds kinds.Int64 n) refl refl refl)
+    sound.number (number_type_within n (holds ints.Int n) (holds ints.Uint n) (holds ints.Int64 n) refl refl refl)
 
 -- conversions
 
-integer_if : (env : Environment) (j k : Kind) (tree : Expr) (b : Bool) → is_same_kind j k ≡ b
+integer_if : (env : Environment) (j k : IntType) (tree : Expr) (b : Bool) → is_same_integer_type j k ≡ b
     → GivesType env tree (ty.Integer j)
     → GivesType env (converted (cond b None (Some (record { from = j; to = k }))) tree) (ty.Integer k)
-integer_if env j k tree true e h = subst (λ kind. GivesType env tree (ty.Integer kind)) (equal_kinds j k e) h
+integer_if env j k tree true e h =
+    subst (λ int_type. GivesType env tree (ty.Integer int_type)) (equal_integer_types j k e) h
 integer_if env j k tree false e h = sound.convert h
 
-pub integer_sound : (env : Environment) (j k : Kind) (tree : Expr) → GivesType env tree (ty.Integer j)
+pub integer_sound : (env : Environment) (j k : IntType) (tree : Expr) → GivesType env tree (ty.Integer j)
     → GivesType env (converted (conversion (ty.Integer k) (ty.Integer j)) tree) (ty.Integer k)
-integer_sound env j k tree h = integer_if env j k tree (is_same_kind j k) refl h
+integer_sound env j k tree h = integer_if env j k tree (is_same_integer_type j k) refl h
 
 -- of what is known to have a type
 pub of_type : (env : Environment) (tree : Expr) (of other : Ty) → of ≡ other → GivesType env tree of
     → GivesType env tree other
 of_type env tree of other e h = subst (GivesType env tree) e h
 
-pub converted_sound : (env : Environment) (t : Term) (j k : Kind) → t.ty ≡ ty.Integer j → GivesType env t.tree t.ty
+pub converted_sound : (env : Environment) (t : Term) (j k : IntType) → t.ty ≡ ty.Integer j → GivesType env t.tree t.ty
     → GivesType env (converted_to (ty.Integer k) t) (ty.Integer k)
 converted_sound env t j k e h =
     subst (λ of. GivesType env (converted (conversion (ty.Integer k) of) t.tree) (ty.Integer k)) (sym e)
@@ -102,7 +105,8 @@ converted_sound env t j k e h =
 
 -- operands
 
-taken_sound : (env : Environment) (k : Kind) (n : ℕ) (t : Term) (b : Bool) → holds k n ≡ b → GivesType env t.tree t.ty
+taken_sound : (env : Environment) (k : IntType) (n : ℕ) (t : Term) (b : Bool) → holds k n ≡ b
+    → GivesType env t.tree t.ty
     → GivesType env (cond b (record { ty = ty.Integer k; form = form.Number n; tree = Number k n }) t).tree
     (cond b (record { ty = ty.Integer k; form = form.Number n; tree = Number k n }) t).ty
 taken_sound env k n t true e h = sound.number (within k n e)
@@ -125,7 +129,7 @@ abbrev AreOperands : Environment → OperatorClass → Operands → Expr → Exp
 AreOperands env sort.Arithmetic (operands.Integers k) a b =
     GivesType env a (ty.Integer k) × GivesType env b (ty.Integer k)
 AreOperands env sort.Shift (operands.Integers k) a b =
-    GivesType env a (ty.Integer k) × ((j : Kind) × GivesType env b (ty.Integer j))
+    GivesType env a (ty.Integer k) × ((j : IntType) × GivesType env b (ty.Integer j))
 AreOperands env sort.Order (operands.Integers k) a b = GivesType env a (ty.Integer k) × GivesType env b (ty.Integer k)
 AreOperands env sort.Equality (operands.Integers k) a b =
     GivesType env a (ty.Integer k) × GivesType env b (ty.Integer k)

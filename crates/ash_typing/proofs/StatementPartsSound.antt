@@ -5,7 +5,7 @@ use Rattle.std.proofs.Common.{Ok, refl, sym, ap, subst}
 use Rattle.std.specs.List.{AllByRecursion}
 use Rattle.ash_tree.specs.declared.tree.places.Place.{Place}
 use Rattle.ash_tree.specs.Tree as written
-use Rattle.ash_typed.specs.declared.types.Kind.{Kind}
+use Rattle.ash_integers.specs.declared.int_type.IntType.{IntType}
 use Rattle.ash_typing.specs.declared.types.Ty.{Ty}
 use Rattle.ash_typing.specs.declared.types.Ty.TheVariants as ty
 use Rattle.ash_typed.specs.StatementTree.{Initialization, Stmt, Declare, Head}
@@ -154,7 +154,7 @@ bool_sound at (ty.Object o) fit k h = absurd (no_err _ fit h)
 bool_sound at (ty.Handle o) fit k h = absurd (no_err _ fit h)
 bool_sound at ty.Null fit k h = absurd (no_err _ fit h)
 
-pub integer_sound : (at : ℕ) (of : Ty) (j : Kind) → IsKnownType of → integer_of at of ≡ Ok j → of ≡ ty.Integer j
+pub integer_sound : (at : ℕ) (of : Ty) (j : IntType) → IsKnownType of → integer_of at of ≡ Ok j → of ≡ ty.Integer j
 integer_sound at (ty.Integer i) j k h = ap ty.Integer (ok_is i j h)
 integer_sound at ty.Unknown j k h = absurd (cc)
 integer_sound at ty.Void j k h = absurd (no_err _ j h)

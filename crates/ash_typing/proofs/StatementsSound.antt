@@ -6,7 +6,7 @@ use Rattle.ash_tree.specs.declared.tree.statements.Label.{Label}
 use Rattle.ash_tree.specs.declared.tree.statements.Label.TheVariants as labels
 use Rattle.ash_tree.specs.declared.tree.places.Place.{Place}
 use Rattle.ash_tree.specs.Tree as written
-use Rattle.ash_typed.specs.declared.types.Kind.{Kind}
+use Rattle.ash_integers.specs.declared.int_type.IntType.{IntType}
 use Rattle.ash_typing.specs.declared.types.Ty.{Ty}
 use Rattle.ash_typing.specs.declared.types.Ty.TheVariants as ty
 use Rattle.ash_typing.specs.Coercions.{fits}
@@ -19,7 +19,7 @@ use Rattle.ash_typing.specs.Environment.{Class}
 use Rattle.ash_typing.specs.Expressions.{Typed, typed, all_typed, integer_of, is_void, term_of}
 use Rattle.ash_typing.specs.Typing.{IsKnownType}
 use Rattle.ash_typing.specs.Returning.{is_default}
-use Rattle.ash_typing.specs.Switches.{kind_in, is_within, constant_typed, label_typed}
+use Rattle.ash_typing.specs.Switches.{integer_type_in, is_within, constant_typed, label_typed}
 use Rattle.ash_typing.specs.Statements.{vars_typed, condition_is, if_typed, if_else_typed}
 use Rattle.ash_typing.specs.Statements.{while_typed, do_while_typed, maybe_typed, maybe_condition_is, tree_of}
 use Rattle.ash_typing.specs.Statements.{head_typed, for_typed, break_typed, continue_typed, gives_nothing, returned}
@@ -140,7 +140,7 @@ return_sound scope k p (Some e) t h =
 
 -- labels
 
-constant_sound : (k : Kind) (before : List Label) (last : Bool) (at : ℕ) (l r : Label) → is_default l ≡ false
+constant_sound : (k : IntType) (before : List Label) (last : Bool) (at : ℕ) (l r : Label) → is_default l ≡ false
     → constant_typed (Some k) before at l ≡ Ok r → IsLabel k before last l × (r ≡ l)
 unfolding constant_typed is_within
 constant_sound k before last at l r d h = if_ok (holds_label k l) _ _ (Ok r) h
@@ -149,7 +149,7 @@ constant_sound k before last at l r d h = if_ok (holds_label k l) _ _ (Ok r) h
     (λ c f. (constant d b c, sym (ok_is l r f))))
     (λ b e. absurd (no_err _ r e))
 
-label_sound : (k : Kind) (before : List Label) (last : Bool) (at : ℕ) (l r : Label)
+label_sound : (k : IntType) (before : List Label) (last : Bool) (at : ℕ) (l r : Label)
     → label_typed (Some k) before last at l ≡ Ok r → IsLabel k before last l × (r ≡ l)
 unfolding label_typed
 label_sound k before true at labels.Default r h = (otherwise, sym (ok_is _ r h))
@@ -157,8 +157,8 @@ label_sound k before false at labels.Default r h = absurd (no_err _ r h)
 label_sound k before last at (labels.Case n) r h = constant_sound k before last at (labels.Case n) r refl h
 label_sound k before last at (labels.CaseMinus n) r h = constant_sound k before last at (labels.CaseMinus n) r refl h
 
-kind_found : (of : Ty) (k : Kind) → of ≡ ty.Integer k → kind_in of ≡ Some k
-kind_found of k h = rw h refl
+integer_type_found : (of : Ty) (k : IntType) → of ≡ ty.Integer k → integer_type_in of ≡ Some k
+integer_type_found of k h = rw h refl
 
 -- statements
 
@@ -207,14 +207,15 @@ mutual
       (steps_sound within.env inner.env es us j) (stmt_sound (loop_of within) (loop_known within inner) s u l)))
   stmt_sound scope k (written.Switch p e cs) t h =
       let v = bind_ok (typed scope.env false e) _ t h in
-      let rows = bind_ok (cases_typed (switch_of scope) (kind_in (v.0).ty) [] cs) _ t v.2 in
+      let rows = bind_ok (cases_typed (switch_of scope) (integer_type_in (v.0).ty) [] cs) _ t v.2 in
       let j = bind_ok (integer_of (v.0).at (v.0).ty) _ t rows.2 in
       let has = sound scope.env k.env false e v.0 v.1 in
       let is = integer_sound (v.0).at (v.0).ty j.0 (known_type has k.env) j.1 in
       subst (IsStmt scope (written.Switch p e cs)) (ok_is _ t j.2)
       (switch has is
       (cases_sound (switch_of scope) (switch_known scope k) j.0 [] cs rows.0
-      (subst (λ kind. cases_typed (switch_of scope) kind [] cs ≡ Ok rows.0) (kind_found (v.0).ty j.0 is) rows.1)))
+      (subst (λ int_type. cases_typed (switch_of scope) int_type [] cs ≡ Ok rows.0)
+      (integer_type_found (v.0).ty j.0 is) rows.1)))
   stmt_sound scope k (written.Break p) t h = break_sound scope p t h
   stmt_sound scope k (written.Continue p) t h = continue_sound scope p t h
   stmt_sound scope k (written.Return p e) t h = return_sound scope k p e t h
@@ -230,7 +231,7 @@ mutual
       (stmts_sound (after scope s) (known_after scope s t.0 k t.1) ss r.0 r.1))
 
   pub cases_sound : (scope : Scope) → IsKnownScope scope
-      → (k : Kind) (before : List Label) (cs : written.Cases) (rows : Cases)
+      → (k : IntType) (before : List Label) (cs : written.Cases) (rows : Cases)
       → cases_typed scope (Some k) before cs ≡ Ok rows → AreCases scope k before cs rows
   cases_sound scope known k before written.no_case rows h =
       subst (AreCases scope k before written.no_case) (ok_is _ rows h) no_more_cases

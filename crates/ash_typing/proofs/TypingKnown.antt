@@ -31,7 +31,7 @@ use Rattle.ash_typed.specs.declared.tree.operations.Member.TheVariants.{Field}
 use Rattle.ash_typed.specs.declared.tree.operations.Method.TheVariants as methods
 use Rattle.ash_typed.specs.declared.tree.operations.Target.TheVariants as targets
 use Rattle.ash_typing.specs.declared.forms.Callable.TheVariants as callables
-use Rattle.ash_typed.specs.declared.types.Kind.{Kind}
+use Rattle.ash_integers.specs.declared.int_type.IntType.{IntType}
 use Rattle.std.specs.Str.{bytes_eq}
 use Rattle.ash_typed.specs.Tree.{Number, Read, Stored, Held, This}
 use Rattle.ash_typing.specs.Environment.{Environment, Declared, Function, Class, Known, Callee, Invoked, first_from}
@@ -166,7 +166,7 @@ common_known ty.Null (ty.Object o) of h k c = known_if_some (ty.Handle o) of ref
 common_known ty.Null (ty.Handle o) of h k c = known_if_some (ty.Handle o) of refl c
 common_known a b of h k c = absurd (none-some of c)
 
-taken_known : (b : Bool) (k : Kind) (n : ℕ) (t : Term) → is_known t.ty ≡ true
+taken_known : (b : Bool) (k : IntType) (n : ℕ) (t : Term) → is_known t.ty ≡ true
     → is_known (cond b (record { ty = ty.Integer k; form = form.Number n; tree = Number k n }) t).ty ≡ true
 taken_known true k n t h = refl
 taken_known false k n t h = h

@@ -3,8 +3,8 @@ use Rattle.std.proofs.lemmas.Option.{none-some, same_Some}
 use Rattle.std.proofs.Common.{◌≡◌, ℕ, IsOk, true, Some, Ok, Err, refl, sym, subst}
 use Rattle.ash_tree.specs.declared.tree.operators.BinaryOp.{BinaryOp}
 use Rattle.ash_typing.specs.declared.fault.Fault.{Fault}
-use Rattle.ash_typed.specs.declared.types.Kind.{Kind}
-use Rattle.ash_typed.specs.declared.types.Kind.TheVariants as kinds
+use Rattle.ash_integers.specs.declared.int_type.IntType.{IntType}
+use Rattle.ash_integers.specs.declared.int_type.IntType.TheVariants as ints
 use Rattle.ash_typing.specs.declared.types.Ty.{Ty}
 use Rattle.ash_typing.specs.declared.types.Ty.TheVariants as ty
 use Rattle.ash_typing.specs.declared.forms.OperatorClass.{OperatorClass}
@@ -14,7 +14,8 @@ use Rattle.ash_typed.specs.declared.tree.operations.Calculator.TheVariants as ca
 use Rattle.ash_typed.specs.declared.tree.operations.Operands.{Operands}
 use Rattle.ash_typed.specs.declared.tree.operations.Operands.TheVariants as operands
 use Rattle.ash_typing.specs.TypingResult.{TypingResult, ◌>>=◌}
-use Rattle.ash_typing.specs.Types.{is_same_kind, meeting, operator_class_of, binary_of, integers_in, meets, assumed}
+use Rattle.ash_typing.specs.Types.{is_same_integer_type, meeting, operator_class_of, binary_of}
+use Rattle.ash_typing.specs.Types.{integers_in, meets, assumed}
 use Rattle.ash_typing.specs.Expressions.{adapted, unify_operands, placed, term_of}
 use Rattle.ash_typing.specs.Typing.{is_known, Meet, right_of}
 use Rattle.ash_typing.specs.Terms.{Term, adapted_to, converted_to, right_by}
@@ -44,16 +45,16 @@ answered (Err f) h go = cc
 pub no_fault_at : {A : Type 0} (r : TypingResult A) (x : A) → r ≡ Ok x → IsOk r
 no_fault_at r x h = subst (λ (r : TypingResult _). IsOk r) (sym h) refl
 
--- kinds
+-- integer types
 
-pub same_kind : (k : Kind) → is_same_kind k k ≡ true
-same_kind kinds.Int = refl
-same_kind kinds.Uint = refl
-same_kind kinds.Int64 = refl
-same_kind kinds.Uint64 = refl
+pub same_integer_type : (k : IntType) → is_same_integer_type k k ≡ true
+same_integer_type ints.Int = refl
+same_integer_type ints.Uint = refl
+same_integer_type ints.Int64 = refl
+same_integer_type ints.Uint64 = refl
 
-pub unconverted : (k : Kind) (t : Term) → t.ty ≡ ty.Integer k → converted_to (ty.Integer k) t ≡ t.tree
-unconverted k t h = rw h (rw (same_kind k) refl)
+pub unconverted : (k : IntType) (t : Term) → t.ty ≡ ty.Integer k → converted_to (ty.Integer k) t ≡ t.tree
+unconverted k t h = rw h (rw (same_integer_type k) refl)
 
 -- operands
 
@@ -80,7 +81,8 @@ meets_assumed s x y o h = h
 
 -- what calculates takes integers
 
-same_integers : (k : Kind) (o : Operands) → Some (operands.Integers k) ≡ Some o → o ≡ operands.Integers (integers_in o)
+same_integers : (k : IntType) (o : Operands) → Some (operands.Integers k) ≡ Some o
+    → o ≡ operands.Integers (integers_in o)
 same_integers k o h =
     subst (λ (x : Operands). x ≡ operands.Integers (integers_in x)) (same_Some (operands.Integers k) o h) refl
 

@@ -12,8 +12,8 @@ use Rattle.ash_tree.specs.declared.tree.operators.AssignOp.TheVariants as assign
 use Rattle.ash_tree.specs.Tree as written
 use Rattle.ash_typing.specs.declared.fault.Rule.TheVariants.{UnknownName, UnknownType, TypeMismatch, WrongArgumentCount}
 use Rattle.ash_typing.specs.declared.fault.Rule.TheVariants.{NotAssignable, Misplaced, NoFactory}
-use Rattle.ash_typed.specs.declared.types.Kind.{Kind}
-use Rattle.ash_typed.specs.declared.types.Kind.TheVariants as kinds
+use Rattle.ash_integers.specs.declared.int_type.IntType.{IntType}
+use Rattle.ash_integers.specs.declared.int_type.IntType.TheVariants as ints
 use Rattle.ash_typed.specs.declared.types.Element.{Element}
 use Rattle.ash_typed.specs.declared.types.Element.TheVariants as elements
 use Rattle.ash_typed.specs.declared.types.ObjectType.{ObjectType}
@@ -74,9 +74,9 @@ coerced_for_assignment classes to t = if fits classes to t.ty then Ok (coerced t
 
 -- what an operand has to be
 
-abbrev pub integer_of : ℕ → Ty → TypingResult Kind
+abbrev pub integer_of : ℕ → Ty → TypingResult IntType
 integer_of at (ty.Integer k) = Ok k
-integer_of at ty.Unknown = Ok kinds.Int
+integer_of at ty.Unknown = Ok ints.Int
 integer_of at _ = broken TypeMismatch at
 
 abbrev pub bool_of : ℕ → Ty → TypingResult Bool
@@ -127,11 +127,11 @@ unfoldable pub counted : ℕ → Step → Typed → Option Place → TypingResul
 counted at step t None = broken NotAssignable t.at
 counted at step t (Some p) = integer_of t.at t.ty >>= λ k. Ok (term_at at (ty.Integer k) (Count p k step))
 
-abbrev pub altered : ℕ → Kind → Change → Typed → Typed
+abbrev pub altered : ℕ → IntType → Change → Typed → Typed
 altered at k change t = term_at at (ty.Integer k) (Alter change (coerced (ty.Integer k) t))
 
 -- `integer_at at k t` is the value alone, which can't be assigned.
-abbrev pub integer_at : ℕ → Kind → Typed → Typed
+abbrev pub integer_at : ℕ → IntType → Typed → Typed
 integer_at at k t = term_at at (ty.Integer k) (coerced (ty.Integer k) t)
 
 abbrev pub handle_at : Bool → ℕ → Typed → TypingResult Typed
@@ -269,7 +269,7 @@ invocation_typed env t at name arguments =
 
 -- `index_in i` is an index, which is converted to `uint`.
 abbrev pub index_in : Typed → TypingResult Expr
-index_in i = integer_of i.at i.ty >>= λ k. Ok (coerced (ty.Integer kinds.Uint) i)
+index_in i = integer_of i.at i.ty >>= λ k. Ok (coerced (ty.Integer ints.Uint) i)
 
 abbrev pub indexed_at : Typed → Typed → Ty → Element → TypingResult Typed
 indexed_at t i of e = index_in i >>= λ index. Ok (read_at t.at of (Read (Indexed t.tree index e)))

@@ -4,8 +4,8 @@ use Rattle.ash_tree.specs.declared.tree.types.Primitive.{Primitive}
 use Rattle.ash_tree.specs.declared.tree.types.Primitive.TheVariants as primitives
 use Rattle.ash_tree.specs.declared.tree.operators.BinaryOp.{BinaryOp}
 use Rattle.ash_tree.specs.declared.tree.operators.BinaryOp.TheVariants as binary
-use Rattle.ash_typed.specs.declared.types.Kind.{Kind}
-use Rattle.ash_typed.specs.declared.types.Kind.TheVariants.{Int, Uint, Int64, Uint64}
+use Rattle.ash_integers.specs.declared.int_type.IntType.{IntType}
+use Rattle.ash_integers.specs.declared.int_type.IntType.TheVariants.{Int, Uint, Int64, Uint64}
 use Rattle.ash_typed.specs.declared.types.ObjectType.{ObjectType}
 use Rattle.ash_typed.specs.declared.types.Element.{Element}
 use Rattle.ash_typed.specs.declared.types.Element.TheVariants as elements
@@ -28,56 +28,56 @@ use Rattle.ash_typed.specs.TypeOf.{ValueType, no_value, null_value, value, as_va
 
 -- integer types
 
-abbrev pub is_signed : Kind → Bool
+abbrev pub is_signed : IntType → Bool
 is_signed Int = true
 is_signed Uint = false
 is_signed Int64 = true
 is_signed Uint64 = false
 
-abbrev pub is_wide : Kind → Bool
+abbrev pub is_wide : IntType → Bool
 is_wide Int = false
 is_wide Uint = false
 is_wide Int64 = true
 is_wide Uint64 = true
 
--- `kind_by signed wide` is the integer type with a sign or without, of 64 bits or of 32.
-abbrev pub kind_by : (signed wide : Bool) → Kind
-kind_by true false = Int
-kind_by false false = Uint
-kind_by true true = Int64
-kind_by false true = Uint64
+-- `integer_type_of signed wide` is the integer type with a sign or without, of 64 bits or of 32.
+abbrev pub integer_type_of : (signed wide : Bool) → IntType
+integer_type_of true false = Int
+integer_type_of false false = Uint
+integer_type_of true true = Int64
+integer_type_of false true = Uint64
 
 -- Two integer types meet at the greater width, signed where either is.
-abbrev pub meeting : Kind → Kind → Kind
-meeting j k = kind_by (is_signed j || is_signed k) (is_wide j || is_wide k)
+abbrev pub meeting : IntType → IntType → IntType
+meeting j k = integer_type_of (is_signed j || is_signed k) (is_wide j || is_wide k)
 
 -- `signed k` is the signed type of the same width.
-abbrev pub signed : Kind → Kind
-signed k = kind_by true (is_wide k)
+abbrev pub signed : IntType → IntType
+signed k = integer_type_of true (is_wide k)
 
-abbrev pub is_same_kind : Kind → Kind → Bool
-is_same_kind Int Int = true
-is_same_kind Uint Uint = true
-is_same_kind Int64 Int64 = true
-is_same_kind Uint64 Uint64 = true
-is_same_kind _ _ = false
+abbrev pub is_same_integer_type : IntType → IntType → Bool
+is_same_integer_type Int Int = true
+is_same_integer_type Uint Uint = true
+is_same_integer_type Int64 Int64 = true
+is_same_integer_type Uint64 Uint64 = true
+is_same_integer_type _ _ = false
 
 -- The type holds a number that is not negative.
-abbrev pub holds : Kind → ℕ → Bool
+abbrev pub holds : IntType → ℕ → Bool
 holds Int n = nat_lt n (2 ^ 31)
 holds Uint n = nat_lt n (2 ^ 32)
 holds Int64 n = nat_lt n (2 ^ 63)
 holds Uint64 n = true
 
--- `kind_of n` is the type of a number by itself: the first that holds it.
-abbrev pub kind_of : ℕ → Kind
-kind_of n = if holds Int n then Int else (if holds Uint n then Uint else (if holds Int64 n then Int64 else Uint64))
+-- `number_type n` is the type of a number by itself: the first that holds it.
+abbrev pub number_type : ℕ → IntType
+number_type n = if holds Int n then Int else (if holds Uint n then Uint else (if holds Int64 n then Int64 else Uint64))
 
 -- objects
 
 abbrev pub is_same_element : Element → Element → Bool
 is_same_element elements.Bool elements.Bool = true
-is_same_element (elements.Integer j) (elements.Integer k) = is_same_kind j k
+is_same_element (elements.Integer j) (elements.Integer k) = is_same_integer_type j k
 is_same_element (elements.Class a) (elements.Class b) = nat_eq a b
 is_same_element (elements.Interface a) (elements.Interface b) = nat_eq a b
 is_same_element (elements.Host a) (elements.Host b) = nat_eq a b
@@ -119,7 +119,7 @@ abbrev pub is_same : Ty → Ty → Bool
 is_same ty.Unknown _ = true
 is_same _ ty.Unknown = true
 is_same ty.Bool ty.Bool = true
-is_same (ty.Integer j) (ty.Integer k) = is_same_kind j k
+is_same (ty.Integer j) (ty.Integer k) = is_same_integer_type j k
 is_same (ty.Object o) (ty.Object p) = is_same_object o p
 is_same (ty.Handle o) (ty.Handle p) = is_same_object o p
 is_same ty.Null ty.Null = true
@@ -290,7 +290,7 @@ binary_of calculators.BitXor = binary.BitXor
 binary_of calculators.BitOr = binary.BitOr
 
 -- `integers_in o` is the integer type of operands, where they are integers.
-abbrev pub integers_in : Operands → Kind
+abbrev pub integers_in : Operands → IntType
 integers_in (operands.Integers k) = k
 integers_in _ = Int
 

@@ -8,7 +8,7 @@ use Rattle.ash_host.specs.declared.word.Word.TheVariants as words
 use Rattle.ash_host.specs.Objects.{Objects}
 use Rattle.ash_integers.specs.Integers.{number_of}
 use Rattle.ash_tree.specs.declared.tree.statements.Label.{Label}
-use Rattle.ash_typed.specs.declared.types.Kind.{Kind}
+use Rattle.ash_integers.specs.declared.int_type.IntType.{IntType}
 use Rattle.ash_typed.specs.declared.types.VarType.{VarType}
 use Rattle.ash_typed.specs.declared.tree.statements.Test.{Test}
 use Rattle.ash_typed.specs.declared.tree.statements.Test.TheVariants as tests
@@ -283,7 +283,7 @@ module _ {c : Context} (context : IsContext c) (body : Entry → Run (Option Wor
           bind begun (λ flow b q. on_after _ flow b q.0 (weaken (λ f d on. declared_on types q.1 on) (stmts_lead ss same (q.1).well)))
       stmts_lead (sound.more_stmts s ss) same h = bind (stmt_leads s same h) (λ flow b p. go_on_leads _ flow p (stmts_lead ss same (p.passes).well))
 
-      cases_keep : {scope : Scope} {kind : Kind} {before : List Label} {cs : Cases} → AreCases scope kind before cs → (scope.env).signatures ≡ declared c → (envs : List Environment) → AllByRecursion (KeepsLabel c scope.env envs scope.result scope.may_break scope.may_continue) (cases here depth cs)
+      cases_keep : {scope : Scope} {int_type : IntType} {before : List Label} {cs : Cases} → AreCases scope int_type before cs → (scope.env).signatures ≡ declared c → (envs : List Environment) → AllByRecursion (KeepsLabel c scope.env envs scope.result scope.may_break scope.may_continue) (cases here depth cs)
       cases_keep sound.no_cases same envs = tt
       cases_keep (sound.more_cases l ss cs) same envs = ((λ a h. labelled_leads ss same h), cases_keep cs same envs)
 

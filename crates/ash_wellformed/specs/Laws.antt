@@ -85,7 +85,7 @@ pub record IsSettled (c : Context) (w : World) : Type 0 where
 -- a type of no objects
 abbrev pub IsPrimitive : VarType → Type 0
 IsPrimitive vars.Bool = Unit {0}
-IsPrimitive (vars.Integer kind) = Unit {0}
+IsPrimitive (vars.Integer int_type) = Unit {0}
 IsPrimitive _ = ⊥
 
 abbrev pub IsNoObjectResult : Option VarType → Type 0
