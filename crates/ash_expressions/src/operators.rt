@@ -11,8 +11,8 @@ ghost use Rattle.ash_expressions.specs.Views.{typed_of, unified_of, is_target};
 use crate::error::{CheckResult, fault_at};
 use crate::forms::{Position, assignable_place, handle_form};
 use crate::operator_types::{
-    accepts, assumed_type, common_operands, operand_integer_type, operand_type, operator_result,
-    operator_sort, typed_operator,
+    accepts, assumed_type, common_operands, operand_integer_type, operand_type, operator_class,
+    operator_result, typed_operator,
 };
 use crate::typed_expr::{TypedExpr, adapt_operand, check_bool, coerce, handle_type, integer_type};
 use crate::types::{common_type, conversion, is_void, signed_type, ty_of};
@@ -20,7 +20,7 @@ use ash_tree::{BinaryOp, Primitive, UnaryOp};
 use ash_typed::{
     Calculation, Change, Expr, IntType, Lazy, ObjectType, Operand, Operands, Operation, Step, nodes,
 };
-use ash_typing::{Operator, Rule, OperatorClass, Ty};
+use ash_typing::{Operator, OperatorClass, Rule, Ty};
 use std::alloc::{AllocError, Global};
 
 /// An operator before its operand, at the offset of the operator.
@@ -41,14 +41,14 @@ pub(crate) struct UnifiedOperands {
 
 fn right_operand(
     alloc: Global,
-    sort: OperatorClass,
+    class: OperatorClass,
     operands: Operands,
     right: TypedExpr,
 ) -> CheckResult<Expr>
     ensures { Agrees expr_of result
-        (Ok (terms.right_by sort operands (typing.term_of (typed_of right)))) }
+        (Ok (terms.right_by class operands (typing.term_of (typed_of right)))) }
 {
-    match sort {
+    match class {
         OperatorClass::Shift => Ok(right.tree),
         _ => Ok(coerce(alloc, operand_type(operands), right)?),
     }
@@ -56,23 +56,23 @@ fn right_operand(
 
 fn unify_adapted(
     alloc: Global,
-    sort: OperatorClass,
+    class: OperatorClass,
     left: TypedExpr,
     right: TypedExpr,
 ) -> CheckResult<UnifiedOperands>
-    ensures { Agrees unified_of result (typing.unified_by sort (typed_of left) (typed_of right)) }
+    ensures { Agrees unified_of result (typing.unified_by class (typed_of left) (typed_of right)) }
 {
-    let one = assumed_type(sort, right.ty, left.ty);
-    let other = assumed_type(sort, left.ty, right.ty);
-    let Some(operands) = common_operands(sort, one, other) else {
-        let at = if accepts(sort, left.ty) {
+    let one = assumed_type(class, right.ty, left.ty);
+    let other = assumed_type(class, left.ty, right.ty);
+    let Some(operands) = common_operands(class, one, other) else {
+        let at = if accepts(class, left.ty) {
             right.at
         } else {
             left.at
         };
         return Err(fault_at(Rule::TypeMismatch, at));
     };
-    let right = right_operand(alloc, sort, operands, right)?;
+    let right = right_operand(alloc, class, operands, right)?;
     Ok(UnifiedOperands {
         left,
         operands,
@@ -87,13 +87,14 @@ pub(crate) fn unify_operands(
     mut left: TypedExpr,
     mut right: TypedExpr,
 ) -> CheckResult<UnifiedOperands>
-    ensures { Agrees unified_of result (typing.unify_operands operator (typed_of left) (typed_of right)) }
+    ensures { Agrees unified_of result
+        (typing.unify_operands operator (typed_of left) (typed_of right)) }
 {
-    let sort = operator_sort(operator);
+    let class = operator_class(operator);
     let (form, of) = (right.form, right.ty);
-    adapt_operand(sort, left.form, left.ty, &mut right);
-    adapt_operand(sort, form, of, &mut left);
-    unify_adapted(alloc, sort, left, right)
+    adapt_operand(class, left.form, left.ty, &mut right);
+    adapt_operand(class, form, of, &mut left);
+    unify_adapted(alloc, class, left, right)
 }
 
 /// The tree of an operation on two operands. The left one is converted to the type that the operator takes it for.
@@ -181,7 +182,7 @@ pub(crate) fn build_binary(
     let at = unified.left.at;
     let operands = unified.operands;
     let tree = operator_tree(alloc, operator, operands, unified.left, unified.right)?;
-    Ok(TypedExpr::value(at, operator_result(operator_sort(operator), operands), tree))
+    Ok(TypedExpr::value(at, operator_result(operator_class(operator), operands), tree))
 }
 
 /// `++` or `--` at a place.

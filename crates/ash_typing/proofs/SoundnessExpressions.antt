@@ -32,7 +32,7 @@ use Rattle.ash_typing.specs.declared.forms.Callable.{Callable}
 use Rattle.ash_typing.specs.declared.forms.Callable.TheVariants as callables
 use Rattle.ash_typing.specs.declared.forms.Form.{Form}
 use Rattle.ash_typing.specs.declared.forms.Form.TheVariants as form
-use Rattle.ash_typing.specs.declared.forms.OperatorClass.TheVariants as sort
+use Rattle.ash_typing.specs.declared.forms.OperatorClass.TheVariants as operator_class
 use Rattle.ash_typing.specs.Types.{signed, object_of, result_type, operator_class_of, binary_of, meets, outcome, ty_of_element}
 use Rattle.ash_typing.specs.Types.{var_type}
 use Rattle.ash_typing.specs.Environment.{Environment, Known, Callee, Invoked, variable_in, callee_in, member_in}
@@ -182,25 +182,25 @@ cast_is env o to_interface h = operations.to_interface h
 -- updates
 
 arithmetic_right : (env : Environment) (a b : Ty) (f : Form) (y : Expr) (j : IntType) → GivesType env y b
-    → meets sort.Arithmetic a b ≡ Some (operands.Integers j)
+    → meets operator_class.Arithmetic a b ≡ Some (operands.Integers j)
     → GivesType env (converted (conversion (ty.Integer j) b) y) (ty.Integer j)
 arithmetic_right env (ty.Integer m) (ty.Integer n) f y j h e = integer_sound env n j y h
 arithmetic_right env _ _ f y j h e = absurd (none-some (operands.Integers j) e)
 
 shift_right : (env : Environment) (a b : Ty) (y : Expr) (o : Operands) → GivesType env y b
-    → meets sort.Shift a b ≡ Some o → (k : IntType) × GivesType env y (ty.Integer k)
+    → meets operator_class.Shift a b ≡ Some o → (k : IntType) × GivesType env y (ty.Integer k)
 shift_right env (ty.Integer m) (ty.Integer n) y o h e = (n, h)
 shift_right env _ _ y o h e = absurd (none-some o e)
 
 by_arithmetic : (env : Environment) (c : Calculator) (a : Ty) (u : Term) (j k : IntType) (at : Place)
     → sound.HasPlace (seen_in env) at (vars.Integer k) → GivesType env u.tree u.ty
-    → meets sort.Arithmetic a u.ty ≡ Some (operands.Integers j)
+    → meets operator_class.Arithmetic a u.ty ≡ Some (operands.Integers j)
     → GivesType env (Update at k (record { operator = c; of = j }) (converted_to (ty.Integer j) u)) (ty.Integer k)
 by_arithmetic env c a u j k at p h e = sound.update p (arithmetic_right env a u.ty u.form u.tree j h e)
 
 by_shift : (env : Environment) (c : Calculator) (a : Ty) (u : Term) (j k : IntType) (at : Place) → operations.IsShift c
     → sound.HasPlace (seen_in env) at (vars.Integer k) → GivesType env u.tree u.ty
-    → meets sort.Shift a u.ty ≡ Some (operands.Integers j)
+    → meets operator_class.Shift a u.ty ≡ Some (operands.Integers j)
     → GivesType env (Update at k (record { operator = c; of = j }) u.tree) (ty.Integer k)
 by_shift env c a u j k at s p h e =
     sound.update_by_shift s p (shift_right env a u.ty u.tree (operands.Integers j) h e).1

@@ -23,7 +23,7 @@ use Rattle.ash_typed.specs.SoundExpressions as sound
 use Rattle.ash_typing.specs.declared.types.Ty.{Ty}
 use Rattle.ash_typing.specs.declared.types.Ty.TheVariants as ty
 use Rattle.ash_typing.specs.declared.forms.OperatorClass.{OperatorClass}
-use Rattle.ash_typing.specs.declared.forms.OperatorClass.TheVariants as sort
+use Rattle.ash_typing.specs.declared.forms.OperatorClass.TheVariants as operator_class
 use Rattle.ash_typing.specs.declared.forms.Form.{Form}
 use Rattle.ash_typing.specs.declared.forms.Form.TheVariants as form
 use Rattle.ash_typing.specs.Types.{is_same_integer_type, is_same_element, is_same_object, holds}
@@ -121,21 +121,21 @@ taking_sound env a of b t h = h
 -- the operand of an operator whose other operand is this
 pub adapted_sound : (env : Environment) (s : OperatorClass) (other t : Term) → GivesType env t.tree t.ty
     → GivesType env (adapted_to s other t).tree (adapted_to s other t).ty
-adapted_sound env sort.Shift other t h = h
+adapted_sound env operator_class.Shift other t h = h
 adapted_sound env _ other t h = taking_sound env other.form other.ty t.form t h
 
 -- what the operands of an operator give, by what it is of
 abbrev AreOperands : Environment → OperatorClass → Operands → Expr → Expr → Type 0
-AreOperands env sort.Arithmetic (operands.Integers k) a b =
+AreOperands env operator_class.Arithmetic (operands.Integers k) a b =
     GivesType env a (ty.Integer k) × GivesType env b (ty.Integer k)
-AreOperands env sort.Shift (operands.Integers k) a b =
+AreOperands env operator_class.Shift (operands.Integers k) a b =
     GivesType env a (ty.Integer k) × ((j : IntType) × GivesType env b (ty.Integer j))
-AreOperands env sort.Order (operands.Integers k) a b = GivesType env a (ty.Integer k) × GivesType env b (ty.Integer k)
-AreOperands env sort.Equality (operands.Integers k) a b =
+AreOperands env operator_class.Order (operands.Integers k) a b = GivesType env a (ty.Integer k) × GivesType env b (ty.Integer k)
+AreOperands env operator_class.Equality (operands.Integers k) a b =
     GivesType env a (ty.Integer k) × GivesType env b (ty.Integer k)
-AreOperands env sort.Equality operands.Bools a b = GivesType env a ty.Bool × GivesType env b ty.Bool
-AreOperands env sort.Logic operands.Bools a b = GivesType env a ty.Bool × GivesType env b ty.Bool
-AreOperands env sort.Identity operands.Handles a b =
+AreOperands env operator_class.Equality operands.Bools a b = GivesType env a ty.Bool × GivesType env b ty.Bool
+AreOperands env operator_class.Logic operands.Bools a b = GivesType env a ty.Bool × GivesType env b ty.Bool
+AreOperands env operator_class.Identity operands.Handles a b =
     (x y : ValueType) × sound.IsWellTyped (seen_in env) a x × operations.IsOperand operands.Handles x
     × sound.IsWellTyped (seen_in env) b y × operations.IsOperand operands.Handles y
 AreOperands env _ _ _ _ = ⊥
@@ -147,42 +147,42 @@ AreMet env s o a b f x y =
     (right_by s o (record { ty = b; form = f; tree = y }))
 
 arithmetic_sound : (env : Environment) (a b : Ty) (f : Form) (x y : Expr) (o : Operands) → GivesType env x a
-    → GivesType env y b → meets sort.Arithmetic a b ≡ Some o → AreMet env sort.Arithmetic o a b f x y
+    → GivesType env y b → meets operator_class.Arithmetic a b ≡ Some o → AreMet env operator_class.Arithmetic o a b f x y
 arithmetic_sound env (ty.Integer j) (ty.Integer k) f x y o h i e =
-    subst (λ o. AreMet env sort.Arithmetic o (ty.Integer j) (ty.Integer k) f x y)
+    subst (λ o. AreMet env operator_class.Arithmetic o (ty.Integer j) (ty.Integer k) f x y)
     (same_Some (operands.Integers (meeting j k)) o e)
     (integer_sound env j (meeting j k) x h, integer_sound env k (meeting j k) y i)
 arithmetic_sound env _ _ f x y o h i e = absurd (none-some o e)
 
 shift_sound : (env : Environment) (a b : Ty) (f : Form) (x y : Expr) (o : Operands) → GivesType env x a
-    → GivesType env y b → meets sort.Shift a b ≡ Some o → AreMet env sort.Shift o a b f x y
+    → GivesType env y b → meets operator_class.Shift a b ≡ Some o → AreMet env operator_class.Shift o a b f x y
 shift_sound env (ty.Integer j) (ty.Integer k) f x y o h i e =
-    subst (λ o. AreMet env sort.Shift o (ty.Integer j) (ty.Integer k) f x y) (same_Some (operands.Integers j) o e)
+    subst (λ o. AreMet env operator_class.Shift o (ty.Integer j) (ty.Integer k) f x y) (same_Some (operands.Integers j) o e)
     (integer_sound env j j x h, (k, i))
 shift_sound env _ _ f x y o h i e = absurd (none-some o e)
 
 order_sound : (env : Environment) (a b : Ty) (f : Form) (x y : Expr) (o : Operands) → GivesType env x a
-    → GivesType env y b → meets sort.Order a b ≡ Some o → AreMet env sort.Order o a b f x y
+    → GivesType env y b → meets operator_class.Order a b ≡ Some o → AreMet env operator_class.Order o a b f x y
 order_sound env (ty.Integer j) (ty.Integer k) f x y o h i e =
-    subst (λ o. AreMet env sort.Order o (ty.Integer j) (ty.Integer k) f x y)
+    subst (λ o. AreMet env operator_class.Order o (ty.Integer j) (ty.Integer k) f x y)
     (same_Some (operands.Integers (meeting j k)) o e)
     (integer_sound env j (meeting j k) x h, integer_sound env k (meeting j k) y i)
 order_sound env _ _ f x y o h i e = absurd (none-some o e)
 
 equality_sound : (env : Environment) (a b : Ty) (f : Form) (x y : Expr) (o : Operands) → GivesType env x a
-    → GivesType env y b → meets sort.Equality a b ≡ Some o → AreMet env sort.Equality o a b f x y
+    → GivesType env y b → meets operator_class.Equality a b ≡ Some o → AreMet env operator_class.Equality o a b f x y
 equality_sound env (ty.Integer j) (ty.Integer k) f x y o h i e =
-    subst (λ o. AreMet env sort.Equality o (ty.Integer j) (ty.Integer k) f x y)
+    subst (λ o. AreMet env operator_class.Equality o (ty.Integer j) (ty.Integer k) f x y)
     (same_Some (operands.Integers (meeting j k)) o e)
     (integer_sound env j (meeting j k) x h, integer_sound env k (meeting j k) y i)
 equality_sound env ty.Bool ty.Bool f x y o h i e =
-    subst (λ o. AreMet env sort.Equality o ty.Bool ty.Bool f x y) (same_Some operands.Bools o e) (h, i)
+    subst (λ o. AreMet env operator_class.Equality o ty.Bool ty.Bool f x y) (same_Some operands.Bools o e) (h, i)
 equality_sound env _ _ f x y o h i e = absurd (none-some o e)
 
 logic_sound : (env : Environment) (a b : Ty) (f : Form) (x y : Expr) (o : Operands) → GivesType env x a
-    → GivesType env y b → meets sort.Logic a b ≡ Some o → AreMet env sort.Logic o a b f x y
+    → GivesType env y b → meets operator_class.Logic a b ≡ Some o → AreMet env operator_class.Logic o a b f x y
 logic_sound env ty.Bool ty.Bool f x y o h i e =
-    subst (λ o. AreMet env sort.Logic o ty.Bool ty.Bool f x y) (same_Some operands.Bools o e) (h, i)
+    subst (λ o. AreMet env operator_class.Logic o ty.Bool ty.Bool f x y) (same_Some operands.Bools o e) (h, i)
 logic_sound env _ _ f x y o h i e = absurd (none-some o e)
 
 -- an object or null
@@ -222,22 +222,22 @@ identity_if true o e = (refl, same_Some operands.Handles o e)
 identity_if false o e = absurd (none-some o e)
 
 identity_sound : (env : Environment) (a b : Ty) (f : Form) (x y : Expr) (o : Operands) → is_known a ≡ true
-    → is_known b ≡ true → GivesType env x a → GivesType env y b → meets sort.Identity a b ≡ Some o
-    → AreMet env sort.Identity o a b f x y
+    → is_known b ≡ true → GivesType env x a → GivesType env y b → meets operator_class.Identity a b ≡ Some o
+    → AreMet env operator_class.Identity o a b f x y
 identity_sound env a b f x y o k l h i e =
     let c = identity_if (agrees a b) o e in
     let r = agreeing a b k l c.0 in
-    subst (λ o. AreMet env sort.Identity o a b f x y) c.1
+    subst (λ o. AreMet env operator_class.Identity o a b f x y) c.1
     (value_type a, value_type b, h, reference_operand a r.0, i, reference_operand b r.1)
 
 met_sound : (env : Environment) (s : OperatorClass) (a b : Ty) (f : Form) (x y : Expr) (o : Operands) → is_known a ≡ true
     → is_known b ≡ true → GivesType env x a → GivesType env y b → meets s a b ≡ Some o → AreMet env s o a b f x y
-met_sound env sort.Arithmetic a b f x y o k l h i e = arithmetic_sound env a b f x y o h i e
-met_sound env sort.Shift a b f x y o k l h i e = shift_sound env a b f x y o h i e
-met_sound env sort.Order a b f x y o k l h i e = order_sound env a b f x y o h i e
-met_sound env sort.Equality a b f x y o k l h i e = equality_sound env a b f x y o h i e
-met_sound env sort.Identity a b f x y o k l h i e = identity_sound env a b f x y o k l h i e
-met_sound env sort.Logic a b f x y o k l h i e = logic_sound env a b f x y o h i e
+met_sound env operator_class.Arithmetic a b f x y o k l h i e = arithmetic_sound env a b f x y o h i e
+met_sound env operator_class.Shift a b f x y o k l h i e = shift_sound env a b f x y o h i e
+met_sound env operator_class.Order a b f x y o k l h i e = order_sound env a b f x y o h i e
+met_sound env operator_class.Equality a b f x y o k l h i e = equality_sound env a b f x y o h i e
+met_sound env operator_class.Identity a b f x y o k l h i e = identity_sound env a b f x y o k l h i e
+met_sound env operator_class.Logic a b f x y o k l h i e = logic_sound env a b f x y o h i e
 
 applied_sound : (env : Environment) (op : BinaryOp) (o : Operands) (a b : Expr) → AreOperands env (operator_class_of op) o a b
     → GivesType env (applied op o a b) (outcome (operator_class_of op) o)

@@ -18,7 +18,7 @@ use Rattle.ash_typed.specs.declared.tree.operations.ArrayMethod.TheVariants as a
 use Rattle.ash_typing.specs.declared.types.Ty.{Ty}
 use Rattle.ash_typing.specs.declared.types.Ty.TheVariants as ty
 use Rattle.ash_typing.specs.declared.forms.OperatorClass.{OperatorClass}
-use Rattle.ash_typing.specs.declared.forms.OperatorClass.TheVariants as sort
+use Rattle.ash_typing.specs.declared.forms.OperatorClass.TheVariants as operator_class
 use Rattle.ash_typing.specs.declared.forms.Form.{Form}
 use Rattle.ash_typing.specs.declared.forms.Form.TheVariants as form
 use Rattle.ash_typed.specs.declared.tree.operations.Member.{Member}
@@ -144,8 +144,8 @@ result_known None = refl
 result_known (Some of) = variable_is_result (ty_of of) (primitive_known of)
 
 pub outcome_known : (s : OperatorClass) (o : Operands) → is_known (outcome s o) ≡ true
-outcome_known sort.Arithmetic (operands.Integers k) = refl
-outcome_known sort.Shift (operands.Integers k) = refl
+outcome_known operator_class.Arithmetic (operands.Integers k) = refl
+outcome_known operator_class.Shift (operands.Integers k) = refl
 outcome_known _ _ = refl
 
 known_if_some : (t of : Ty) → is_known t ≡ true → Some t ≡ Some of → is_known of ≡ true
@@ -177,7 +177,7 @@ taking_known a (ty.Integer k) (form.Number n) t h = taken_known (holds k n) k n 
 taking_known a of b t h = h
 
 pub adapted_known : (s : OperatorClass) (other t : Term) → is_known t.ty ≡ true → is_known (adapted_to s other t).ty ≡ true
-adapted_known sort.Shift other t h = h
+adapted_known operator_class.Shift other t h = h
 adapted_known _ other t h = taking_known other.form other.ty t.form t h
 
 -- members

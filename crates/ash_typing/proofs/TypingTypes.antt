@@ -15,7 +15,7 @@ use Rattle.ash_typed.specs.declared.tree.operations.Member.{Member}
 use Rattle.ash_typed.specs.declared.tree.operations.Operands.{Operands}
 use Rattle.ash_typed.specs.declared.tree.operations.Operands.TheVariants as operands
 use Rattle.ash_typing.specs.declared.forms.OperatorClass.{OperatorClass}
-use Rattle.ash_typing.specs.declared.forms.OperatorClass.TheVariants as sort
+use Rattle.ash_typing.specs.declared.forms.OperatorClass.TheVariants as operator_class
 use Rattle.ash_typed.specs.Tree.{Expr, This, Read, Place, Stored, Held, place_in, converted}
 use Rattle.ash_typed.specs.TypeOf.{type_of, type_of_place, value, value_of_result, as_value, chosen_type}
 use Rattle.ash_typed.specs.declared.types.VarType.{VarType}
@@ -95,17 +95,17 @@ calculated_type s o h e = ap value_type (sym (ap (outcome s) e ∙ h (integers_i
 
 applied_type : (op : BinaryOp) (o : Operands) (a b : Expr) (x y : Ty) → meets (operator_class_of op) x y ≡ Some o
     → type_of (applied op o a b) ≡ value_type (outcome (operator_class_of op) o)
-applied_type binary.Multiply o a b x y h = calculated_type sort.Arithmetic o (λ k. refl) (arithmetic_integers x y o h)
-applied_type binary.Divide o a b x y h = calculated_type sort.Arithmetic o (λ k. refl) (arithmetic_integers x y o h)
-applied_type binary.Remainder o a b x y h = calculated_type sort.Arithmetic o (λ k. refl) (arithmetic_integers x y o h)
-applied_type binary.Add o a b x y h = calculated_type sort.Arithmetic o (λ k. refl) (arithmetic_integers x y o h)
-applied_type binary.Subtract o a b x y h = calculated_type sort.Arithmetic o (λ k. refl) (arithmetic_integers x y o h)
-applied_type binary.ShiftLeft o a b x y h = calculated_type sort.Shift o (λ k. refl) (shift_integers x y o h)
-applied_type binary.ShiftRight o a b x y h = calculated_type sort.Shift o (λ k. refl) (shift_integers x y o h)
-applied_type binary.ShiftRightArithmetic o a b x y h = calculated_type sort.Shift o (λ k. refl) (shift_integers x y o h)
-applied_type binary.BitAnd o a b x y h = calculated_type sort.Arithmetic o (λ k. refl) (arithmetic_integers x y o h)
-applied_type binary.BitXor o a b x y h = calculated_type sort.Arithmetic o (λ k. refl) (arithmetic_integers x y o h)
-applied_type binary.BitOr o a b x y h = calculated_type sort.Arithmetic o (λ k. refl) (arithmetic_integers x y o h)
+applied_type binary.Multiply o a b x y h = calculated_type operator_class.Arithmetic o (λ k. refl) (arithmetic_integers x y o h)
+applied_type binary.Divide o a b x y h = calculated_type operator_class.Arithmetic o (λ k. refl) (arithmetic_integers x y o h)
+applied_type binary.Remainder o a b x y h = calculated_type operator_class.Arithmetic o (λ k. refl) (arithmetic_integers x y o h)
+applied_type binary.Add o a b x y h = calculated_type operator_class.Arithmetic o (λ k. refl) (arithmetic_integers x y o h)
+applied_type binary.Subtract o a b x y h = calculated_type operator_class.Arithmetic o (λ k. refl) (arithmetic_integers x y o h)
+applied_type binary.ShiftLeft o a b x y h = calculated_type operator_class.Shift o (λ k. refl) (shift_integers x y o h)
+applied_type binary.ShiftRight o a b x y h = calculated_type operator_class.Shift o (λ k. refl) (shift_integers x y o h)
+applied_type binary.ShiftRightArithmetic o a b x y h = calculated_type operator_class.Shift o (λ k. refl) (shift_integers x y o h)
+applied_type binary.BitAnd o a b x y h = calculated_type operator_class.Arithmetic o (λ k. refl) (arithmetic_integers x y o h)
+applied_type binary.BitXor o a b x y h = calculated_type operator_class.Arithmetic o (λ k. refl) (arithmetic_integers x y o h)
+applied_type binary.BitOr o a b x y h = calculated_type operator_class.Arithmetic o (λ k. refl) (arithmetic_integers x y o h)
 applied_type binary.Less o a b x y h = refl
 applied_type binary.LessOrEqual o a b x y h = refl
 applied_type binary.Greater o a b x y h = refl

@@ -8,7 +8,7 @@ use Rattle.ash_integers.specs.declared.int_type.IntType.TheVariants as ints
 use Rattle.ash_typing.specs.declared.types.Ty.{Ty}
 use Rattle.ash_typing.specs.declared.types.Ty.TheVariants as ty
 use Rattle.ash_typing.specs.declared.forms.OperatorClass.{OperatorClass}
-use Rattle.ash_typing.specs.declared.forms.OperatorClass.TheVariants as sort
+use Rattle.ash_typing.specs.declared.forms.OperatorClass.TheVariants as operator_class
 use Rattle.ash_typing.specs.declared.forms.Form.{Form}
 use Rattle.ash_typing.specs.declared.forms.Form.TheVariants as form
 use Rattle.ash_typed.specs.declared.tree.operations.Conversion.{Conversion}
@@ -69,7 +69,7 @@ taking _ _ _ t = t
 -- `adapted_by s form of t` is the operand of an operator whose other operand has this form and type: the two of a shift
 -- have a type each.
 abbrev pub adapted_by : OperatorClass → Form → Ty → Term → Term
-adapted_by sort.Shift form of t = t
+adapted_by operator_class.Shift form of t = t
 adapted_by _ form of t = taking form of t.form t
 
 -- `adapted_to s other t` is the operand of an operator whose other operand is this.
@@ -83,7 +83,7 @@ operand_type operands.Handles = ty.Null
 
 -- The count of a shift has its own type, and any other right operand is converted.
 abbrev pub right_by : OperatorClass → Operands → Term → Expr
-right_by sort.Shift o u = u.tree
+right_by operator_class.Shift o u = u.tree
 right_by _ o u = converted_to (operand_type o) u
 
 -- `applied_by operator o a b` is what an operator makes of its operands.

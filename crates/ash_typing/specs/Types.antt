@@ -15,7 +15,7 @@ use Rattle.ash_typed.specs.declared.types.VarType.TheVariants as vars
 use Rattle.ash_typing.specs.declared.types.Ty.{Ty}
 use Rattle.ash_typing.specs.declared.types.Ty.TheVariants as ty
 use Rattle.ash_typing.specs.declared.forms.OperatorClass.{OperatorClass}
-use Rattle.ash_typing.specs.declared.forms.OperatorClass.TheVariants as sort
+use Rattle.ash_typing.specs.declared.forms.OperatorClass.TheVariants as operator_class
 use Rattle.ash_typed.specs.declared.tree.operations.Calculator.{Calculator}
 use Rattle.ash_typed.specs.declared.tree.operations.Calculator.TheVariants as calculators
 use Rattle.ash_typed.specs.declared.tree.operations.Comparator.TheVariants as comparators
@@ -225,30 +225,30 @@ common _ _ = None
 
 -- operators
 
--- `operator_class_of op` is what an operator between two operands is of.
+-- `operator_class_of op` is the class of an operator between two operands.
 abbrev pub operator_class_of : BinaryOp → OperatorClass
-operator_class_of binary.Multiply = sort.Arithmetic
-operator_class_of binary.Divide = sort.Arithmetic
-operator_class_of binary.Remainder = sort.Arithmetic
-operator_class_of binary.Add = sort.Arithmetic
-operator_class_of binary.Subtract = sort.Arithmetic
-operator_class_of binary.ShiftLeft = sort.Shift
-operator_class_of binary.ShiftRight = sort.Shift
-operator_class_of binary.ShiftRightArithmetic = sort.Shift
-operator_class_of binary.BitAnd = sort.Arithmetic
-operator_class_of binary.BitXor = sort.Arithmetic
-operator_class_of binary.BitOr = sort.Arithmetic
-operator_class_of binary.Less = sort.Order
-operator_class_of binary.LessOrEqual = sort.Order
-operator_class_of binary.Greater = sort.Order
-operator_class_of binary.GreaterOrEqual = sort.Order
-operator_class_of binary.Equal = sort.Equality
-operator_class_of binary.NotEqual = sort.Equality
-operator_class_of binary.Is = sort.Identity
-operator_class_of binary.NotIs = sort.Identity
-operator_class_of binary.Xor = sort.Logic
-operator_class_of binary.And = sort.Logic
-operator_class_of binary.Or = sort.Logic
+operator_class_of binary.Multiply = operator_class.Arithmetic
+operator_class_of binary.Divide = operator_class.Arithmetic
+operator_class_of binary.Remainder = operator_class.Arithmetic
+operator_class_of binary.Add = operator_class.Arithmetic
+operator_class_of binary.Subtract = operator_class.Arithmetic
+operator_class_of binary.ShiftLeft = operator_class.Shift
+operator_class_of binary.ShiftRight = operator_class.Shift
+operator_class_of binary.ShiftRightArithmetic = operator_class.Shift
+operator_class_of binary.BitAnd = operator_class.Arithmetic
+operator_class_of binary.BitXor = operator_class.Arithmetic
+operator_class_of binary.BitOr = operator_class.Arithmetic
+operator_class_of binary.Less = operator_class.Order
+operator_class_of binary.LessOrEqual = operator_class.Order
+operator_class_of binary.Greater = operator_class.Order
+operator_class_of binary.GreaterOrEqual = operator_class.Order
+operator_class_of binary.Equal = operator_class.Equality
+operator_class_of binary.NotEqual = operator_class.Equality
+operator_class_of binary.Is = operator_class.Identity
+operator_class_of binary.NotIs = operator_class.Identity
+operator_class_of binary.Xor = operator_class.Logic
+operator_class_of binary.And = operator_class.Logic
+operator_class_of binary.Or = operator_class.Logic
 
 -- `typed_operator op` is what an operator is in a typed tree.
 abbrev pub typed_operator : BinaryOp → Operator
@@ -297,38 +297,38 @@ integers_in _ = Int
 -- An operator takes a type anywhere.
 abbrev pub takes : OperatorClass → Ty → Bool
 takes _ ty.Unknown = true
-takes sort.Arithmetic (ty.Integer _) = true
-takes sort.Shift (ty.Integer _) = true
-takes sort.Order (ty.Integer _) = true
-takes sort.Equality (ty.Integer _) = true
-takes sort.Equality ty.Bool = true
-takes sort.Identity (ty.Object _) = true
-takes sort.Identity (ty.Handle _) = true
-takes sort.Identity ty.Null = true
-takes sort.Logic ty.Bool = true
+takes operator_class.Arithmetic (ty.Integer _) = true
+takes operator_class.Shift (ty.Integer _) = true
+takes operator_class.Order (ty.Integer _) = true
+takes operator_class.Equality (ty.Integer _) = true
+takes operator_class.Equality ty.Bool = true
+takes operator_class.Identity (ty.Object _) = true
+takes operator_class.Identity (ty.Handle _) = true
+takes operator_class.Identity ty.Null = true
+takes operator_class.Logic ty.Bool = true
 takes _ _ = false
 
 -- `assumed s other of` is what an operand of an unknown type is taken for, where the other is of another type.
 abbrev pub assumed : OperatorClass → Ty → Ty → Ty
-assumed sort.Equality ty.Bool ty.Unknown = ty.Bool
-assumed sort.Identity _ ty.Unknown = ty.Null
-assumed sort.Logic _ ty.Unknown = ty.Bool
+assumed operator_class.Equality ty.Bool ty.Unknown = ty.Bool
+assumed operator_class.Identity _ ty.Unknown = ty.Null
+assumed operator_class.Logic _ ty.Unknown = ty.Bool
 assumed _ _ ty.Unknown = ty.Integer Int
 assumed _ _ t = t
 
 -- `meets s t u` is what an operator does with operands of these types, where it takes them: what both become, and what
 -- comes out.
 abbrev pub meets : OperatorClass → Ty → Ty → Option Operands
-meets sort.Arithmetic (ty.Integer j) (ty.Integer k) = Some (operands.Integers (meeting j k))
-meets sort.Shift (ty.Integer j) (ty.Integer k) = Some (operands.Integers j)
-meets sort.Order (ty.Integer j) (ty.Integer k) = Some (operands.Integers (meeting j k))
-meets sort.Equality (ty.Integer j) (ty.Integer k) = Some (operands.Integers (meeting j k))
-meets sort.Equality ty.Bool ty.Bool = Some operands.Bools
-meets sort.Identity a b = if agrees a b then Some operands.Handles else None
-meets sort.Logic ty.Bool ty.Bool = Some operands.Bools
+meets operator_class.Arithmetic (ty.Integer j) (ty.Integer k) = Some (operands.Integers (meeting j k))
+meets operator_class.Shift (ty.Integer j) (ty.Integer k) = Some (operands.Integers j)
+meets operator_class.Order (ty.Integer j) (ty.Integer k) = Some (operands.Integers (meeting j k))
+meets operator_class.Equality (ty.Integer j) (ty.Integer k) = Some (operands.Integers (meeting j k))
+meets operator_class.Equality ty.Bool ty.Bool = Some operands.Bools
+meets operator_class.Identity a b = if agrees a b then Some operands.Handles else None
+meets operator_class.Logic ty.Bool ty.Bool = Some operands.Bools
 meets _ _ _ = None
 
 abbrev pub outcome : OperatorClass → Operands → Ty
-outcome sort.Arithmetic (operands.Integers k) = ty.Integer k
-outcome sort.Shift (operands.Integers k) = ty.Integer k
+outcome operator_class.Arithmetic (operands.Integers k) = ty.Integer k
+outcome operator_class.Shift (operands.Integers k) = ty.Integer k
 outcome _ _ = ty.Bool
