@@ -1,5 +1,7 @@
 -- Statements of a block in their order, and the locals that end with it.
-use Rattle.std.proofs.Common.{◌≡◌, ℕ, List, [], ◌∷◌, ◌++◌, Ok, Err, refl, sym, subst, ap, ◌∙◌, append_assoc, append-nil, length, take, drop, get_or, map, ◌<◌, ◌≤◌, ◌+◌, suc, add-one, drop-cons, drop_of_length-le, Result, Option, option_map, rules, IfOk}
+use Rattle.std.proofs.Common.{◌≡◌, ℕ, List, [], ◌∷◌, ◌++◌, Ok, Err, refl, sym, subst, ap, ◌∙◌, append_assoc, append-nil}
+use Rattle.std.proofs.Common.{length, take, drop, get_or, map, ◌<◌, ◌≤◌, ◌+◌, suc, add-one, drop-cons}
+use Rattle.std.proofs.Common.{drop_of_length-le, Result, Option, option_map, rules, IfOk}
 use Rattle.std.proofs.lemmas.List.{take_at, take-map, length-map, map-append}
 use Rattle.std.specs.declared.vec.Vec.{Vec}
 use Rattle.std.specs.declared.alloc.Global.{Global}
@@ -19,7 +21,8 @@ use Rattle.ash_integers.specs.declared.int_type.IntType.{IntType}
 use Rattle.ash_typed.specs.BodyViews as typed_views
 use Rattle.ash_typing.specs.Switches.{label_typed}
 use Rattle.ash_typing.specs.TypingResult.{TypingResult, ◌>>=◌}
-use Rattle.ash_typed.specs.StatementTree.{Initialization, Stmt, Block, Stmts, no_stmt, stmt, stmts, Case, labelled, Cases, no_case, next_case, cases}
+use Rattle.ash_typed.specs.StatementTree.{Initialization, Stmt, Block, Stmts, no_stmt, stmt, stmts, Case, labelled}
+use Rattle.ash_typed.specs.StatementTree.{Cases, no_case, next_case, cases}
 use Rattle.ash_typing.specs.Environment.{Declared}
 use Rattle.ash_typing.specs.Statements.{stmt_typed, stmts_typed, cases_typed}
 use Rattle.ash_expressions.specs.declared.signatures.Binding as code_binding

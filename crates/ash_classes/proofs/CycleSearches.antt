@@ -12,7 +12,8 @@ use Rattle.ash_tree.specs.Tree.{Element, PrimElement, HandleElement, Named, Prim
 use Rattle.ash_tree.specs.Tree.{Member, AField, AMethod, AConstructor, Class}
 use Rattle.ash_classes.specs.Ways.{IsWay, Reaches, IsNoLater, IsForemost, IsReportedCycle}
 use Rattle.ash_classes.specs.References.{IsOf, ElementNames, Names, Holds, RefersTo, Refers}
-use Rattle.ash_classes.specs.ReportedCycle.{is_of, element_names, names, holds, refers_to, refers, refers_at, first_below}
+use Rattle.ash_classes.specs.ReportedCycle.{is_of, element_names, names, holds, refers_to, refers, refers_at}
+use Rattle.ash_classes.specs.ReportedCycle.{first_below}
 use Rattle.ash_classes.specs.ReportedCycle.{foremost, shortest_back, first_round, reported_cycle}
 use Rattle.ash_classes.proofs.CycleLaws.{only_cycle}
 use Rattle.ash_classes.proofs.Shortcuts.{end_within, short_round}

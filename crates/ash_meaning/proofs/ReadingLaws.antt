@@ -7,8 +7,10 @@ use Rattle.ash_registry.specs.Calls.{Registration}
 use Rattle.ash_meaning.specs.Lexing.{Lexes}
 use Rattle.ash_classes.specs.References.{classes_of}
 use Rattle.ash_check.specs.Checks.{Broken, Cyclic, round_of}
-use Rattle.ash_meaning.specs.CheckedSource.{CheckResult, IsNoScript, IsUntypedScript, IsCyclicScript, ChecksTokens, Checks}
-use Rattle.ash_meaning.specs.CheckedSource.{no_tokens, has_tokens, checked_source, TakesMemoryToRefuse, TakesMemoryToCheck}
+use Rattle.ash_meaning.specs.CheckedSource.{CheckResult, IsNoScript, IsUntypedScript, IsCyclicScript, ChecksTokens}
+use Rattle.ash_meaning.specs.CheckedSource.{Checks}
+use Rattle.ash_meaning.specs.CheckedSource.{no_tokens, has_tokens, checked_source, TakesMemoryToRefuse}
+use Rattle.ash_meaning.specs.CheckedSource.{TakesMemoryToCheck}
 use Rattle.ash_subset.specs.Tree.{Module, module_of}
 use Rattle.ash_subset.specs.declared.tree.Module as code
 use Rattle.ash_meaning.specs.Reading.{ReadResult, ReadsScript, Reads, refused, typed, module_or_none, read_checked}

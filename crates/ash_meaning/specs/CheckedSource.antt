@@ -2,8 +2,8 @@
 --
 -- A source that has no tokens is refused for that, and one whose tokens are no script for their first fault. A script
 -- is accepted exactly where the rules of typing give it a typed module and no class reaches itself by what its fields
--- hold. One that the rules give none is refused for the first fault of the walk, and one with such a class for the cycle
--- that is reported.
+-- hold. One that the rules give none is refused for the first fault of the walk, and one with such a class for the
+-- cycle that is reported.
 use Rattle.std.specs.Prelude.{◌≡◌, ◌⊎◌, ◌-◌, ℕ, List, length, map, Option, Some, None, Result, Ok, Err}
 use Rattle.std.specs.List.{slice_get}
 use Rattle.ash_lex.specs.Tokens.{Meaning, Lexeme}

@@ -1,5 +1,6 @@
 -- Checking a script: from what was read and written to what that says of the whole check.
-use Rattle.std.proofs.Common.{◌≡◌, ◌<◌, ◌≤◌, ◌⊎◌, ℕ, ◌^◌, List, [], ◌++◌, length, refl, sym, ap, ◌∙◌, subst, arith, Option, Some, None, Ok, Err, Result, inl, inr, ⊎_elim}
+use Rattle.std.proofs.Common.{◌≡◌, ◌<◌, ◌≤◌, ◌⊎◌, ℕ, ◌^◌, List, [], ◌++◌, length, refl, sym, ap, ◌∙◌, subst, arith}
+use Rattle.std.proofs.Common.{Option, Some, None, Ok, Err, Result, inl, inr, ⊎_elim}
 use Rattle.std.proofs.lemmas.List.{append-nil, take_all, take_at}
 use Rattle.std.specs.Io.KnownBytes.{Consumes, IsAtEnd, Appends, Keeps}
 use Rattle.ash_registry.specs.Calls.{Registration}
@@ -12,7 +13,8 @@ use Rattle.ash_lines.specs.Source.{Feed}
 use Rattle.ash_lines.specs.Sink.{Outlet}
 use Rattle.ash_lines.specs.Reading.{source_prefix, ReadsBytes}
 use Rattle.ash_serve.specs.Serving.{fault_of}
-use Rattle.ash_serve.specs.CheckRun.{verdict_line, verdict_on, verdict_status, ending_of, Judges, WritesVerdict, ReadsScript, ChecksScript, IsScriptOf, ChecksFile, EndsCheck}
+use Rattle.ash_serve.specs.CheckRun.{verdict_line, verdict_on, verdict_status, ending_of, Judges, WritesVerdict}
+use Rattle.ash_serve.specs.CheckRun.{ReadsScript, ChecksScript, IsScriptOf, ChecksFile, EndsCheck}
 use Rattle.ash_serve.specs.Program.{ending_status, end_of}
 use Rattle.ash_lines.specs.Reader.{left_of, allowance_of, reader_feed}
 use Rattle.ash_lines.specs.Writer.{writer_outlet}

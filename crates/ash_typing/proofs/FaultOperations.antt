@@ -28,7 +28,8 @@ use Rattle.ash_typing.specs.Types.{common, takes, assumed, meets, operator_class
 use Rattle.ash_typing.specs.Coercions.{fits}
 use Rattle.ash_typing.specs.Environment.{Environment, Class, Known, Callee, variable_in, callee_in}
 use Rattle.ash_typing.specs.Terms.{assignable, operator_of, is_stored}
-use Rattle.ash_typing.specs.Expressions.{Typed, UnifiedOperands, term_at, coerced_for_assignment, integer_of, bool_of, handle_of, adapted, unified_as, unify_operands}
+use Rattle.ash_typing.specs.Expressions.{Typed, UnifiedOperands, term_at, coerced_for_assignment, integer_of, bool_of}
+use Rattle.ash_typing.specs.Expressions.{handle_of, adapted, unified_as, unify_operands}
 use Rattle.ash_typing.specs.Expressions.{operate, counted, handle_at, unary_at, converting, convert_at, is_void, chosen}
 use Rattle.ash_typing.specs.Expressions.{choice, updated, stored, assigned_to, assigned, all_coerced, arguments_at}
 use Rattle.ash_typing.specs.Expressions.{called, callee_at, known_at, this_at, call_typed, all_typed}

@@ -11,11 +11,15 @@ use Rattle.ash_typed.specs.declared.types.ObjectType.TheVariants.{Class as OfCla
 use Rattle.ash_typed.specs.declared.types.ObjectType.TheVariants.{Array as OfArray}
 use Rattle.ash_typing.specs.declared.types.Ty.{Ty}
 use Rattle.ash_typing.specs.declared.types.Ty.TheVariants as ty
-use Rattle.ash_typing.specs.Environment.{Environment, ModuleDeclarations, Interface, Class, first_from, is_class, is_interface_named}
+use Rattle.ash_typing.specs.Environment.{Environment, ModuleDeclarations, Interface, Class, first_from, is_class}
+use Rattle.ash_typing.specs.Environment.{is_interface_named}
 use Rattle.ash_typing.specs.Environment.{inside}
-use Rattle.ash_typing.specs.ModuleDeclarations.{object_named, element_by, element_named, array_named, object_ty, handle_ty, ty_named}
-use Rattle.ash_typing.specs.ModuleDeclarations.{result_named, variables, parameter_ty, function_head, signature_head, names_in}
-use Rattle.ash_typing.specs.ModuleDeclarations.{declarations, ty_in, interface_head, class_head, named_interface, named_class}
+use Rattle.ash_typing.specs.ModuleDeclarations.{object_named, element_by, element_named, array_named, object_ty}
+use Rattle.ash_typing.specs.ModuleDeclarations.{handle_ty, ty_named}
+use Rattle.ash_typing.specs.ModuleDeclarations.{result_named, variables, parameter_ty, function_head, signature_head}
+use Rattle.ash_typing.specs.ModuleDeclarations.{names_in}
+use Rattle.ash_typing.specs.ModuleDeclarations.{declarations, ty_in, interface_head, class_head, named_interface}
+use Rattle.ash_typing.specs.ModuleDeclarations.{named_class}
 use Rattle.ash_typing.specs.ModuleDeclarations.{all_variables, constructed_by}
 use Rattle.ash_typing.specs.Declarations.{Initialization, known_ty}
 use Rattle.ash_typing.specs.Typing.{IsKnown, IsVariableType, IsResultType, IsKnownVariable, IsKnownFunction}

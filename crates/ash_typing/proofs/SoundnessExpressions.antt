@@ -33,7 +33,8 @@ use Rattle.ash_typing.specs.declared.forms.Callable.TheVariants as callables
 use Rattle.ash_typing.specs.declared.forms.Form.{Form}
 use Rattle.ash_typing.specs.declared.forms.Form.TheVariants as form
 use Rattle.ash_typing.specs.declared.forms.OperatorClass.TheVariants as operator_class
-use Rattle.ash_typing.specs.Types.{signed, object_of, result_type, operator_class_of, binary_of, meets, outcome, ty_of_element}
+use Rattle.ash_typing.specs.Types.{signed, object_of, result_type, operator_class_of, binary_of, meets, outcome}
+use Rattle.ash_typing.specs.Types.{ty_of_element}
 use Rattle.ash_typing.specs.Types.{var_type}
 use Rattle.ash_typing.specs.Environment.{Environment, Known, Callee, Invoked, variable_in, callee_in, member_in}
 use Rattle.ash_typing.specs.Environment.{method_in}

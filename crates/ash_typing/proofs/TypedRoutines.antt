@@ -14,7 +14,8 @@ use Rattle.ash_typing.specs.declared.types.Ty.TheVariants as ty
 use Rattle.ash_typing.specs.Types.{ty_of, var_type}
 use Rattle.ash_typing.specs.Environment.{Environment, Declared, with_locals, declares, type_declared}
 use Rattle.ash_typing.specs.Expressions.{is_void}
-use Rattle.ash_typing.specs.ModuleDeclarations.{object_named, array_named, object_ty, handle_ty, ty_named, ty_in, result_in}
+use Rattle.ash_typing.specs.ModuleDeclarations.{object_named, array_named, object_ty, handle_ty, ty_named, ty_in}
+use Rattle.ash_typing.specs.ModuleDeclarations.{result_in}
 use Rattle.ash_typing.specs.Typing.{IsKnown, IsKnownType, IsVariableType, IsKnownVariable}
 use Rattle.ash_typed.specs.StatementTree.{Body}
 use Rattle.ash_typing.specs.Statements.{body_typed}

@@ -25,7 +25,8 @@ use Rattle.ash_typed.specs.declared.tree.operations.Operands.{Operands}
 use Rattle.ash_typed.specs.declared.tree.operations.Operands.TheVariants as operands
 use Rattle.ash_typed.specs.declared.tree.operations.Step.{Step}
 use Rattle.ash_typed.specs.declared.tree.operations.Step.TheVariants as steps
-use Rattle.ash_typing.specs.Types.{var_type, signed, common, object_of, ty_of, ty_of_element, operator_class_of, outcome}
+use Rattle.ash_typing.specs.Types.{var_type, signed, common, object_of, ty_of, ty_of_element, operator_class_of}
+use Rattle.ash_typing.specs.Types.{outcome}
 use Rattle.ash_typing.specs.Types.{binary_of}
 use Rattle.ash_typed.specs.Tree.{Expr, Exprs, Null, Read, Invoke, Cast, Alter, Conditional, Assign, Update, Count, Call}
 use Rattle.ash_typed.specs.Tree.{Place, Held, Indexed, no_expr, expr}
@@ -33,7 +34,8 @@ use Rattle.ash_typing.specs.Coercions.{fits}
 use Rattle.ash_typing.specs.ModuleDeclarations.{element_named}
 use Rattle.ash_typing.specs.Environment.{Environment, Class, Callee, Invoked, callee_in, member_in, method_in}
 use Rattle.ash_typing.specs.Expressions.{Typed, typed, all_typed, links_typed, suffixes_typed, suffix_typed, call_typed}
-use Rattle.ash_typing.specs.Expressions.{invocation_typed, called, arguments_at, all_coerced, coerced_for_assignment, operate, counted}
+use Rattle.ash_typing.specs.Expressions.{invocation_typed, called, arguments_at, all_coerced, coerced_for_assignment}
+use Rattle.ash_typing.specs.Expressions.{operate, counted}
 use Rattle.ash_typing.specs.Expressions.{unary_at, convert_at, choice, assigned, stored, is_assign, field_of, method_of}
 use Rattle.ash_typing.specs.Expressions.{invoked, term_at, read_at, indexed, array_typed, cast_type, cast_at, placed}
 use Rattle.ash_typing.specs.Expressions.{all_placed, term_of, first_at}

@@ -23,7 +23,8 @@ use Rattle.ash_typing.specs.Coercions.{fits}
 use Rattle.ash_typing.specs.ModuleDeclarations.{object_named, element_named}
 use Rattle.ash_typing.specs.Environment.{Environment, Class, Known, Callee, variable_in, callee_in, array_built}
 use Rattle.ash_typing.specs.Expressions.{Typed, typed, all_typed, call_typed, called, callee_at, known_at, this_at}
-use Rattle.ash_typing.specs.Expressions.{arguments_at, all_coerced, coerced_for_assignment, coerced, integer_of, bool_of, handle_of}
+use Rattle.ash_typing.specs.Expressions.{arguments_at, all_coerced, coerced_for_assignment, coerced, integer_of}
+use Rattle.ash_typing.specs.Expressions.{bool_of, handle_of}
 use Rattle.ash_typing.specs.Expressions.{convert_at, converting, term_at, read_at, integer_at, in_brackets, index_in}
 use Rattle.ash_typing.specs.Expressions.{indexed_object, indexed, at_element, known_element, array_typed, cast_type}
 use Rattle.ash_typing.specs.Expressions.{cast_at, term_of}

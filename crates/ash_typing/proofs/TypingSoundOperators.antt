@@ -17,8 +17,10 @@ use Rattle.ash_typing.specs.TypingResult.{◌>>=◌}
 use Rattle.ash_typing.specs.Types.{signed, common, operator_class_of, outcome, meets, assumed}
 use Rattle.ash_typed.specs.Tree.{Expr, Alter, Conditional, Count, Place}
 use Rattle.ash_typing.specs.Environment.{Environment}
-use Rattle.ash_typing.specs.Expressions.{Typed, UnifiedOperands, typed, links_typed, coerced, operate, operated as joined, unify_operands}
-use Rattle.ash_typing.specs.Expressions.{unified_as, unified_by, counted, altered, unary_at, integer_of, bool_of, handle_of}
+use Rattle.ash_typing.specs.Expressions.{Typed, UnifiedOperands, typed, links_typed, coerced, operate}
+use Rattle.ash_typing.specs.Expressions.{operated as joined, unify_operands}
+use Rattle.ash_typing.specs.Expressions.{unified_as, unified_by, counted, altered, unary_at, integer_of, bool_of}
+use Rattle.ash_typing.specs.Expressions.{handle_of}
 use Rattle.ash_typing.specs.Expressions.{handle_at, choice, chosen, term_at, integer_at, placed, term_of}
 use Rattle.ash_typing.specs.Typing.{IsKnown, is_known, HasType, LinksHaveType, plus, minus, complement, not, increment}
 use Rattle.ash_typing.specs.Typing.{decrement, handle, handle_written, conditional, operated, Meet, left_of, right_of}

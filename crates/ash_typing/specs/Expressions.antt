@@ -31,7 +31,8 @@ use Rattle.ash_typed.specs.declared.tree.operations.Operands.{Operands}
 use Rattle.ash_typed.specs.declared.tree.operations.Step.{Step}
 use Rattle.ash_typed.specs.declared.tree.operations.Step.TheVariants as steps
 use Rattle.ash_typing.specs.TypingResult.{TypingResult, ◌>>=◌, broken}
-use Rattle.ash_typing.specs.Types.{var_type, signed, common, ty_of, ty_of_element, operator_class_of, binary_of, integers_in}
+use Rattle.ash_typing.specs.Types.{var_type, signed, common, ty_of, ty_of_element, operator_class_of, binary_of}
+use Rattle.ash_typing.specs.Types.{integers_in}
 use Rattle.ash_typing.specs.Types.{takes, assumed, meets, outcome}
 use Rattle.ash_typed.specs.Tree.{Expr, Truth, Null, This, Read, Invoke, Cast, Alter, Conditional, Assign, Update, Count}
 use Rattle.ash_typed.specs.Tree.{Place, Held, Indexed, Exprs, no_expr, expr}
@@ -111,7 +112,9 @@ abbrev pub unified_by : OperatorClass → Typed → Typed → TypingResult Unifi
 unified_by s a b = unified_as s a b (meets s (assumed s b.ty a.ty) (assumed s a.ty b.ty))
 
 unfoldable pub unify_operands : BinaryOp → Typed → Typed → TypingResult UnifiedOperands
-unify_operands op a b = unified_by (operator_class_of op) (adapted (operator_class_of op) b.form b.ty a) (adapted (operator_class_of op) a.form a.ty b)
+unify_operands op a b =
+    unified_by (operator_class_of op) (adapted (operator_class_of op) b.form b.ty a)
+    (adapted (operator_class_of op) a.form a.ty b)
 
 abbrev pub operated : BinaryOp → UnifiedOperands → Typed
 operated op m =
@@ -195,7 +198,8 @@ is_assign _ = false
 -- calls
 
 abbrev pub all_coerced : List Class → List Ty → List Typed → TypingResult Exprs
-all_coerced classes (p ∷ ps) (t ∷ ts) = coerced_for_assignment classes p t >>= λ e. all_coerced classes ps ts >>= λ es. Ok (expr e es)
+all_coerced classes (p ∷ ps) (t ∷ ts) =
+    coerced_for_assignment classes p t >>= λ e. all_coerced classes ps ts >>= λ es. Ok (expr e es)
 all_coerced classes _ _ = Ok no_expr
 
 unfoldable pub arguments_at : List Class → ℕ → List Ty → List Typed → TypingResult Exprs
@@ -332,7 +336,8 @@ abbrev mutual
   typed env left (written.Conditional p c a b) =
       typed env false c >>= λ t. typed env false a >>= λ x. typed env false b >>= λ y. choice t x y
   typed env left (written.Assign p e op v) =
-      typed env (is_assign op) e >>= λ target. typed env false v >>= λ value. assigned env.declarations.classes target op value
+      typed env (is_assign op) e >>= λ target. typed env false v
+      >>= λ value. assigned env.declarations.classes target op value
 
   -- arguments, each in its turn
   pub all_typed : Environment → written.Exprs → TypingResult (List Typed)

@@ -90,7 +90,8 @@ maybe_condition_is (Some t) = condition_is t
 abbrev pub tree_of : Typed → Expr
 tree_of t = t.tree
 
-unfoldable pub for_typed : ℕ → TypingResult Head → TypingResult (Option Typed) → TypingResult (List Typed) → TypingResult Stmt
+unfoldable pub for_typed : ℕ → TypingResult Head → TypingResult (Option Typed) → TypingResult (List Typed)
+    → TypingResult Stmt
     → TypingResult Stmt
 for_typed line head condition steps body =
     head >>= λ h. condition >>= λ c. steps >>= λ ts. body >>= λ s. maybe_condition_is c

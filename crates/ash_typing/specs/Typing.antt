@@ -85,7 +85,9 @@ pub record IsKnown (env : Environment) : Type 0 where
 
 -- The operator takes the two terms, each adapted to the other, for these operands.
 abbrev pub Meet : BinaryOp → Term → Term → Operands → Type 0
-Meet op t u o = meets (operator_class_of op) (adapted_to (operator_class_of op) u t).ty (adapted_to (operator_class_of op) t u).ty ≡ Some o
+Meet op t u o =
+    meets (operator_class_of op) (adapted_to (operator_class_of op) u t).ty (adapted_to (operator_class_of op) t u).ty
+    ≡ Some o
 
 -- `left_of` is what becomes of the left operand.
 abbrev pub left_of : BinaryOp → Operands → Term → Term → Expr
@@ -253,7 +255,8 @@ mutual
     operated : {op : BinaryOp} {e : written.Expr} {ls : written.Links} {t u v : Term} {o : Operands}
         → HasType env false e u
         → Meet op t u o
-        → LinksHaveType env (term (outcome (operator_class_of op) o) (applied op o (left_of op o t u) (right_of op o t u))) ls v
+        → LinksHaveType env
+        (term (outcome (operator_class_of op) o) (applied op o (left_of op o t u) (right_of op o t u))) ls v
         → LinksHaveType env t (written.link op e ls) v
 
   -- Suffixes have the type of the term, with what is before the first.

@@ -13,7 +13,8 @@ use Rattle.ash_check.specs.CheckedModules.{IsChecked}
 use Rattle.ash_check.specs.Checks.{checked, Cyclic, GoesRound}
 use Rattle.ash_check.specs.Faults.{fault_of_error}
 use Rattle.ash_check.proofs.CheckedLaws.{is_checked}
-use Rattle.ash_check.proofs.CheckLaws.{error_is_reported, reported_if_err, typed_is_checked, cycle_is_reported, way_begins_within, way_is_within, goes_round}
+use Rattle.ash_check.proofs.CheckLaws.{error_is_reported, reported_if_err, typed_is_checked, cycle_is_reported}
+use Rattle.ash_check.proofs.CheckLaws.{way_begins_within, way_is_within, goes_round}
 use Rattle.ash_typing.proofs.ModuleLaws.{module_typed-exact}
 use Rattle.ash_check.proofs.checks.check_against.Goals as goal
 

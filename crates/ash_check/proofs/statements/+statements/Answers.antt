@@ -12,7 +12,10 @@ use Rattle.ash_typing.specs.Switches.{label_typed}
 use Rattle.ash_expressions.specs.Agreement.{Agrees, FailsWith}
 use Rattle.ash_expressions.specs.Views.{binding_of}
 use Rattle.ash_check.specs.StatementViews.{locals_of, scope_of}
-use Rattle.ash_check.proofs.StatementLaws.{Extends, at_first, extends_itself, extends_next, locals_go, block_step, block_end, block_of_source, switch_of_source, for_of_source, block_typed, block_fails, cases_step, label_fails, labelled_fails, cases_end, first_is_all, any_ok}
+use Rattle.ash_check.proofs.StatementLaws.{Extends, at_first, extends_itself, extends_next, locals_go, block_step}
+use Rattle.ash_check.proofs.StatementLaws.{block_end, block_of_source, switch_of_source, for_of_source, block_typed}
+use Rattle.ash_check.proofs.StatementLaws.{block_fails, cases_step, label_fails, labelled_fails, cases_end}
+use Rattle.ash_check.proofs.StatementLaws.{first_is_all, any_ok}
 use Rattle.ash_check.proofs.statements.+statements.Goals as goal
 
 pub check_block-loop-source-preserved : goal.check_block-loop-source-preserved
