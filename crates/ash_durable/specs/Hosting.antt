@@ -8,7 +8,7 @@ use Rattle.ash_journal.specs.Journal.{first_disk, second_disk, generation, recor
 use Rattle.ash_registry.specs.Calls.{Registration}
 use Rattle.ash_meaning.specs.Refusals.{Refusal as Cause}
 use Rattle.ash_meaning.specs.Refusals as refusals
-use Rattle.ash_meaning.specs.Checking.{TakesMemoryToRefuse}
+use Rattle.ash_meaning.specs.CheckedSource.{TakesMemoryToRefuse}
 use Rattle.ash_meaning.specs.State.{State, Request, Load, Call, Discard, Global, Seq, Snapshot, Reply, Answered, Number}
 use Rattle.ash_meaning.specs.State.{Refused}
 use Rattle.ash_meaning.specs.Step.{Demand, Initialize, Run, Remove, RanOut, task_of, first_refusal, step}

@@ -21,9 +21,12 @@ use Rattle.ash_typed.specs.Signatures as signatures
 use Rattle.ash_typing.specs.Types.{var_type, ty_of}
 use Rattle.ash_typing.specs.Environment.{Interface, Class, ModuleDeclarations, first_from, is_class, is_interface_named}
 use Rattle.ash_typing.specs.Environment.{type_declared}
-use Rattle.ash_typing.specs.ModuleDeclarations.{class_type, interface_type, host_object, object_named, element_of, element_by}
-use Rattle.ash_typing.specs.ModuleDeclarations.{element_named, array_named, object_ty, handle_ty, ty_named, declared, variables}
-use Rattle.ash_typing.specs.ModuleDeclarations.{interface_place, with_place, listed_in, named_class, class_head, names_in, declarations}
+use Rattle.ash_typing.specs.ModuleDeclarations.{class_type, interface_type, host_object, object_named, element_of}
+use Rattle.ash_typing.specs.ModuleDeclarations.{element_by}
+use Rattle.ash_typing.specs.ModuleDeclarations.{element_named, array_named, object_ty, handle_ty, ty_named, declared}
+use Rattle.ash_typing.specs.ModuleDeclarations.{variables}
+use Rattle.ash_typing.specs.ModuleDeclarations.{interface_place, with_place, listed_in, named_class, class_head}
+use Rattle.ash_typing.specs.ModuleDeclarations.{names_in, declarations}
 use Rattle.ash_typing.specs.ModuleDeclarations.{all_variables}
 use Rattle.ash_typing.specs.TypedModules.{environment, IsTyped}
 use Rattle.ash_typing.specs.Offered.{offered}

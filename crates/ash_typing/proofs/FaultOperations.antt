@@ -28,7 +28,8 @@ use Rattle.ash_typing.specs.Types.{common, takes, assumed, meets, operator_class
 use Rattle.ash_typing.specs.Coercions.{fits}
 use Rattle.ash_typing.specs.Environment.{Environment, Class, Known, Callee, variable_in, callee_in}
 use Rattle.ash_typing.specs.Terms.{assignable, operator_of, is_stored}
-use Rattle.ash_typing.specs.Expressions.{Typed, UnifiedOperands, term_at, coerced_for_assignment, integer_of, bool_of, handle_of, adapted, unified_as, unify_operands}
+use Rattle.ash_typing.specs.Expressions.{Typed, UnifiedOperands, term_at, coerced_for_assignment, integer_of, bool_of}
+use Rattle.ash_typing.specs.Expressions.{handle_of, adapted, unified_as, unify_operands}
 use Rattle.ash_typing.specs.Expressions.{operate, counted, handle_at, unary_at, converting, convert_at, is_void, chosen}
 use Rattle.ash_typing.specs.Expressions.{choice, updated, stored, assigned_to, assigned, all_coerced, arguments_at}
 use Rattle.ash_typing.specs.Expressions.{called, callee_at, known_at, this_at, call_typed, all_typed}
@@ -117,7 +118,7 @@ pub counted_in : (script : Script) (at : ℕ) (step : Step) (t : Typed) (p : Opt
     → (may_be_integer t.ty ≡ false → Mismatch script t.at) → At script (counted at step t p)
 unfolding counted
 counted_in script at step t None h k w z = no_place k (w refl)
-counted_in script at step t (Some p) h k w z = bind (integer_in script t.at t.ty k z) (λ kind u. fine h)
+counted_in script at step t (Some p) h k w z = bind (integer_in script t.at t.ty k z) (λ int_type u. fine h)
 
 handle_at_in : (script : Script) (left : Bool) (at : ℕ) (t : Typed) → HasStart script.tokens at
     → HasStart script.tokens t.at → (may_be_object t.ty ≡ false → Mismatch script t.at)
@@ -130,9 +131,9 @@ pub unary_in : (script : Script) (left : Bool) (at : ℕ) (op : UnaryOp) (t : Ty
     → (counts op ≡ true → assignable t.form t.tree ≡ None → (m : Meaning) → Wrong script rules.NotAssignable t.at m)
     → (takes_operand op t.ty ≡ false → Mismatch script t.at) → At script (unary_at left at op t)
 unfolding unary_at
-unary_in script left at unary.Plus t h k w z = bind (integer_in script t.at t.ty k z) (λ kind u. fine h)
-unary_in script left at unary.Minus t h k w z = bind (integer_in script t.at t.ty k z) (λ kind u. fine h)
-unary_in script left at unary.BitNot t h k w z = bind (integer_in script t.at t.ty k z) (λ kind u. fine h)
+unary_in script left at unary.Plus t h k w z = bind (integer_in script t.at t.ty k z) (λ int_type u. fine h)
+unary_in script left at unary.Minus t h k w z = bind (integer_in script t.at t.ty k z) (λ int_type u. fine h)
+unary_in script left at unary.BitNot t h k w z = bind (integer_in script t.at t.ty k z) (λ int_type u. fine h)
 unary_in script left at unary.Not t h k w z = bind (bool_in script t.at t.ty k z) (λ b u. fine h)
 unary_in script left at unary.Increment t h k w z =
     counted_in script at steps.Increment t (assignable t.form t.tree) h k (w refl) z
@@ -142,7 +143,7 @@ unary_in script left at unary.Handle t h k w z = handle_at_in script left at t h
 
 converting_in : (script : Script) (at : ℕ) (of : Ty) (t : Typed) → HasStart script.tokens at
     → HasStart script.tokens t.at → (converts of t.ty ≡ false → Mismatch script t.at) → At script (converting at of t)
-converting_in script at (ty.Integer j) t h k z = bind (integer_in script t.at t.ty k z) (λ kind u. fine h)
+converting_in script at (ty.Integer j) t h k z = bind (integer_in script t.at t.ty k z) (λ int_type u. fine h)
 converting_in script at _ t h k z = bind (bool_in script t.at t.ty k z) (λ b u. fine h)
 
 pub convert_in : (script : Script) (at : ℕ) (to : Primitive) (t : Typed) → HasStart script.tokens at
@@ -177,7 +178,7 @@ updated_in : (script : Script) (at : ℕ) (of : Ty) (p : Place) (c : Calculator)
     → (may_be_integer of ≡ false → Mismatch script at) → At script (updated at of p c v)
 updated_in script at of p c v h k y z =
     bind (met_in script (binary_of c) (term_at at of Null) v h k y) (λ m left.
-    bind (integer_in script at of h z) (λ kind u. fine h))
+    bind (integer_in script at of h z) (λ int_type u. fine h))
 
 stored_in : (script : Script) (classes : List Class) (t : Typed) (p : Place) (c : Option Calculator) (v : Typed)
     → HasStart script.tokens t.at → HasStart script.tokens v.at → Unassigned script classes t v c

@@ -11,11 +11,15 @@ use Rattle.ash_typed.specs.declared.types.ObjectType.TheVariants.{Class as OfCla
 use Rattle.ash_typed.specs.declared.types.ObjectType.TheVariants.{Array as OfArray}
 use Rattle.ash_typing.specs.declared.types.Ty.{Ty}
 use Rattle.ash_typing.specs.declared.types.Ty.TheVariants as ty
-use Rattle.ash_typing.specs.Environment.{Environment, ModuleDeclarations, Interface, Class, first_from, is_class, is_interface_named}
+use Rattle.ash_typing.specs.Environment.{Environment, ModuleDeclarations, Interface, Class, first_from, is_class}
+use Rattle.ash_typing.specs.Environment.{is_interface_named}
 use Rattle.ash_typing.specs.Environment.{inside}
-use Rattle.ash_typing.specs.ModuleDeclarations.{object_named, element_by, element_named, array_named, object_ty, handle_ty, ty_named}
-use Rattle.ash_typing.specs.ModuleDeclarations.{result_named, variables, parameter_ty, function_head, signature_head, names_in}
-use Rattle.ash_typing.specs.ModuleDeclarations.{declarations, ty_in, interface_head, class_head, named_interface, named_class}
+use Rattle.ash_typing.specs.ModuleDeclarations.{object_named, element_by, element_named, array_named, object_ty}
+use Rattle.ash_typing.specs.ModuleDeclarations.{handle_ty, ty_named}
+use Rattle.ash_typing.specs.ModuleDeclarations.{result_named, variables, parameter_ty, function_head, signature_head}
+use Rattle.ash_typing.specs.ModuleDeclarations.{names_in}
+use Rattle.ash_typing.specs.ModuleDeclarations.{declarations, ty_in, interface_head, class_head, named_interface}
+use Rattle.ash_typing.specs.ModuleDeclarations.{named_class}
 use Rattle.ash_typing.specs.ModuleDeclarations.{all_variables, constructed_by}
 use Rattle.ash_typing.specs.Declarations.{Initialization, known_ty}
 use Rattle.ash_typing.specs.Typing.{IsKnown, IsVariableType, IsResultType, IsKnownVariable, IsKnownFunction}
@@ -30,7 +34,7 @@ use Rattle.ash_typing.specs.TypedModules.{IsSignature, IsInterface, AreInterface
 use Rattle.ash_typing.specs.TypedModules.{environment}
 use Rattle.ash_typing.proofs.Bindings.{bind_ok}
 use Rattle.ash_typing.proofs.TakenNames.{all_append}
-use Rattle.ash_typing.proofs.StatementsSound.{decls_known}
+use Rattle.ash_typing.proofs.StatementPartsSound.{decls_known}
 use Rattle.ash_typing.proofs.TypingKnown.{variable_is_result}
 use Rattle.ash_typing.proofs.TypedVariables.{known_sound}
 use Rattle.ash_typing.proofs.TypedRoutines.{passed_variable, parameters_sound, result_sound}
@@ -327,13 +331,13 @@ classes_known calls named (c ∷ cs) h = (
 
 -- what is found, by its place
 abbrev object_at : {A : Type 0} → (ℕ → ObjectType) → Option (ℕ × A) → Option ObjectType
-object_at {A} term_at found = option_map (λ (f : ℕ × A). term_at f.0) found
+object_at {A} of_place found = option_map (λ (f : ℕ × A). of_place f.0) found
 
-same_first : {A : Type 0} (term_at : ℕ → ObjectType) (i : ℕ) (b : Bool) (c d : A) (x y : Option (ℕ × A))
-    → object_at term_at x ≡ object_at term_at y
-    → object_at term_at (cond b (Some (i, c)) x) ≡ object_at term_at (cond b (Some (i, d)) y)
-same_first term_at i true c d x y h = refl
-same_first term_at i false c d x y h = h
+same_first : {A : Type 0} (of_place : ℕ → ObjectType) (i : ℕ) (b : Bool) (c d : A) (x y : Option (ℕ × A))
+    → object_at of_place x ≡ object_at of_place y
+    → object_at of_place (cond b (Some (i, c)) x) ≡ object_at of_place (cond b (Some (i, d)) y)
+same_first of_place i true c d x y h = refl
+same_first of_place i false c d x y h = h
 
 abbrev class_from : List ℕ → ℕ → List Class → Option ObjectType
 class_from name i cs = object_at OfClass (first_from (is_class name) i cs)

@@ -89,7 +89,7 @@ body_returns env of r t is = go is.returns
 pub routine_sound : (env : Environment) (of : Ty) (r : Routine) (t : modules.Function) → IsKnown env → IsKnownType of
     → signatures.IsResultType (seen_in env).signatures (result_type of) → BodyDeclaresInBlocks r.body
     → IsRoutine env of r t → sound.IsFunction (seen_in env) t
-routine_sound env of r t known gives result nest is =
+routine_sound env of r t known known_of result nest is =
     let locals = parameters_known env r.parameters is.passed in
     let scope : IsKnownScope (body_scope (with_locals env (map (parameter_of env) r.parameters)) of) = record {
       env = record {
@@ -99,7 +99,7 @@ routine_sound env of r t known gives result nest is =
         globals = known.globals;
         locals = locals;
       };
-      gives = gives;
+      result = known_of;
     } in
     record {
       parameters =
@@ -107,11 +107,11 @@ routine_sound env of r t known gives result nest is =
           (parameters_passed env r.parameters is.passed);
       result = subst (signatures.IsResultType (seen_in env).signatures) (sym is.result) result;
       body = subst₂
-          (λ (locals : List VarType) (gives : Option VarType).
+          (λ (locals : List VarType) (returned : Option VarType).
           sound_statements.AreStmts
           (record {
             env = record { signatures = (seen_in env).signatures; this = env.this; locals = locals };
-            gives = gives;
+            result = returned;
             may_break = false;
             may_continue = false;
           }) t.body) (types_of env r.parameters ∙ sym is.parameters) (sym is.result) (stmts_sound is.body scope nest);

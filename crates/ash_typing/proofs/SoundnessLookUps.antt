@@ -137,7 +137,7 @@ primitives_known (p ∷ ps) = (primitive_known p, primitives_known ps)
 
 pub element_type : (of : Element) → var_type (ty_of_element of) ≡ type_of_element of
 element_type elements.Bool = refl
-element_type (elements.Integer kind) = refl
+element_type (elements.Integer int_type) = refl
 element_type (elements.Class class) = refl
 element_type (elements.Interface interface) = refl
 element_type (elements.Host kind) = refl

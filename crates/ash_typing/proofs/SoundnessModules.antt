@@ -19,7 +19,8 @@ use Rattle.ash_typing.proofs.TypedClasses.{count_names}
 use Rattle.ash_typing.proofs.ModuleLaws.{typed_known}
 use Rattle.ash_typing.proofs.SoundnessLookUps.{mapped}
 use Rattle.ash_typing.proofs.SoundnessSignatures.{same_signatures}
-use Rattle.ash_typing.proofs.SoundnessItems.{functions_sound, interfaces_sound, interfaces_length, before_within, interfaces_in_order}
+use Rattle.ash_typing.proofs.SoundnessItems.{functions_sound, interfaces_sound, interfaces_length, before_within}
+use Rattle.ash_typing.proofs.SoundnessItems.{interfaces_in_order}
 use Rattle.ash_typing.proofs.SoundnessItems.{globals_sound, zip_length}
 use Rattle.ash_typing.proofs.SoundnessNaming.{functions_differ, globals_differ}
 use Rattle.ash_typing.proofs.SoundnessClasses.{classes_sound, classes_length}

@@ -25,13 +25,15 @@ use Rattle.ash_typing.specs.declared.types.Ty.TheVariants as ty
 use Rattle.ash_typing.specs.declared.forms.Callable.{Callable}
 use Rattle.ash_typing.specs.declared.forms.Callable.TheVariants as callables
 use Rattle.ash_typing.specs.Types.{var_type, result_type}
-use Rattle.ash_typing.specs.Environment.{Environment, Function, Interface, Class, ModuleDeclarations, Callee, first_from, is_called}
+use Rattle.ash_typing.specs.Environment.{Environment, Function, Interface, Class, ModuleDeclarations, Callee}
+use Rattle.ash_typing.specs.Environment.{first_from, is_called}
 use Rattle.ash_typing.specs.Environment.{is_class, is_interface_named, this_class, service_function, host_type}
 use Rattle.ash_typing.specs.Environment.{factory_in, factory_parameters, host_method, named_in, own_method_in, class_in}
 use Rattle.ash_typing.specs.Environment.{function_in, callee_beside, callee_in, method_in, class_method}
 use Rattle.ash_typing.specs.Environment.{interface_method, method_of_class, method_of_interface, method_of_array}
 use Rattle.ash_typing.specs.Environment.{method_of_kind, array_method_of, is_array_method, host_member_in, name_of_kind}
-use Rattle.ash_typing.specs.ModuleDeclarations.{object_named, class_type, interface_type, host_object, element_of, element_by}
+use Rattle.ash_typing.specs.ModuleDeclarations.{object_named, class_type, interface_type, host_object, element_of}
+use Rattle.ash_typing.specs.ModuleDeclarations.{element_by}
 use Rattle.ash_typing.specs.ModuleDeclarations.{element_named}
 use Rattle.ash_typing.specs.Typing.{IsKnown, IsKnownFunction, IsKnownInterface, IsKnownClass, IsVariableType}
 use Rattle.ash_typing.specs.Offered.{host_signature, kind_in, factory_at, method_at, function_at}
@@ -129,11 +131,11 @@ method_sound env (OfArray of) text known = let found =
 
 -- it takes these parameters and gives this
 abbrev pub IsCalled : Environment → Callable → List VarType → Option VarType → Type 0
-IsCalled env (callables.OwnMethod class method result) parameters gives =
+IsCalled env (callables.OwnMethod class method result) parameters returned =
     (env.this ≡ Some class)
-    × operations.IsMethod (seen_in env).signatures (OfClass class) (methods.Script class method result) parameters gives
-IsCalled env (callables.Target target) parameters gives =
-    operations.IsTarget (seen_in env).signatures target parameters gives
+    × operations.IsMethod (seen_in env).signatures (OfClass class) (methods.Script class method result) parameters returned
+IsCalled env (callables.Target target) parameters returned =
+    operations.IsTarget (seen_in env).signatures target parameters returned
 
 abbrev pub IsCalledWith : Environment → Callee → List Ty → Type 0
 IsCalledWith env callee parameters =

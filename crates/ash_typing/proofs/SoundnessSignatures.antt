@@ -11,8 +11,10 @@ use Rattle.ash_typing.specs.declared.types.Ty.{Ty}
 use Rattle.ash_typing.specs.Types.{var_type, result_type}
 use Rattle.ash_typing.specs.Environment.{Environment, ModuleDeclarations, inside, type_declared}
 use Rattle.ash_typing.specs.ModuleDeclarations.{object_named, ty_named, result_named, declared, variables, parameter_ty}
-use Rattle.ash_typing.specs.ModuleDeclarations.{function_head, signature_head, interface_head, class_head, interface_place}
-use Rattle.ash_typing.specs.ModuleDeclarations.{with_place, listed_in, names_in, declarations, ty_in, result_in, all_variables}
+use Rattle.ash_typing.specs.ModuleDeclarations.{function_head, signature_head, interface_head, class_head}
+use Rattle.ash_typing.specs.ModuleDeclarations.{interface_place}
+use Rattle.ash_typing.specs.ModuleDeclarations.{with_place, listed_in, names_in, declarations, ty_in, result_in}
+use Rattle.ash_typing.specs.ModuleDeclarations.{all_variables}
 use Rattle.ash_typing.specs.ModuleDeclarations.{constructed_by}
 use Rattle.ash_tree.specs.Items.{classes_of, interfaces_of, classes_before, functions_of, globals_of, fields_of}
 use Rattle.ash_tree.specs.Items.{methods_of, constructors_of}

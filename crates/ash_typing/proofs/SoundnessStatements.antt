@@ -8,8 +8,8 @@ use Rattle.std.proofs.Common.{false, nat_eq, Option, Some, None, refl, sym, ap, 
 use Rattle.ash_tree.specs.declared.tree.statements.Label.{Label}
 use Rattle.ash_tree.specs.declared.tree.statements.Label.TheVariants as labels
 use Rattle.ash_tree.specs.Tree as written
-use Rattle.ash_typed.specs.declared.types.Kind.{Kind}
-use Rattle.ash_typed.specs.declared.types.Kind.TheVariants as kinds
+use Rattle.ash_integers.specs.declared.int_type.IntType.{IntType}
+use Rattle.ash_integers.specs.declared.int_type.IntType.TheVariants as ints
 use Rattle.ash_typed.specs.declared.types.VarType.{VarType}
 use Rattle.ash_typed.specs.declared.tree.statements.Test.TheVariants.{First, Last}
 use Rattle.ash_typed.specs.Tree.{Expr}
@@ -36,7 +36,7 @@ use Rattle.ash_typing.specs.Nesting.{IsNoDeclaration, DeclaresInBlocks, AllDecla
 use Rattle.ash_typing.specs.Nesting.{LabelledDeclareInBlocks}
 use Rattle.ash_typing.specs.Soundness.{seen_in, seen_at}
 use Rattle.ash_typing.proofs.TypingKnown.{known_type, variable_is_known}
-use Rattle.ash_typing.proofs.StatementsSound.{decls_known, more_known}
+use Rattle.ash_typing.proofs.StatementPartsSound.{decls_known, more_known}
 use Rattle.ash_typing.proofs.SoundnessTypes.{of_type, within, fits_sound}
 use Rattle.ash_typing.proofs.SoundnessExpressions.{term_sound}
 use Rattle.ash_typing.proofs.SoundnessVariables.{type_sound, seen_with, variables_sound}
@@ -45,13 +45,13 @@ use Rattle.ash_typing.specs.Scopes.{Scope, block_of, loop_of, switch_of, with_va
 -- scopes
 
 block_known : (scope : Scope) → IsKnownScope scope → IsKnownScope (block_of scope)
-block_known scope k = record { env = k.env; gives = k.gives }
+block_known scope k = record { env = k.env; result = k.result }
 
 loop_known : (scope : Scope) → IsKnownScope scope → IsKnownScope (loop_of scope)
-loop_known scope k = record { env = k.env; gives = k.gives }
+loop_known scope k = record { env = k.env; result = k.result }
 
 switch_known : (scope : Scope) → IsKnownScope scope → IsKnownScope (switch_of scope)
-switch_known scope k = record { env = k.env; gives = k.gives }
+switch_known scope k = record { env = k.env; result = k.result }
 
 -- what is seen after variables
 declaring_is : (scope : Scope) (v : written.Vars)
@@ -60,7 +60,7 @@ declaring_is : (scope : Scope) (v : written.Vars)
 declaring_is scope v =
     ap (λ env. record {
       env = env;
-      gives = result_type scope.gives;
+      result = result_type scope.result;
       may_break = scope.in_loop || scope.in_switch;
       may_continue = scope.in_loop;
     }) (seen_with scope.env (declared_in scope v))
@@ -70,7 +70,7 @@ nothing_declared scope =
     ap (λ locals.
     record {
       env = record { signatures = scope.env.signatures; this = scope.env.this; locals = locals };
-      gives = scope.gives;
+      result = scope.result;
       may_break = scope.may_break;
       may_continue = scope.may_continue;
     }) (sym (append-nil scope.env.locals))
@@ -83,7 +83,7 @@ switch_is : (scope : Scope) → seen_at (switch_of scope) ≡ sound_statements.i
 switch_is scope =
     ap (λ may. record {
       env = seen_in scope.env;
-      gives = result_type scope.gives;
+      result = result_type scope.result;
       may_break = may;
       may_continue = scope.in_loop;
     }) (either scope.in_loop)
@@ -132,13 +132,13 @@ head_sound {scope} (head_evaluates h) known = record {
 
 -- labels
 
-minus_within : (k : Kind) (n : ℕ) → holds_minus k n ≡ true → sound_statements.IsWithinMinus k n
-minus_within kinds.Int n h = leb-true n (2 ^ 31) h
-minus_within kinds.Uint n h = eqb-true n 0 h
-minus_within kinds.Int64 n h = leb-true n (2 ^ 63) h
-minus_within kinds.Uint64 n h = eqb-true n 0 h
+minus_within : (k : IntType) (n : ℕ) → holds_minus k n ≡ true → sound_statements.IsWithinMinus k n
+minus_within ints.Int n h = leb-true n (2 ^ 31) h
+minus_within ints.Uint n h = eqb-true n 0 h
+minus_within ints.Int64 n h = leb-true n (2 ^ 63) h
+minus_within ints.Uint64 n h = eqb-true n 0 h
 
-constant_within : (k : Kind) (l : Label) → is_default l ≡ false → holds_label k l ≡ true
+constant_within : (k : IntType) (l : Label) → is_default l ≡ false → holds_label k l ≡ true
     → sound_statements.IsConstant k l
 constant_within k (labels.Case n) d h = within k n h
 constant_within k (labels.CaseMinus n) d h = minus_within k n h
@@ -186,14 +186,14 @@ all_differ l (other ∷ before) d h =
     let no = or_false (is_same_constant l other) (list_any (is_same_constant l) before) h in
     (λ same. let yes = same_constant l other d same in let never = no.0 in absurd (cc), all_differ l before d no.1)
 
-label_sound : {k : Kind} {before : List Label} {last : Bool} {l : Label} → IsLabel k before last l → (rows : Cases)
+label_sound : {k : IntType} {before : List Label} {last : Bool} {l : Label} → IsLabel k before last l → (rows : Cases)
     → (last ≡ true → rows ≡ no_case) → sound_statements.IsLabel k before l rows
 label_sound {k} (constant {before = before} {l = l} d h i) rows last =
     sound_statements.constant (constant_within k l d h) (all_differ l before d i)
 label_sound {k} (otherwise {before = before}) rows last =
     subst (sound_statements.IsLabel k before labels.Default) (sym (last refl)) sound_statements.otherwise
 
-no_rows : {scope : Scope} {k : Kind} {before : List Label} {cs : written.Cases} {rows : Cases}
+no_rows : {scope : Scope} {k : IntType} {before : List Label} {cs : written.Cases} {rows : Cases}
     → AreCases scope k before cs rows → is_last cs ≡ true → rows ≡ no_case
 no_rows no_more_cases h = refl
 no_rows (more_cases l ss rest) h = absurd (cc)
@@ -285,9 +285,9 @@ mutual
       plain scope (written.Return p None) (Return p.line None) refl known
       (sound_statements.return_nothing (ap result_type h))
   stmt_sound {scope} (return_value {p = p} {e = e} {t = t} h i) known nest =
-      plain scope (written.Return p (Some e)) (Return p.line (Some (converted_to scope.gives t))) refl known
-      (sound_statements.return_value (returned_type scope.env.declarations.classes scope.gives t.ty i)
-      (fits_sound scope.env scope.gives t known.gives (known_type h known.env) (term_sound h known.env).gives i))
+      plain scope (written.Return p (Some e)) (Return p.line (Some (converted_to scope.result t))) refl known
+      (sound_statements.return_value (returned_type scope.env.declarations.classes scope.result t.ty i)
+      (fits_sound scope.env scope.result t known.result (known_type h known.env) (term_sound h known.env).gives i))
 
   pub stmts_sound : {scope : Scope} {ss : written.Stmts} {ts : Stmts} → AreStmts scope ss ts → IsKnownScope scope
       → AllDeclareInBlocks ss → sound_statements.AreStmts (seen_at scope) ts
@@ -296,7 +296,7 @@ mutual
       let s = stmt_sound h known nest.0 in
       s.followed ts (stmts_sound rest s.known nest.1)
 
-  cases_sound : {scope : Scope} {k : Kind} {before : List Label} {cs : written.Cases} {rows : Cases}
+  cases_sound : {scope : Scope} {k : IntType} {before : List Label} {cs : written.Cases} {rows : Cases}
       → AreCases scope k before cs rows → IsKnownScope scope → CasesDeclareInBlocks cs
       → sound_statements.AreCases (seen_at scope) k before rows
   cases_sound no_more_cases known nest = sound_statements.no_cases

@@ -14,7 +14,8 @@ use Rattle.ash_typing.specs.declared.types.Ty.TheVariants as ty
 use Rattle.ash_typing.specs.Types.{ty_of, var_type}
 use Rattle.ash_typing.specs.Environment.{Environment, Declared, with_locals, declares, type_declared}
 use Rattle.ash_typing.specs.Expressions.{is_void}
-use Rattle.ash_typing.specs.ModuleDeclarations.{object_named, array_named, object_ty, handle_ty, ty_named, ty_in, result_in}
+use Rattle.ash_typing.specs.ModuleDeclarations.{object_named, array_named, object_ty, handle_ty, ty_named, ty_in}
+use Rattle.ash_typing.specs.ModuleDeclarations.{result_in}
 use Rattle.ash_typing.specs.Typing.{IsKnown, IsKnownType, IsVariableType, IsKnownVariable}
 use Rattle.ash_typed.specs.StatementTree.{Body}
 use Rattle.ash_typing.specs.Statements.{body_typed}
@@ -177,7 +178,7 @@ body_sound : (env : Environment) (of : Ty) (body : List written.Stmt) (typed : B
     → body_typed env of body ≡ Ok typed → IsBody env of body typed
 unfolding body_typed
 body_sound env of body typed k known_of h =
-    stmts_sound (body_scope env of) (record { env = k; gives = known_of }) (written.stmts body) typed h
+    stmts_sound (body_scope env of) (record { env = k; result = known_of }) (written.stmts body) typed h
 
 body_complete : (env : Environment) (of : Ty) (body : List written.Stmt) (typed : Body) → IsBody env of body typed
     → body_typed env of body ≡ Ok typed

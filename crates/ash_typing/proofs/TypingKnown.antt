@@ -18,7 +18,7 @@ use Rattle.ash_typed.specs.declared.tree.operations.ArrayMethod.TheVariants as a
 use Rattle.ash_typing.specs.declared.types.Ty.{Ty}
 use Rattle.ash_typing.specs.declared.types.Ty.TheVariants as ty
 use Rattle.ash_typing.specs.declared.forms.OperatorClass.{OperatorClass}
-use Rattle.ash_typing.specs.declared.forms.OperatorClass.TheVariants as sort
+use Rattle.ash_typing.specs.declared.forms.OperatorClass.TheVariants as operator_class
 use Rattle.ash_typing.specs.declared.forms.Form.{Form}
 use Rattle.ash_typing.specs.declared.forms.Form.TheVariants as form
 use Rattle.ash_typed.specs.declared.tree.operations.Member.{Member}
@@ -31,7 +31,7 @@ use Rattle.ash_typed.specs.declared.tree.operations.Member.TheVariants.{Field}
 use Rattle.ash_typed.specs.declared.tree.operations.Method.TheVariants as methods
 use Rattle.ash_typed.specs.declared.tree.operations.Target.TheVariants as targets
 use Rattle.ash_typing.specs.declared.forms.Callable.TheVariants as callables
-use Rattle.ash_typed.specs.declared.types.Kind.{Kind}
+use Rattle.ash_integers.specs.declared.int_type.IntType.{IntType}
 use Rattle.std.specs.Str.{bytes_eq}
 use Rattle.ash_typed.specs.Tree.{Number, Read, Stored, Held, This}
 use Rattle.ash_typing.specs.Environment.{Environment, Declared, Function, Class, Known, Callee, Invoked, first_from}
@@ -144,8 +144,8 @@ result_known None = refl
 result_known (Some of) = variable_is_result (ty_of of) (primitive_known of)
 
 pub outcome_known : (s : OperatorClass) (o : Operands) → is_known (outcome s o) ≡ true
-outcome_known sort.Arithmetic (operands.Integers k) = refl
-outcome_known sort.Shift (operands.Integers k) = refl
+outcome_known operator_class.Arithmetic (operands.Integers k) = refl
+outcome_known operator_class.Shift (operands.Integers k) = refl
 outcome_known _ _ = refl
 
 known_if_some : (t of : Ty) → is_known t ≡ true → Some t ≡ Some of → is_known of ≡ true
@@ -166,7 +166,7 @@ common_known ty.Null (ty.Object o) of h k c = known_if_some (ty.Handle o) of ref
 common_known ty.Null (ty.Handle o) of h k c = known_if_some (ty.Handle o) of refl c
 common_known a b of h k c = absurd (none-some of c)
 
-taken_known : (b : Bool) (k : Kind) (n : ℕ) (t : Term) → is_known t.ty ≡ true
+taken_known : (b : Bool) (k : IntType) (n : ℕ) (t : Term) → is_known t.ty ≡ true
     → is_known (cond b (record { ty = ty.Integer k; form = form.Number n; tree = Number k n }) t).ty ≡ true
 taken_known true k n t h = refl
 taken_known false k n t h = h
@@ -177,7 +177,7 @@ taking_known a (ty.Integer k) (form.Number n) t h = taken_known (holds k n) k n 
 taking_known a of b t h = h
 
 pub adapted_known : (s : OperatorClass) (other t : Term) → is_known t.ty ≡ true → is_known (adapted_to s other t).ty ≡ true
-adapted_known sort.Shift other t h = h
+adapted_known operator_class.Shift other t h = h
 adapted_known _ other t h = taking_known other.form other.ty t.form t h
 
 -- members

@@ -19,8 +19,10 @@ use Rattle.ash_typing.specs.Types.{var_type, object_of, binary_of, integers_in}
 use Rattle.ash_typed.specs.Tree.{Truth, Null, Read, Invoke, Assign, Update, Place, Held}
 use Rattle.ash_typing.specs.ModuleDeclarations.{object_named}
 use Rattle.ash_typing.specs.Environment.{Environment, Class, Invoked, variable_in, member_in, method_in}
-use Rattle.ash_typing.specs.Expressions.{Typed, UnifiedOperands, typed, all_typed, links_typed, suffixes_typed, suffix_typed}
-use Rattle.ash_typing.specs.Expressions.{invocation_typed, arguments_at, coerced_for_assignment, unify_operands, unary_at, integer_of, convert_at}
+use Rattle.ash_typing.specs.Expressions.{Typed, UnifiedOperands, typed, all_typed, links_typed, suffixes_typed}
+use Rattle.ash_typing.specs.Expressions.{suffix_typed}
+use Rattle.ash_typing.specs.Expressions.{invocation_typed, arguments_at, coerced_for_assignment, unify_operands}
+use Rattle.ash_typing.specs.Expressions.{unary_at, integer_of, convert_at}
 use Rattle.ash_typing.specs.Expressions.{choice, assigned, assigned_to, stored, updated, is_assign, field_of, member_at}
 use Rattle.ash_typing.specs.Expressions.{method_of, invoked, invoked_at, term_at, read_at, indexed, cast_type, cast_at}
 use Rattle.ash_typing.specs.Expressions.{placed, term_of}
@@ -33,7 +35,8 @@ use Rattle.ash_typing.proofs.TypingKnown.{known_type, suffix_known}
 use Rattle.ash_typing.proofs.TypingComplete.{terms}
 use Rattle.ash_typing.specs.Terms.{operator_of, is_stored, assignable, term, number_term}
 use Rattle.ash_typing.proofs.TypingSoundCalls.{AllSound, Sound, arguments_ok, array_sound, at_ok, brackets_sound}
-use Rattle.ash_typing.proofs.TypingSoundCalls.{call_sound, cast_sound, cast_type_ok, convert_sound, coerced_for_assignment_ok, index_ok}
+use Rattle.ash_typing.proofs.TypingSoundCalls.{call_sound, cast_sound, cast_type_ok, convert_sound}
+use Rattle.ash_typing.proofs.TypingSoundCalls.{coerced_for_assignment_ok, index_ok}
 use Rattle.ash_typing.proofs.TypingSoundCalls.{integer_ok, name_sound, this_sound}
 use Rattle.ash_typing.proofs.TypingSoundOperators.{conditional_sound, counted_ok, met_ok, one_link, unary_sound}
 

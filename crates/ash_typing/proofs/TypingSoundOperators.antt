@@ -5,7 +5,7 @@ use Rattle.ash_tree.specs.declared.tree.operators.UnaryOp.{UnaryOp}
 use Rattle.ash_tree.specs.declared.tree.operators.UnaryOp.TheVariants as unary
 use Rattle.ash_tree.specs.declared.tree.operators.BinaryOp.{BinaryOp}
 use Rattle.ash_tree.specs.Tree as written
-use Rattle.ash_typed.specs.declared.types.Kind.{Kind}
+use Rattle.ash_integers.specs.declared.int_type.IntType.{IntType}
 use Rattle.ash_typing.specs.declared.types.Ty.{Ty}
 use Rattle.ash_typing.specs.declared.types.Ty.TheVariants as ty
 use Rattle.ash_typing.specs.declared.forms.OperatorClass.{OperatorClass}
@@ -17,8 +17,10 @@ use Rattle.ash_typing.specs.TypingResult.{◌>>=◌}
 use Rattle.ash_typing.specs.Types.{signed, common, operator_class_of, outcome, meets, assumed}
 use Rattle.ash_typed.specs.Tree.{Expr, Alter, Conditional, Count, Place}
 use Rattle.ash_typing.specs.Environment.{Environment}
-use Rattle.ash_typing.specs.Expressions.{Typed, UnifiedOperands, typed, links_typed, coerced, operate, operated as joined, unify_operands}
-use Rattle.ash_typing.specs.Expressions.{unified_as, unified_by, counted, altered, unary_at, integer_of, bool_of, handle_of}
+use Rattle.ash_typing.specs.Expressions.{Typed, UnifiedOperands, typed, links_typed, coerced, operate}
+use Rattle.ash_typing.specs.Expressions.{operated as joined, unify_operands}
+use Rattle.ash_typing.specs.Expressions.{unified_as, unified_by, counted, altered, unary_at, integer_of, bool_of}
+use Rattle.ash_typing.specs.Expressions.{handle_of}
 use Rattle.ash_typing.specs.Expressions.{handle_at, choice, chosen, term_at, integer_at, placed, term_of}
 use Rattle.ash_typing.specs.Typing.{IsKnown, is_known, HasType, LinksHaveType, plus, minus, complement, not, increment}
 use Rattle.ash_typing.specs.Typing.{decrement, handle, handle_written, conditional, operated, Meet, left_of, right_of}
@@ -32,7 +34,7 @@ use Rattle.ash_typing.proofs.TypingSoundCalls.{Sound, at_ok, bool_ok, integer_ok
 pub counted_ok : (at : ℕ) (step : Step) (u : Typed) (found : Option Place) (r : Typed) → is_known u.ty ≡ true
     → counted at step u found ≡ Ok r
     → (target : Place) × (found ≡ Some target)
-    × ((k : Kind) × (u.ty ≡ ty.Integer k) × (term_at at (ty.Integer k) (Count target k step) ≡ r))
+    × ((k : IntType) × (u.ty ≡ ty.Integer k) × (term_at at (ty.Integer k) (Count target k step) ≡ r))
 unfolding counted
 counted_ok at step u None r known h = absurd (no_fault _ r h)
 counted_ok at step u (Some target) r known h =

@@ -10,13 +10,15 @@ use Rattle.ash_typing.specs.Types.{var_type, object_of}
 use Rattle.ash_typing.specs.Coercions.{fits}
 use Rattle.ash_typed.specs.Tree.{Expr, Exprs}
 use Rattle.ash_typing.specs.Environment.{Environment, Class, Callee, construction}
-use Rattle.ash_typing.specs.Expressions.{Typed, typed, all_typed, coerced_for_assignment, called, placed, all_placed, term_of, first_at}
+use Rattle.ash_typing.specs.Expressions.{Typed, typed, all_typed, coerced_for_assignment, called, placed, all_placed}
+use Rattle.ash_typing.specs.Expressions.{term_of, first_at}
 use Rattle.ash_typing.specs.Declarations.{Initialization, constructed, begun, begun_with, begun_by, begun_by_one}
 use Rattle.ash_typing.specs.Declarations.{stored_first, initialized, decl_typed, built}
 use Rattle.ash_typing.specs.Typing.{IsKnown, is_object, HasType, AllHaveType, each, AreArguments, IsConstructed}
 use Rattle.ash_typing.specs.Typing.{construct, BeginsWith, empty, default, value, one, built_by, IsDeclared, declared}
 use Rattle.ash_typing.proofs.TypingWords.{no_fault, same_ok, bind_ok}
-use Rattle.ash_typing.proofs.TypingComplete.{terms, all_terms, placed_count, complete, all_complete, coerced_for_assignment_is}
+use Rattle.ash_typing.proofs.TypingComplete.{terms, all_terms, placed_count, complete, all_complete}
+use Rattle.ash_typing.proofs.TypingComplete.{coerced_for_assignment_is}
 use Rattle.ash_typing.proofs.TypingComplete.{arguments_is}
 use Rattle.ash_typing.proofs.TypingSoundCalls.{at_ok, coerced_for_assignment_ok, called_ok}
 use Rattle.ash_typing.proofs.TypingSound.{sound, all_sound}

@@ -3,18 +3,19 @@ use Rattle.std.proofs.lemmas.Option.{none-some, same_Some}
 use Rattle.std.proofs.Common.{◌≡◌, ℕ, IsOk, true, Some, Ok, Err, refl, sym, subst}
 use Rattle.ash_tree.specs.declared.tree.operators.BinaryOp.{BinaryOp}
 use Rattle.ash_typing.specs.declared.fault.Fault.{Fault}
-use Rattle.ash_typed.specs.declared.types.Kind.{Kind}
-use Rattle.ash_typed.specs.declared.types.Kind.TheVariants as kinds
+use Rattle.ash_integers.specs.declared.int_type.IntType.{IntType}
+use Rattle.ash_integers.specs.declared.int_type.IntType.TheVariants as ints
 use Rattle.ash_typing.specs.declared.types.Ty.{Ty}
 use Rattle.ash_typing.specs.declared.types.Ty.TheVariants as ty
 use Rattle.ash_typing.specs.declared.forms.OperatorClass.{OperatorClass}
-use Rattle.ash_typing.specs.declared.forms.OperatorClass.TheVariants as sort
+use Rattle.ash_typing.specs.declared.forms.OperatorClass.TheVariants as operator_class
 use Rattle.ash_typed.specs.declared.tree.operations.Calculator.{Calculator}
 use Rattle.ash_typed.specs.declared.tree.operations.Calculator.TheVariants as calculators
 use Rattle.ash_typed.specs.declared.tree.operations.Operands.{Operands}
 use Rattle.ash_typed.specs.declared.tree.operations.Operands.TheVariants as operands
 use Rattle.ash_typing.specs.TypingResult.{TypingResult, ◌>>=◌}
-use Rattle.ash_typing.specs.Types.{is_same_kind, meeting, operator_class_of, binary_of, integers_in, meets, assumed}
+use Rattle.ash_typing.specs.Types.{is_same_integer_type, meeting, operator_class_of, binary_of}
+use Rattle.ash_typing.specs.Types.{integers_in, meets, assumed}
 use Rattle.ash_typing.specs.Expressions.{adapted, unify_operands, placed, term_of}
 use Rattle.ash_typing.specs.Typing.{is_known, Meet, right_of}
 use Rattle.ash_typing.specs.Terms.{Term, adapted_to, converted_to, right_by}
@@ -44,16 +45,16 @@ answered (Err f) h go = cc
 pub no_fault_at : {A : Type 0} (r : TypingResult A) (x : A) → r ≡ Ok x → IsOk r
 no_fault_at r x h = subst (λ (r : TypingResult _). IsOk r) (sym h) refl
 
--- kinds
+-- integer types
 
-pub same_kind : (k : Kind) → is_same_kind k k ≡ true
-same_kind kinds.Int = refl
-same_kind kinds.Uint = refl
-same_kind kinds.Int64 = refl
-same_kind kinds.Uint64 = refl
+pub same_integer_type : (k : IntType) → is_same_integer_type k k ≡ true
+same_integer_type ints.Int = refl
+same_integer_type ints.Uint = refl
+same_integer_type ints.Int64 = refl
+same_integer_type ints.Uint64 = refl
 
-pub unconverted : (k : Kind) (t : Term) → t.ty ≡ ty.Integer k → converted_to (ty.Integer k) t ≡ t.tree
-unconverted k t h = rw h (rw (same_kind k) refl)
+pub unconverted : (k : IntType) (t : Term) → t.ty ≡ ty.Integer k → converted_to (ty.Integer k) t ≡ t.tree
+unconverted k t h = rw h (rw (same_integer_type k) refl)
 
 -- operands
 
@@ -63,33 +64,34 @@ unfolding adapted
 adapted_is s other t at = refl
 
 pub known_alone : (s : OperatorClass) (adapted_to of : Ty) → is_known of ≡ true → assumed s adapted_to of ≡ of
-known_alone sort.Equality ty.Bool ty.Unknown h = cc
-known_alone sort.Identity adapted_to ty.Unknown h = cc
-known_alone sort.Logic adapted_to ty.Unknown h = cc
+known_alone operator_class.Equality ty.Bool ty.Unknown h = cc
+known_alone operator_class.Identity adapted_to ty.Unknown h = cc
+known_alone operator_class.Logic adapted_to ty.Unknown h = cc
 known_alone s adapted_to ty.Unknown h = cc
 known_alone s adapted_to of h = refl
 
 pub meets_assumed : (s : OperatorClass) (x y : Ty) (o : Operands) → meets s x y ≡ Some o
     → meets s (assumed s y x) (assumed s x y) ≡ Some o
-meets_assumed sort.Identity ty.Unknown ty.Unknown o h = h
-meets_assumed sort.Identity x ty.Unknown o h = h
-meets_assumed sort.Identity x y o h = h
+meets_assumed operator_class.Identity ty.Unknown ty.Unknown o h = h
+meets_assumed operator_class.Identity x ty.Unknown o h = h
+meets_assumed operator_class.Identity x y o h = h
 meets_assumed s ty.Unknown y o h = absurd (none-some o h)
 meets_assumed s x ty.Unknown o h = absurd (none-some o h)
 meets_assumed s x y o h = h
 
 -- what calculates takes integers
 
-same_integers : (k : Kind) (o : Operands) → Some (operands.Integers k) ≡ Some o → o ≡ operands.Integers (integers_in o)
+same_integers : (k : IntType) (o : Operands) → Some (operands.Integers k) ≡ Some o
+    → o ≡ operands.Integers (integers_in o)
 same_integers k o h =
     subst (λ (x : Operands). x ≡ operands.Integers (integers_in x)) (same_Some (operands.Integers k) o h) refl
 
-pub arithmetic_integers : (x y : Ty) (o : Operands) → meets sort.Arithmetic x y ≡ Some o
+pub arithmetic_integers : (x y : Ty) (o : Operands) → meets operator_class.Arithmetic x y ≡ Some o
     → o ≡ operands.Integers (integers_in o)
 arithmetic_integers (ty.Integer j) (ty.Integer k) o h = same_integers (meeting j k) o h
 arithmetic_integers _ _ o h = absurd (none-some o h)
 
-pub shift_integers : (x y : Ty) (o : Operands) → meets sort.Shift x y ≡ Some o → o ≡ operands.Integers (integers_in o)
+pub shift_integers : (x y : Ty) (o : Operands) → meets operator_class.Shift x y ≡ Some o → o ≡ operands.Integers (integers_in o)
 shift_integers (ty.Integer j) (ty.Integer k) o h = same_integers j o h
 shift_integers _ _ o h = absurd (none-some o h)
 
@@ -108,7 +110,7 @@ calculated_integers calculators.BitXor x y o h = arithmetic_integers x y o h
 calculated_integers calculators.BitOr x y o h = arithmetic_integers x y o h
 
 pub right_is : (s : OperatorClass) (o : Operands) (b : ℕ) (u : Term) → right_by s o (term_of (placed b u)) ≡ right_by s o u
-right_is sort.Shift o b u = refl
+right_is operator_class.Shift o b u = refl
 right_is _ o b u = refl
 
 pub met_is : (op : BinaryOp) (t u : Term) (o : Operands) (a b : ℕ) → Meet op t u o

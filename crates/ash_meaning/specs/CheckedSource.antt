@@ -1,11 +1,9 @@
 -- What checking a source comes to: the items of its script, or the refusal for which it is none that is typed.
 --
 -- A source that has no tokens is refused for that, and one whose tokens are no script for their first fault. A script
--- is
--- accepted exactly where the rules of typing give it a typed module and no class reaches itself by what its fields
--- hold. One
--- that the rules give none is refused for the first fault of the walk, and one with such a class for the cycle that is
--- reported.
+-- is accepted exactly where the rules of typing give it a typed module and no class reaches itself by what its fields
+-- hold. One that the rules give none is refused for the first fault of the walk, and one with such a class for the
+-- cycle that is reported.
 use Rattle.std.specs.Prelude.{◌≡◌, ◌⊎◌, ◌-◌, ℕ, List, length, map, Option, Some, None, Result, Ok, Err}
 use Rattle.std.specs.List.{slice_get}
 use Rattle.ash_lex.specs.Tokens.{Meaning, Lexeme}
@@ -27,7 +25,7 @@ use Rattle.ash_typing.specs.Items.{module_typed}
 use Rattle.ash_typing.specs.TypedModules.{IsTyped}
 use Rattle.ash_typed.specs.Modules.{Module}
 use Rattle.ash_classes.specs.References.{Refers, classes_of}
-use Rattle.ash_classes.specs.Ways.{IsReported, Reaches}
+use Rattle.ash_classes.specs.Ways.{IsReportedCycle, Reaches}
 use Rattle.ash_check.specs.Checks.{ScriptFault, Broken, Cyclic, checked, script_fault_of, round_of}
 use Rattle.ash_check.specs.declared.faults.CheckFault.{CheckFault}
 use Rattle.ash_meaning.specs.Lexing.{Lexes}
@@ -113,8 +111,7 @@ pub record IsTypedScript (registered : List Registration) (tokens : List Lexeme)
   pub acyclic : (class : ℕ) → Reaches (Refers (classes_of items)) class class → ⊥
 
 -- The tokens are those of a script that breaks a rule of typing: it is refused for the first fault, in the order in
--- which
--- a script is walked.
+-- which a script is walked.
 pub record IsUntypedScript (registered : List Registration) (tokens : List Lexeme) (refusal : Refusal) : Type 0 where
   pub items : List Item
   pub derived : Derives 0 (tokens_in tokens) items
@@ -123,8 +120,7 @@ pub record IsUntypedScript (registered : List Registration) (tokens : List Lexem
   pub reported : refusal ≡ broken_at fault.rule fault.at
 
 -- The tokens are those of a script to which the rules give a typed module, and a class reaches itself: it is refused
--- for
--- the one cycle that is reported.
+-- for the one cycle that is reported.
 pub record IsCyclicScript (registered : List Registration) (tokens : List Lexeme) (refusal : Refusal) : Type 0 where
   pub items : List Item
   pub derived : Derives 0 (tokens_in tokens) items
@@ -132,7 +128,7 @@ pub record IsCyclicScript (registered : List Registration) (tokens : List Lexeme
   pub by_rules : IsTyped registered items typed
   pub first : ℕ
   pub others : List ℕ
-  pub cycle : IsReported (Refers (classes_of items)) first others
+  pub cycle : IsReportedCycle (Refers (classes_of items)) first others
   pub reported : refusal ≡ refusals.CyclicType (round_of (classes_of items) (first, others))
 
 -- what checking the tokens of a source comes to
@@ -142,15 +138,14 @@ ChecksTokens registered tokens (Err refusal) = IsNoScript tokens refusal ⊎ IsU
     ⊎ IsCyclicScript registered tokens refusal
 
 -- what checking a source comes to, where these calls are registered
-pub data Checks (registered : List Registration) (source : List ℕ) (checking : CheckResult) : Type 0 where
-  no_tokens : (refusal : Refusal) → checking ≡ Err refusal → Lexes source (Err refusal)
-      → Checks registered source checking
-  has_tokens : (tokens : List Lexeme) → Lexes source (Ok tokens) → ChecksTokens registered tokens checking
-      → Checks registered source checking
+pub data Checks (registered : List Registration) (source : List ℕ) (outcome : CheckResult) : Type 0 where
+  no_tokens : (refusal : Refusal) → outcome ≡ Err refusal → Lexes source (Err refusal)
+      → Checks registered source outcome
+  has_tokens : (tokens : List Lexeme) → Lexes source (Ok tokens) → ChecksTokens registered tokens outcome
+      → Checks registered source outcome
 
 -- A source is accepted where it has tokens, the grammar derives a script from them, the rules give that a typed module
--- and
--- no class reaches itself.
+-- and no class reaches itself.
 pub record IsAccepted (registered : List Registration) (source : List ℕ) : Type 0 where
   pub tokens : List Lexeme
   pub lexed : Lexes source (Ok tokens)

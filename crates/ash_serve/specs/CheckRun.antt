@@ -1,11 +1,12 @@
 -- Checking a script: its bytes are read and judged, and the verdict is written.
-use Rattle.std.specs.Prelude.{◌≡◌, ◌<◌, ◌⊎◌, ℕ, List, [], ◌∷◌, ◌++◌, length, codes, Option, Some, None, option_map, Result, Ok, Err, IfSome}
+use Rattle.std.specs.Prelude.{◌≡◌, ◌<◌, ◌⊎◌, ℕ, List, [], ◌∷◌, ◌++◌, length, codes, Option, Some, None, option_map}
+use Rattle.std.specs.Prelude.{Result, Ok, Err, IfSome}
 use Rattle.std.specs.Io.KnownBytes.{Appends, Keeps}
 use Rattle.ash_registry.specs.Calls.{Registration}
 use Rattle.ash_meaning.specs.declared.refusal.Refusal as code
 use Rattle.ash_meaning.specs.Refusals.{Refusal, refusal_of}
 use Rattle.ash_meaning.specs.Refusals as refusals
-use Rattle.ash_meaning.specs.Checking.{CheckResult, checked_source}
+use Rattle.ash_meaning.specs.CheckedSource.{CheckResult, checked_source}
 use Rattle.ash_lines.specs.Source.{Feed, Faults}
 use Rattle.ash_lines.specs.Sink.{Outlet, WritesAll, FailsPartway}
 use Rattle.ash_lines.specs.Reading.{source_prefix}
@@ -56,20 +57,27 @@ Judges registered source (Err _) = ⊥
 
 -- The verdict was written, and this is how the program ends by it; or a write failed.
 abbrev pub WritesVerdict : {K : Type 0} → Outlet K → K → Option Refusal → Result Ending Fault → K → Type 0
-WritesVerdict outlet old verdict (Ok ending) new = (ending ≡ ending_of verdict) × WritesAll outlet old (verdict_line verdict) new
-WritesVerdict outlet old verdict (Err (program.Run faults.Write)) new = FailsPartway outlet old (verdict_line verdict) new
+WritesVerdict outlet old verdict (Ok ending) new =
+    (ending ≡ ending_of verdict) × WritesAll outlet old (verdict_line verdict) new
+WritesVerdict outlet old verdict (Err (program.Run faults.Write)) new =
+    FailsPartway outlet old (verdict_line verdict) new
 WritesVerdict outlet old verdict (Err _) new = ⊥
 
 -- A script was read: all that a source gives, or the first 65,537 bytes, by which it is seen to be too long.
 abbrev pub ReadsScript : {S : Type 0} → Feed S → S → List ℕ → S → Type 0
-ReadsScript feed old script new = feed.reads old script new × ((length script ≡ 65537) ⊎ ((length script < 65537) × feed.ended new))
+ReadsScript feed old script new =
+    feed.reads old script new × ((length script ≡ 65537) ⊎ ((length script < 65537) × feed.ended new))
 
--- The script of a source was read and the verdict on it was written; or a read or a write failed, or there was no memory.
-abbrev pub ChecksScript : {S K : Type 0} → Feed S → Outlet K → List Registration → S → K → Result Ending Fault → S → K → Type 0
+-- The script of a source was read and the verdict on it was written; or a read or a write failed, or there was no
+-- memory.
+abbrev pub ChecksScript : {S K : Type 0} → Feed S → Outlet K → List Registration → S → K → Result Ending Fault → S → K
+    → Type 0
 ChecksScript feed outlet registered s k (Ok ending) s' k' =
-    (script : List ℕ) × ReadsScript feed s script s' × WritesVerdict outlet k (verdict_on registered script) (Ok ending) k'
+    (script : List ℕ) × ReadsScript feed s script s'
+    × WritesVerdict outlet k (verdict_on registered script) (Ok ending) k'
 ChecksScript feed outlet registered s k (Err (program.Run faults.Write)) s' k' =
-    (script : List ℕ) × ReadsScript feed s script s' × FailsPartway outlet k (verdict_line (verdict_on registered script)) k'
+    (script : List ℕ) × ReadsScript feed s script s'
+    × FailsPartway outlet k (verdict_line (verdict_on registered script)) k'
 ChecksScript feed outlet registered s k (Err (program.Run faults.Read)) s' k' =
     (script : List ℕ) × (length script < 65537) × Faults feed s script read_faults.Failed s' × (k' ≡ k)
 ChecksScript feed outlet registered s k (Err (program.Run faults.TooLong)) s' k' =
@@ -83,13 +91,15 @@ abbrev pub IsScriptOf : Option (List ℕ) → List ℕ → Type 0
 IsScriptOf file script = IfSome file (λ bytes. script ≡ source_prefix bytes)
 
 -- The same of a file and a writer, by their bytes alone, where these are known.
-abbrev pub ChecksFile : List Registration → Option (List ℕ) → Option (List ℕ) → Result Ending Fault → Option (List ℕ) → Type 0
+abbrev pub ChecksFile : List Registration → Option (List ℕ) → Option (List ℕ) → Result Ending Fault → Option (List ℕ)
+    → Type 0
 ChecksFile registered file before (Ok ending) after =
     (script : List ℕ) × IsScriptOf file script × (ending ≡ ending_of (verdict_on registered script))
     × Appends before after (verdict_line (verdict_on registered script))
 ChecksFile registered file before (Err (program.Run faults.Write)) after =
     (script : List ℕ) × IsScriptOf file script
-    × (out : List ℕ) × (lost : List ℕ) × Appends before after out × (verdict_line (verdict_on registered script) ≡ out ++ lost)
+    × (out : List ℕ) × (lost : List ℕ) × Appends before after out
+    × (verdict_line (verdict_on registered script) ≡ out ++ lost)
 ChecksFile registered file before (Err (program.Run faults.Read)) after = Keeps before after
 ChecksFile registered file before (Err program.NoMemory) after = Keeps before after
 ChecksFile registered file before (Err _) after = ⊥
@@ -108,7 +118,8 @@ EndsBy registered file before status None after =
     × Appends before after (verdict_line (verdict_on registered script))
 EndsBy registered file before status (Some (program.Run faults.Write)) after =
     (script : List ℕ) × IsScriptOf file script × (status ≡ 1)
-    × (out : List ℕ) × (lost : List ℕ) × Appends before after out × (verdict_line (verdict_on registered script) ≡ out ++ lost)
+    × (out : List ℕ) × (lost : List ℕ) × Appends before after out
+    × (verdict_line (verdict_on registered script) ≡ out ++ lost)
 EndsBy registered file before status (Some (program.Run faults.Read)) after = (status ≡ 1) × Keeps before after
 EndsBy registered file before status (Some program.NoMemory) after = (status ≡ 1) × Keeps before after
 EndsBy registered file before status (Some _) after = ⊥

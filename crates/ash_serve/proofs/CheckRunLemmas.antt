@@ -1,5 +1,6 @@
 -- Checking a script: from what was read and written to what that says of the whole check.
-use Rattle.std.proofs.Common.{◌≡◌, ◌<◌, ◌≤◌, ◌⊎◌, ℕ, ◌^◌, List, [], ◌++◌, length, refl, sym, ap, ◌∙◌, subst, arith, Option, Some, None, Ok, Err, Result, inl, inr, ⊎_elim}
+use Rattle.std.proofs.Common.{◌≡◌, ◌<◌, ◌≤◌, ◌⊎◌, ℕ, ◌^◌, List, [], ◌++◌, length, refl, sym, ap, ◌∙◌, subst, arith}
+use Rattle.std.proofs.Common.{Option, Some, None, Ok, Err, Result, inl, inr, ⊎_elim}
 use Rattle.std.proofs.lemmas.List.{append-nil, take_all, take_at}
 use Rattle.std.specs.Io.KnownBytes.{Consumes, IsAtEnd, Appends, Keeps}
 use Rattle.ash_registry.specs.Calls.{Registration}
@@ -7,12 +8,13 @@ use Rattle.ash_meaning.specs.declared.refusal.Refusal as code
 use Rattle.ash_meaning.specs.declared.refusal.Refusal.TheVariants as the
 use Rattle.ash_meaning.specs.Refusals.{Refusal, refusal_of}
 use Rattle.ash_meaning.specs.Refusals as refusals
-use Rattle.ash_meaning.specs.Checking.{CheckResult, TakesMemoryToCheck}
+use Rattle.ash_meaning.specs.CheckedSource.{CheckResult, TakesMemoryToCheck}
 use Rattle.ash_lines.specs.Source.{Feed}
 use Rattle.ash_lines.specs.Sink.{Outlet}
 use Rattle.ash_lines.specs.Reading.{source_prefix, ReadsBytes}
 use Rattle.ash_serve.specs.Serving.{fault_of}
-use Rattle.ash_serve.specs.Checking.{verdict_line, verdict_on, verdict_status, ending_of, Judges, WritesVerdict, ReadsScript, ChecksScript, IsScriptOf, ChecksFile, EndsCheck}
+use Rattle.ash_serve.specs.CheckRun.{verdict_line, verdict_on, verdict_status, ending_of, Judges, WritesVerdict}
+use Rattle.ash_serve.specs.CheckRun.{ReadsScript, ChecksScript, IsScriptOf, ChecksFile, EndsCheck}
 use Rattle.ash_serve.specs.Program.{ending_status, end_of}
 use Rattle.ash_lines.specs.Reader.{left_of, allowance_of, reader_feed}
 use Rattle.ash_lines.specs.Writer.{writer_outlet}
@@ -42,11 +44,11 @@ abbrev IsNoMemory : CheckResult → Type 0
 IsNoMemory (Err refusals.NoMemory) = Unit {0}
 IsNoMemory _ = ⊥
 
-pub takes_memory : (checking : CheckResult) (refusal : code.Refusal) → ((refusal_of refusal ≡ refusals.NoMemory) × TakesMemoryToCheck checking) ⊎ (checking ≡ Err (refusal_of refusal)) → refusal ≡ the.NoMemory → checking ≡ Err refusals.SourceTooLong → ⊥
-takes_memory checking refusal h n e =
+pub takes_memory : (outcome : CheckResult) (refusal : code.Refusal) → ((refusal_of refusal ≡ refusals.NoMemory) × TakesMemoryToCheck outcome) ⊎ (outcome ≡ Err (refusal_of refusal)) → refusal ≡ the.NoMemory → outcome ≡ Err refusals.SourceTooLong → ⊥
+takes_memory outcome refusal h n e =
     ⊎_elim
-    (λ (t : (refusal_of refusal ≡ refusals.NoMemory) × TakesMemoryToCheck checking). subst TakesMemoryToCheck e t.1)
-    (λ (r : checking ≡ Err (refusal_of refusal)). subst IsNoMemory (sym (subst (λ (x : code.Refusal). checking ≡ Err (refusal_of x)) n r) ∙ e) cc)
+    (λ (t : (refusal_of refusal ≡ refusals.NoMemory) × TakesMemoryToCheck outcome). subst TakesMemoryToCheck e t.1)
+    (λ (r : outcome ≡ Err (refusal_of refusal)). subst IsNoMemory (sym (subst (λ (x : code.Refusal). outcome ≡ Err (refusal_of x)) n r) ∙ e) cc)
     h
 
 -- Over a source and a sink.
