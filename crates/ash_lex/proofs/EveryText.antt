@@ -6,9 +6,9 @@ use Rattle.std.proofs.str.Laws.{order}
 use Rattle.ash_lex.specs.Bytes.{is_line_feed, value_in}
 use Rattle.ash_lex.specs.Signs.{sign_text}
 use Rattle.ash_lex.specs.Pieces.{IsName, IsNumeral}
-use Rattle.ash_lex.specs.Scan.{prefix, reserved_word, unsupported_word}
+use Rattle.ash_lex.specs.Scan.{longest_piece, reserved_word, unsupported_word}
 use Rattle.ash_lex.specs.Tokens.{Meaning, name, number, sign, reserved, unsupported, Lexeme, Means, byte_order_mark, Spells, FirstFault}
-use Rattle.ash_lex.specs.Steps.{IsCut, IsFront}
+use Rattle.ash_lex.specs.Steps.{IsCut, BeginsWith}
 use Rattle.ash_lex.specs.declared.words.ReservedWord.{ReservedWord}
 use Rattle.ash_lex.specs.declared.words.UnsupportedWord.{UnsupportedWord}
 use Rattle.ash_lex.specs.declared.pieces.Piece.{Piece}
@@ -16,8 +16,8 @@ use Rattle.ash_lex.specs.declared.pieces.Piece.TheVariants.{Gap, Open, Name, Dec
 use Rattle.ash_lex.specs.declared.faults.LexFault.{LexFault}
 use Rattle.ash_lex.specs.declared.faults.LexFault.TheVariants.{BadCharacter, UnclosedComment, NumberTooLarge}
 use Rattle.ash_lex.proofs.WordLookups.{reserved_word-is, unsupported_word-is, reserved_word-none, unsupported_word-none}
-use Rattle.ash_lex.proofs.Fronts.{starts-true}
-use Rattle.ash_lex.proofs.Found.{prefix_is, none_stands}
+use Rattle.ash_lex.proofs.Prefixes.{starts-true}
+use Rattle.ash_lex.proofs.LongestPiece.{longest_piece_is, none_begins}
 use Rattle.ash_lex.proofs.Reading.{IsReadTo, past_gap, past_token, first_fault, spelled, read_mark, read_nothing}
 
 abbrev pub HasReading : List ℕ → Type 0
@@ -51,7 +51,7 @@ module _ (text : List ℕ) (place line : ℕ) (tokens : List Lexeme) (read : IsR
       (λ large. inl (NumberTooLarge place, first_fault text place line tokens (NumberTooLarge place) read (refl, take n (drop place text), drop n (drop place text), value, sym (take-append-drop n (drop place text)), is, cut.longest, large)))
       (order value (2 ^ 64))
 
-  at_piece : (p : Piece) → IsFront (drop place text) p → Onward text place
+  at_piece : (p : Piece) → BeginsWith (drop place text) p → Onward text place
   at_piece (Gap n) h = inr (n, line + count_by is_line_feed (take n (drop place text)), tokens, (h.0).some, past_gap text place line n tokens read h.0 h.1)
   at_piece Open h = inl (UnclosedComment place, first_fault text place line tokens (UnclosedComment place) read (refl, h))
   at_piece (Name n) h = let word = word_means (take n (drop place text)) h.1 in at_token n word.0 h.0 word.1
@@ -59,13 +59,13 @@ module _ (text : List ℕ) (place line : ℕ) (tokens : List Lexeme) (read : IsR
   at_piece (Hexadecimal n) h = at_numeral n (value_in 16 (drop 2 (take n (drop place text)))) h.0 h.1
   at_piece (SignPiece s) h = at_token (length (sign_text s)) (sign s) h.0 h.1
 
-  at_prefix : (o : Option Piece) → prefix (drop place text) ≡ o → Onward text place
-  at_prefix None e =
-      inl (BadCharacter place, first_fault text place line tokens (BadCharacter place) read (refl, omega (arith, length-drop place text, more), none_stands (drop place text) e))
-  at_prefix (Some p) e = at_piece p (prefix_is (drop place text) p e)
+  at_longest : (o : Option Piece) → longest_piece (drop place text) ≡ o → Onward text place
+  at_longest None e =
+      inl (BadCharacter place, first_fault text place line tokens (BadCharacter place) read (refl, omega (arith, length-drop place text, more), none_begins (drop place text) e))
+  at_longest (Some p) e = at_piece p (longest_piece_is (drop place text) p e)
 
   onward : Onward text place
-  onward = at_prefix (prefix (drop place text)) refl
+  onward = at_longest (longest_piece (drop place text)) refl
 
 -- from a place on, with enough fuel to come to the end
 reading_from : (fuel : ℕ) (text : List ℕ) (place line : ℕ) (tokens : List Lexeme) → IsReadTo text place line tokens → length text ≤ place + fuel → HasReading text

@@ -6,9 +6,9 @@ use Rattle.ash_lex.specs.Pieces.{IsOpenComment, IsGap, IsNumeral, open_comment, 
 use Rattle.ash_lex.specs.Tokens.{Meaning, Lexeme, Means, byte_order_mark, lexeme_at, Reads, marked, unmarked, gap, token, Spells, FaultAt, FirstFault, Rises}
 use Rattle.ash_lex.specs.declared.faults.LexFault.{LexFault}
 use Rattle.ash_lex.specs.declared.faults.LexFault.TheVariants.{BadCharacter, UnclosedComment, NumberTooLarge, SourceTooLong, NoMemory}
-use Rattle.ash_lex.proofs.Fronts.{starts-append}
-use Rattle.ash_lex.proofs.Found.{piece_nonempty}
-use Rattle.ash_lex.proofs.Sorts.{sort, gap_sort, open_sort, open_is_no_gap, numeral_sort, means_above, one_meaning, numeral_means}
+use Rattle.ash_lex.proofs.Prefixes.{starts-append}
+use Rattle.ash_lex.proofs.LongestPiece.{piece_nonempty}
+use Rattle.ash_lex.proofs.PieceClasses.{piece_class, gap_class, open_class, open_is_no_gap, numeral_class, means_above, one_meaning, numeral_means}
 
 -- two ways to cut a list at one length are one
 same_split : (p r q s : List ℕ) → p ++ r ≡ q ++ s → length p ≡ length q → (p ≡ q) × (r ≡ s)
@@ -22,7 +22,7 @@ same_longest : (p r q s : List ℕ) → IsLongest p r → IsLongest q s → p ++
 same_longest p r q s h g e =
     same_split p r q s e (omega (arith, h.longest q s g.is_piece (sym e), g.longest p r h.is_piece e))
 
--- A text is cut, from a place on, into tokens up to another place: as Reads, but from the prefix.
+-- A text is cut, from a place on, into tokens up to another place: as Reads, but from its beginning.
 data Goes : List ℕ → List ℕ → List Lexeme → List ℕ → List ℕ → Type 0 where
   stop : (before left : List ℕ) → Goes before left [] before left
   past_gap : (before text : List ℕ) (tokens : List Lexeme) (end left piece rest : List ℕ) → text ≡ piece ++ rest → IsGap piece → IsLongest piece rest → Goes (before ++ piece) rest tokens end left → Goes before text tokens end left
@@ -48,10 +48,10 @@ one_way _ _ _ _ _ _ _ _ (past_gap b l ts end left p r e g long next) s (past_gap
     one_way (b ++ p) r ts us end left end' left' next s (renamed b p q r r' us end' left' same.0 same.1 next') t
 one_way _ _ _ _ _ _ _ _ (past_gap b l ts end left p r e g long next) s (past_token _ _ us end' left' q r' m e' g' long' next') t =
     let same = same_longest p r q r' long long' (sym e ∙ e') in
-    absurd (omega (arith, gap_sort p g, means_above q m g', ap sort same.0))
+    absurd (omega (arith, gap_class p g, means_above q m g', ap piece_class same.0))
 one_way _ _ _ _ _ _ _ _ (past_token b l ts end left p r m e g long next) s (past_gap _ _ us end' left' q r' e' g' long' next') t =
     let same = same_longest p r q r' long long' (sym e ∙ e') in
-    absurd (omega (arith, means_above p m g, gap_sort q g', ap sort same.0))
+    absurd (omega (arith, means_above p m g, gap_class q g', ap piece_class same.0))
 one_way _ _ _ _ _ _ _ _ (past_token b l ts end left p r m e g long next) s (past_token _ _ us end' left' q r' k e' g' long' next') t =
     let same = same_longest p r q r' long long' (sym e ∙ e') in
     let later = one_way (b ++ p) r ts us end left end' left' next s (renamed b p q r r' us end' left' same.0 same.1 next') t in
@@ -119,18 +119,18 @@ stuck_at_fault place left (BadCharacter at) h piece rest e long =
     (λ _. h.2 piece rest e long.is_piece, λ _ _. h.2 piece rest e long.is_piece)
 stuck_at_fault place left (UnclosedComment at) h piece rest e long =
     let open_piece = subst IsOpenComment (open_takes_all left piece rest h.1 e long) h.1 in
-    (λ g. open_is_no_gap piece open_piece g, λ m g. omega (arith, open_sort piece open_piece, means_above piece m g))
+    (λ g. open_is_no_gap piece open_piece g, λ m g. omega (arith, open_class piece open_piece, means_above piece m g))
 stuck_at_fault place left (NumberTooLarge at) (at_is, number_text, after, n, split, is, longest, large) piece rest e long =
     let same = same_longest piece rest number_text after long longest (sym e ∙ split) in
     let here = subst (λ p. IsNumeral p n) (sym same.0) is in
-    (λ g. omega (arith, numeral_sort piece n here, gap_sort piece g), λ m g. omega (arith, numeral_means piece n m here g, large))
+    (λ g. omega (arith, numeral_class piece n here, gap_class piece g), λ m g. omega (arith, numeral_means piece n m here g, large))
 stuck_at_fault place left SourceTooLong h piece rest e long = absurd h
 stuck_at_fault place left NoMemory h piece rest e long = absurd h
 
 -- a comment without an end begins with no numeral
 open_is_no_numeral : (left piece rest : List ℕ) (n : ℕ) → IsOpenComment left → left ≡ piece ++ rest → IsNumeral piece n → IsLongest piece rest → ⊥
 open_is_no_numeral left piece rest n h e is long =
-    omega (arith, open_sort left h, numeral_sort piece n is, ap sort (open_takes_all left piece rest h e long))
+    omega (arith, open_class left h, numeral_class piece n is, ap piece_class (open_takes_all left piece rest h e long))
 
 -- one fault stands at a place
 one_fault_there : (place : ℕ) (left : List ℕ) (f g : LexFault) → FaultAt place left f → FaultAt place left g → f ≡ g

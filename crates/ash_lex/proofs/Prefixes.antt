@@ -1,4 +1,4 @@
--- Fronts of a text: those that pass a test, those that a text begins with, and comments up to their end.
+-- Prefixes of a text: those that pass a test, those that a text begins with, and comments up to their end.
 use Rattle.std.proofs.Common.{◌≡◌, ℕ, ◌+◌, ◌≤◌, Bool, true, false, not, cond, ◌&&◌, nat_eq, List, [], ◌∷◌, ◌++◌, length, drop, Option, Some, None, option_map, codes, sym, refl, ap, ◌∙◌, subst, inl, inr, ◌⊎◌, arith}
 use Rattle.std.specs.List.{starts_with, prefix_len, take_while}
 use Rattle.std.proofs.lemmas.Bool.Decides.{Decides-eqb}
@@ -32,12 +32,12 @@ starts-true text p h = (starts_is Decides-eqb text p (starts_with nat_eq text p)
 pub starts-append : (p rest : List ℕ) → starts_with nat_eq (p ++ rest) p ≡ true
 starts-append p rest = (starts_is Decides-eqb (p ++ rest) p (starts_with nat_eq (p ++ rest) p) refl).1 rest refl
 
--- bytes that all pass are no more than those that pass from the prefix on, whatever follows
+-- bytes that all pass are no more than those that pass from the first on, whatever follows
 pub length-le-prefix_len : (test : ℕ → Bool) (xs ys : List ℕ) → Each test xs → length xs ≤ prefix_len test (xs ++ ys)
 length-le-prefix_len test [] ys h = omega arith
 length-le-prefix_len test (x ∷ xs) ys h = rw h.0 (omega (arith, length-le-prefix_len test xs ys h.1))
 
--- the bytes that pass from the prefix on pass
+-- the bytes that pass from the first on pass
 pub Each-take_while : (test : ℕ → Bool) (xs : List ℕ) → Each test (take_while test xs)
 Each-take_while test [] = tt
 Each-take_while test (x ∷ xs) =
@@ -47,7 +47,7 @@ Each-take_while test (x ∷ xs) =
       | false ↦ λ e. tt
     ]) refl)
 
--- whether `*/` begins at the byte before a `*/` or at it is reported by the `*` alone
+-- whether `*/` begins at the byte before a `*/` or at it is decided by the `*` alone
 same_start : (x : ℕ) (t r : List ℕ) → starts_with nat_eq (x ∷ (t ++ 42 ∷ 47 ∷ r)) (codes "*/") ≡ starts_with nat_eq (x ∷ (t ++ 42 ∷ [])) (codes "*/")
 same_start x [] r = refl
 same_start x (y ∷ t) r = refl

@@ -1,5 +1,6 @@
 -- The classes of bytes that tokens are made of.
-use Rattle.std.specs.Prelude.{◌||◌, ◌&&◌, ◌+◌, ◌-◌, ◌*◌, ℕ, Bool, false, IsTrue, List, [], ◌∷◌, fold, nat_eq, nat_le, if◌then◌else◌}
+use Rattle.std.specs.Prelude.{◌||◌, ◌&&◌, ◌+◌, ◌-◌, ◌*◌, ℕ, Bool, false, IsTrue, List, [], ◌∷◌, fold, nat_eq, nat_le}
+use Rattle.std.specs.Prelude.{if◌then◌else◌}
 
 -- space, tab, carriage return or line feed
 abbrev pub is_blank : ℕ → Bool

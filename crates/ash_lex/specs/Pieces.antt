@@ -44,7 +44,8 @@ IsDecimal piece n = (0 < length piece) × Each is_digit piece × (n ≡ value_in
 -- `0x` and hexadecimal digits, at least one, which spell n
 abbrev pub IsHexadecimal : List ℕ → ℕ → Type 0
 IsHexadecimal piece n =
-    (digits : List ℕ) × (piece ≡ codes "0x" ++ digits) × (0 < length digits) × Each is_hex_digit digits × (n ≡ value_in 16 digits)
+    (digits : List ℕ) × (piece ≡ codes "0x" ++ digits) × (0 < length digits) × Each is_hex_digit digits
+        × (n ≡ value_in 16 digits)
 
 -- a numeral of this value, however large
 abbrev pub IsNumeral : List ℕ → ℕ → Type 0
@@ -62,4 +63,5 @@ pub data IsPiece (piece after : List ℕ) : Type 0 where
 -- a piece before what follows it, and no longer piece begins at its place
 pub record IsLongest (piece after : List ℕ) : Type 0 where
   pub is_piece : IsPiece piece after
-  pub longest : (other rest : List ℕ) → IsPiece other rest → other ++ rest ≡ piece ++ after → length other ≤ length piece
+  pub longest : (other rest : List ℕ) → IsPiece other rest → other ++ rest ≡ piece ++ after
+      → length other ≤ length piece

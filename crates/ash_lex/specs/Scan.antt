@@ -1,25 +1,49 @@
--- How the longest piece at the prefix of a text is found, by its first bytes. That it is the longest is
+-- How the longest piece that begins a text is found, by its first bytes. That it is the longest is
 -- proved of it.
-use Rattle.std.specs.Prelude.{◌&&◌, ℕ, ◌+◌, Bool, not, List, [], ◌∷◌, length, Option, Some, None, find, drop, nat_eq, slice_index, codes, if◌then◌else◌}
+use Rattle.std.specs.Prelude.{◌&&◌, ℕ, ◌+◌, Bool, not, List, [], ◌∷◌, length, Option, Some, None, find, drop, nat_eq}
+use Rattle.std.specs.Prelude.{slice_index, codes, if◌then◌else◌}
 use Rattle.std.specs.Option.{option_map}
 use Rattle.std.specs.List.{starts_with, prefix_len}
 use Rattle.std.specs.Str.{bytes_eq}
-use Rattle.ash_lex.specs.Bytes.{is_blank, is_line_feed, is_digit, is_hex_digit, is_letter, is_word, begins_with_hex_digit}
+use Rattle.ash_lex.specs.Bytes.{is_blank, is_line_feed, is_digit, is_hex_digit, is_letter, is_word}
+use Rattle.ash_lex.specs.Bytes.{begins_with_hex_digit}
 use Rattle.ash_lex.specs.Signs.{sign_text, may_follow}
 use Rattle.ash_lex.specs.Words.{reserved_text, unsupported_text}
 use Rattle.ash_lex.specs.declared.signs.Sign.{Sign}
-use Rattle.ash_lex.specs.declared.signs.Sign.TheVariants.{OpenParenthesis, CloseParenthesis, OpenBrace, CloseBrace, OpenBracket, CloseBracket, Semicolon, Comma, Colon, Question, Dot, Handle, BitNot, LogicalNot, NotIs, Assign, Equal, NotEqual, Less, LessOrEqual, Greater, GreaterOrEqual, Plus, Increment, PlusAssign, Minus, Decrement, MinusAssign, Star, StarAssign, Slash, SlashAssign, Percent, PercentAssign, BitAnd, LogicalAnd, BitAndAssign, BitOr, LogicalOr, BitOrAssign, BitXor, LogicalXor, BitXorAssign, ShiftLeft, ShiftLeftAssign, ShiftRight, ShiftRightAssign, ShiftRightArithmetic, ShiftRightArithmeticAssign, Power, Scope}
+use Rattle.ash_lex.specs.declared.signs.Sign.TheVariants.{OpenParenthesis, CloseParenthesis, OpenBrace, CloseBrace}
+use Rattle.ash_lex.specs.declared.signs.Sign.TheVariants.{OpenBracket, CloseBracket, Semicolon, Comma, Colon, Question}
+use Rattle.ash_lex.specs.declared.signs.Sign.TheVariants.{Dot, Handle, BitNot, LogicalNot, NotIs, Assign, Equal}
+use Rattle.ash_lex.specs.declared.signs.Sign.TheVariants.{NotEqual, Less, LessOrEqual, Greater, GreaterOrEqual, Plus}
+use Rattle.ash_lex.specs.declared.signs.Sign.TheVariants.{Increment, PlusAssign, Minus, Decrement, MinusAssign, Star}
+use Rattle.ash_lex.specs.declared.signs.Sign.TheVariants.{StarAssign, Slash, SlashAssign, Percent, PercentAssign}
+use Rattle.ash_lex.specs.declared.signs.Sign.TheVariants.{BitAnd, LogicalAnd, BitAndAssign, BitOr, LogicalOr}
+use Rattle.ash_lex.specs.declared.signs.Sign.TheVariants.{BitOrAssign, BitXor, LogicalXor, BitXorAssign, ShiftLeft}
+use Rattle.ash_lex.specs.declared.signs.Sign.TheVariants.{ShiftLeftAssign, ShiftRight, ShiftRightAssign}
+use Rattle.ash_lex.specs.declared.signs.Sign.TheVariants.{ShiftRightArithmetic, ShiftRightArithmeticAssign, Power}
+use Rattle.ash_lex.specs.declared.signs.Sign.TheVariants.{Scope}
 use Rattle.ash_lex.specs.declared.words.ReservedWord.{ReservedWord}
-use Rattle.ash_lex.specs.declared.words.ReservedWord.TheVariants.{And, Or, Xor, Not, Is, Null, True, False, Void, Bool as BoolWord, Int, Int32, Int64, Uint, Uint32, Uint64, Class, Interface, Cast, Array, This, If, Else, While, Do, For, Switch, Case, Default, Break, Continue, Return}
+use Rattle.ash_lex.specs.declared.words.ReservedWord.TheVariants.{And, Or, Xor, Not, Is, Null, True, False, Void}
+use Rattle.ash_lex.specs.declared.words.ReservedWord.TheVariants.{Bool as BoolWord, Int, Int32, Int64, Uint, Uint32}
+use Rattle.ash_lex.specs.declared.words.ReservedWord.TheVariants.{Uint64, Class, Interface, Cast, Array, This, If, Else}
+use Rattle.ash_lex.specs.declared.words.ReservedWord.TheVariants.{While, Do, For, Switch, Case, Default, Break}
+use Rattle.ash_lex.specs.declared.words.ReservedWord.TheVariants.{Continue, Return}
 use Rattle.ash_lex.specs.declared.words.UnsupportedWord.{UnsupportedWord}
-use Rattle.ash_lex.specs.declared.words.UnsupportedWord.TheVariants.{Auto, Catch, Const, Double, Enum, Float, Funcdef, Import, In, Inout, Int8, Int16, Mixin, Namespace, Out, Private, Protected, Try, Typedef, Uint8, Uint16}
+use Rattle.ash_lex.specs.declared.words.UnsupportedWord.TheVariants.{Auto, Catch, Const, Double, Enum, Float, Funcdef}
+use Rattle.ash_lex.specs.declared.words.UnsupportedWord.TheVariants.{Import, In, Inout, Int8, Int16, Mixin, Namespace}
+use Rattle.ash_lex.specs.declared.words.UnsupportedWord.TheVariants.{Out, Private, Protected, Try, Typedef, Uint8}
+use Rattle.ash_lex.specs.declared.words.UnsupportedWord.TheVariants.{Uint16}
 use Rattle.ash_lex.specs.declared.pieces.Piece.{Piece}
 use Rattle.ash_lex.specs.declared.pieces.Piece.TheVariants.{Gap, Open, Name, Decimal, Hexadecimal, Sign as SignPiece}
 
 -- every sign, the longest first
 abbrev pub signs : List Sign
 signs =
-    ShiftRightArithmeticAssign ∷ NotIs ∷ ShiftLeftAssign ∷ ShiftRightAssign ∷ ShiftRightArithmetic ∷ Equal ∷ NotEqual ∷ LessOrEqual ∷ GreaterOrEqual ∷ Increment ∷ PlusAssign ∷ Decrement ∷ MinusAssign ∷ StarAssign ∷ SlashAssign ∷ PercentAssign ∷ LogicalAnd ∷ BitAndAssign ∷ LogicalOr ∷ BitOrAssign ∷ LogicalXor ∷ BitXorAssign ∷ ShiftLeft ∷ ShiftRight ∷ Power ∷ Scope ∷ OpenParenthesis ∷ CloseParenthesis ∷ OpenBrace ∷ CloseBrace ∷ OpenBracket ∷ CloseBracket ∷ Semicolon ∷ Comma ∷ Colon ∷ Question ∷ Dot ∷ Handle ∷ BitNot ∷ LogicalNot ∷ Assign ∷ Less ∷ Greater ∷ Plus ∷ Minus ∷ Star ∷ Slash ∷ Percent ∷ BitAnd ∷ BitOr ∷ BitXor ∷ []
+    ShiftRightArithmeticAssign ∷ NotIs ∷ ShiftLeftAssign ∷ ShiftRightAssign ∷ ShiftRightArithmetic ∷ Equal ∷ NotEqual
+    ∷ LessOrEqual ∷ GreaterOrEqual ∷ Increment ∷ PlusAssign ∷ Decrement ∷ MinusAssign ∷ StarAssign ∷ SlashAssign
+    ∷ PercentAssign ∷ LogicalAnd ∷ BitAndAssign ∷ LogicalOr ∷ BitOrAssign ∷ LogicalXor ∷ BitXorAssign ∷ ShiftLeft
+    ∷ ShiftRight ∷ Power ∷ Scope ∷ OpenParenthesis ∷ CloseParenthesis ∷ OpenBrace ∷ CloseBrace ∷ OpenBracket
+    ∷ CloseBracket ∷ Semicolon ∷ Comma ∷ Colon ∷ Question ∷ Dot ∷ Handle ∷ BitNot ∷ LogicalNot ∷ Assign ∷ Less ∷ Greater
+    ∷ Plus ∷ Minus ∷ Star ∷ Slash ∷ Percent ∷ BitAnd ∷ BitOr ∷ BitXor ∷ []
 
 -- the text begins with the sign, and what follows may follow it
 abbrev pub begins : List ℕ → Sign → Bool
@@ -32,12 +56,15 @@ first_sign text = find (begins text) signs
 -- every reserved word
 abbrev pub reserved_words : List ReservedWord
 reserved_words =
-    And ∷ Or ∷ Xor ∷ Not ∷ Is ∷ Null ∷ True ∷ False ∷ Void ∷ BoolWord ∷ Int ∷ Int32 ∷ Int64 ∷ Uint ∷ Uint32 ∷ Uint64 ∷ Class ∷ Interface ∷ Cast ∷ Array ∷ This ∷ If ∷ Else ∷ While ∷ Do ∷ For ∷ Switch ∷ Case ∷ Default ∷ Break ∷ Continue ∷ Return ∷ []
+    And ∷ Or ∷ Xor ∷ Not ∷ Is ∷ Null ∷ True ∷ False ∷ Void ∷ BoolWord ∷ Int ∷ Int32 ∷ Int64 ∷ Uint ∷ Uint32 ∷ Uint64
+    ∷ Class ∷ Interface ∷ Cast ∷ Array ∷ This ∷ If ∷ Else ∷ While ∷ Do ∷ For ∷ Switch ∷ Case ∷ Default ∷ Break
+    ∷ Continue ∷ Return ∷ []
 
 -- every unsupported word
 abbrev pub unsupported_words : List UnsupportedWord
 unsupported_words =
-    Auto ∷ Catch ∷ Const ∷ Double ∷ Enum ∷ Float ∷ Funcdef ∷ Import ∷ In ∷ Inout ∷ Int8 ∷ Int16 ∷ Mixin ∷ Namespace ∷ Out ∷ Private ∷ Protected ∷ Try ∷ Typedef ∷ Uint8 ∷ Uint16 ∷ []
+    Auto ∷ Catch ∷ Const ∷ Double ∷ Enum ∷ Float ∷ Funcdef ∷ Import ∷ In ∷ Inout ∷ Int8 ∷ Int16 ∷ Mixin ∷ Namespace
+    ∷ Out ∷ Private ∷ Protected ∷ Try ∷ Typedef ∷ Uint8 ∷ Uint16 ∷ []
 
 -- the reserved word that these characters are, if they are one
 abbrev pub reserved_word : List ℕ → Option ReservedWord
@@ -47,7 +74,7 @@ reserved_word text = find (λ w. bytes_eq text (reserved_text w)) reserved_words
 abbrev pub unsupported_word : List ℕ → Option UnsupportedWord
 unsupported_word text = find (λ w. bytes_eq text (unsupported_text w)) unsupported_words
 
--- how many bytes stand up to the first `*/`, and with it
+-- how many bytes there are up to the first `*/`, and with it
 abbrev pub comment_end : List ℕ → Option ℕ
 comment_end [] = None
 comment_end (b ∷ bs) =
@@ -75,8 +102,8 @@ numeral_piece text =
     else Decimal (prefix_len is_digit text)
 
 -- the longest piece that the text begins with
-abbrev pub prefix : List ℕ → Option Piece
-prefix text =
+abbrev pub longest_piece : List ℕ → Option Piece
+longest_piece text =
     if is_blank (slice_index text 0) then Some (Gap 1)
     else (if is_letter (slice_index text 0) then Some (Name (prefix_len is_word text))
     else (if is_digit (slice_index text 0) then Some (numeral_piece text)

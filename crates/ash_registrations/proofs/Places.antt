@@ -1,4 +1,4 @@
--- What places say of the elements, and how one more is placed.
+-- Which elements are at the places that are found, and the place of one more.
 use Rattle.std.proofs.Common.{◌≡◌, ℕ, suc, Bool, true, false, cond, List, [], ◌∷◌, ◌++◌, length, slice_get, Option, Some, None, is_some, refl, sym, ap, subst, ◌∙◌, ◌||◌, map}
 use Rattle.std.specs.Prelude.{find}
 use Rattle.std.specs.List.{list_any}
@@ -13,7 +13,7 @@ module _ {X : Type 0} (p : X → Bool) where
   after x xs None = refl
   after x xs (Some n) = refl
 
-  -- what stands at the place is what is found
+  -- what is at the place is what is found
   pub found_at_place : (xs : List X) → find p xs ≡ option_and_then (slice_get xs) (place_of p xs)
   found_at_place [] = refl
   found_at_place (x ∷ xs) =
@@ -40,7 +40,7 @@ module _ {X : Type 0} (p : X → Bool) where
   place_stays [] y e = ap (λ b. cond b (Some 0) None) e
   place_stays (x ∷ xs) y e = ap (λ o. cond (p x) (Some 0) (option_map suc o)) (place_stays xs y e)
 
-  -- the first that passes stands after the others
+  -- the first that passes is after the others
   pub place_is_last : (xs : List X) (y : X) → list_any p xs ≡ false → p y ≡ true → place_of p (xs ++ y ∷ []) ≡ Some (length xs)
   place_is_last [] y none e = ap (λ b. cond b (Some 0) None) e
   place_is_last (x ∷ xs) y none e =
@@ -74,10 +74,10 @@ place_of_new takes xs zs y key name o at names free old last more =
 pub place_of_old : {X : Type 0} (test : X → Bool) (xs zs : List X) (y : X) (o : Option ℕ) → test y ≡ false → o ≡ place_of test xs → zs ≡ xs ++ y ∷ [] → o ≡ place_of test zs
 place_of_old test xs zs y o none old more = old ∙ sym (place_stays test xs y none) ∙ ap (place_of test) (sym more)
 
--- what is found among what the elements stand for
+-- what is found among what the elements represent
 pub found_by : {X Y : Type 0} (p : Y → Bool) (f : X → Y) (xs : List X) (o : Option ℕ) (r : Option X) → o ≡ place_of (λ x. p (f x)) xs → r ≡ option_and_then (slice_get xs) o → option_map f r ≡ find p (map f xs)
 found_by p f xs o r e h = ap (option_map f) (h ∙ ap (option_and_then (slice_get xs)) e ∙ sym (found_at_place (λ x. p (f x)) xs)) ∙ sym (find_mapped p f xs)
 
--- whether one passes of what the elements stand for
+-- whether one passes of what the elements represent
 pub any_by : {X Y : Type 0} (p : Y → Bool) (f : X → Y) (xs : List X) (o : Option ℕ) (b : Bool) → o ≡ place_of (λ x. p (f x)) xs → b ≡ is_some o → b ≡ list_any p (map f xs)
 any_by p f xs o b e h = h ∙ ap is_some e ∙ placed_is_any (λ x. p (f x)) xs ∙ sym (any_mapped p f xs)

@@ -1,10 +1,10 @@
--- The accepted calls, and what they take.
+-- The accepted registrations, and what they take.
 use Rattle.std.specs.Prelude.{ℕ, Bool, true, false, List, Option, None, Some, string_bytes, nat_eq, ◌&&◌}
 use Rattle.std.specs.Str.{bytes_eq}
 use Rattle.ash_tree.specs.declared.tree.types.Primitive.{Primitive}
-use Rattle.ash_registrations.specs.declared.registration.Registration as calls
-use Rattle.ash_registrations.specs.declared.registration.Registration.TheVariants as the_calls
-use Rattle.ash_registrations.specs.declared.call.Operation as operations
+use Rattle.ash_registrations.specs.declared.registration.Registration as code
+use Rattle.ash_registrations.specs.declared.registration.Registration.TheVariants as variants
+use Rattle.ash_registrations.specs.declared.registration.Operation as operations
 
 -- a function of primitives
 pub record Operation : Type 0 where
@@ -12,7 +12,7 @@ pub record Operation : Type 0 where
   pub result : Option Primitive
   pub parameters : List Primitive
 
--- an accepted call
+-- an accepted registration
 pub data Registration : Type 0 where
   AType : (name : List ℕ) (kind : ℕ) → Registration
   AFactory : (of : List ℕ) (parameters : List Primitive) → Registration
@@ -24,15 +24,16 @@ pub data Registration : Type 0 where
 abbrev pub operation_of : operations.Operation → Operation
 operation_of o = record { name = string_bytes o.name; result = o.result; parameters = o.parameters.items }
 
-abbrev pub call_of : calls.Registration → Registration
-call_of (the_calls.Type name kind) = AType (string_bytes name) kind
-call_of (the_calls.Factory of parameters) = AFactory (string_bytes of) parameters.items
-call_of (the_calls.Method of id operation) = AMethod (string_bytes of) id (operation_of operation)
-call_of (the_calls.Property of id value name) = AProperty (string_bytes of) id value (string_bytes name)
-call_of (the_calls.Service kind) = AService kind
-call_of (the_calls.Function service id operation) = AFunction service id (operation_of operation)
+-- the accepted registration that the code's represents
+abbrev pub call_of : code.Registration → Registration
+call_of (variants.Type name kind) = AType (string_bytes name) kind
+call_of (variants.Factory of parameters) = AFactory (string_bytes of) parameters.items
+call_of (variants.Method of id operation) = AMethod (string_bytes of) id (operation_of operation)
+call_of (variants.Property of id value name) = AProperty (string_bytes of) id value (string_bytes name)
+call_of (variants.Service kind) = AService kind
+call_of (variants.Function service id operation) = AFunction service id (operation_of operation)
 
--- whether a call registers a type, and one of this name
+-- whether it registers a type, and one of this name
 abbrev pub is_type : Registration → Bool
 is_type (AType _ _) = true
 is_type _ = false

@@ -1,4 +1,4 @@
--- Where the names of types and functions stand among the calls.
+-- The place of the name of a type or function among the registrations.
 use Rattle.std.specs.Prelude.{ℕ, suc, Bool, List, [], ◌∷◌, Option, None, Some, cond}
 use Rattle.std.specs.Option.{option_map}
 

@@ -1,10 +1,11 @@
--- The text of a registration: one line for each accepted call, in order.
+-- The text of a registration: one line for each accepted registration, in order.
 use Rattle.std.specs.Prelude.{ℕ, List, [], ◌∷◌, ◌++◌, Option, None, Some, codes}
 use Rattle.std.specs.List.{flat_map, concat}
 use Rattle.std.specs.Fmt.{decimal}
 use Rattle.ash_tree.specs.declared.tree.types.Primitive.{Primitive}
 use Rattle.ash_tree.specs.declared.tree.types.Primitive.TheVariants.{Bool, Int, Int64, Uint, Uint64}
-use Rattle.ash_registrations.specs.Calls.{Operation, Registration, AType, AFactory, AMethod, AProperty, AService, AFunction}
+use Rattle.ash_registrations.specs.Calls.{Operation, Registration, AType, AFactory, AMethod, AProperty, AService}
+use Rattle.ash_registrations.specs.Calls.{AFunction}
 
 abbrev pub primitive_text : Primitive → List ℕ
 primitive_text Bool = codes "bool"
@@ -28,17 +29,24 @@ parameters_text (first ∷ rest) = primitive_text first ++ more_parameters rest
 
 -- as `int add(int)`
 abbrev pub operation_text : Operation → List ℕ
-operation_text o = concat (result_text o.result ∷ codes " " ∷ o.name ∷ codes "(" ∷ parameters_text o.parameters ∷ codes ")" ∷ [])
+operation_text o =
+    concat (result_text o.result ∷ codes " " ∷ o.name ∷ codes "(" ∷ parameters_text o.parameters ∷ codes ")" ∷ [])
 
 -- one line, with its line feed
 abbrev pub line_of : Registration → List ℕ
 line_of (AType name kind) = concat (codes "type " ∷ name ∷ codes " " ∷ decimal kind ∷ codes "\n" ∷ [])
-line_of (AFactory of parameters) = concat (codes "factory " ∷ of ∷ codes " (" ∷ parameters_text parameters ∷ codes ")\n" ∷ [])
-line_of (AMethod of id operation) = concat (codes "method " ∷ of ∷ codes " " ∷ decimal id ∷ codes " " ∷ operation_text operation ∷ codes "\n" ∷ [])
-line_of (AProperty of id value name) = concat (codes "property " ∷ of ∷ codes " " ∷ decimal id ∷ codes " " ∷ primitive_text value ∷ codes " " ∷ name ∷ codes "\n" ∷ [])
+line_of (AFactory of parameters) =
+    concat (codes "factory " ∷ of ∷ codes " (" ∷ parameters_text parameters ∷ codes ")\n" ∷ [])
+line_of (AMethod of id operation) =
+    concat (codes "method " ∷ of ∷ codes " " ∷ decimal id ∷ codes " " ∷ operation_text operation ∷ codes "\n" ∷ [])
+line_of (AProperty of id value name) =
+    concat (codes "property " ∷ of ∷ codes " " ∷ decimal id ∷ codes " " ∷ primitive_text value ∷ codes " " ∷ name
+    ∷ codes "\n" ∷ [])
 line_of (AService kind) = concat (codes "service " ∷ decimal kind ∷ codes "\n" ∷ [])
-line_of (AFunction service id operation) = concat (codes "function " ∷ decimal service ∷ codes " " ∷ decimal id ∷ codes " " ∷ operation_text operation ∷ codes "\n" ∷ [])
+line_of (AFunction service id operation) =
+    concat (codes "function " ∷ decimal service ∷ codes " " ∷ decimal id ∷ codes " " ∷ operation_text operation
+    ∷ codes "\n" ∷ [])
 
 -- the whole text
 abbrev pub text_of : List Registration → List ℕ
-text_of calls = flat_map line_of calls
+text_of registrations = flat_map line_of registrations

@@ -1,4 +1,4 @@
--- A call that was judged by what was read is judged by what the text says.
+-- A registration that was judged by what was read is judged by what the text means.
 use Rattle.std.proofs.Common.{◌≡◌, ℕ, inl, Bool, true, false, List, Option, Result, Err, refl, subst, sym}
 use Rattle.ash_tree.specs.Tree.{Declaration}
 use Rattle.ash_registry.specs.declared.fault.RegistryFault.{RegistryFault}

@@ -72,7 +72,7 @@ block_is p ss = search (rules, stmt_views.the_lemmas, stmts_of-row)
 pub switch_is : (p : Place) (e : code_expr.Expr) (cs : Vec code_case.Case Global) → stmt_at p (stmt_views.Switch e cs) ≡ Switch p (expr_of e) (cases (map case_of cs.items))
 switch_is p e cs = search (rules, stmt_views.the_lemmas, cases_of-row)
 
--- an expression stands where it says
+-- an expression is at the place that it has
 pub place_is : (p : Place) (k : code_kind.ExprKind) → place_of (expr_at p k) ≡ p
 place_is p (kind_cases.Number n) = refl
 place_is p (kind_cases.Bool b) = refl

@@ -1,7 +1,8 @@
 -- The items of a module and the members of a class by kind, in source order, and their names.
 use Rattle.std.specs.Prelude.{◌+◌, ℕ, List, [], ◌∷◌, ◌++◌, map}
 use Rattle.ash_tree.specs.declared.tree.places.Place.{Place}
-use Rattle.ash_tree.specs.Tree.{Decl, Vars, Stmt, Parameter, Function, Constructor, Member, AMethod, AField, AConstructor, Class, Interface, Item, AClass, AnInterface, AFunction, AGlobal}
+use Rattle.ash_tree.specs.Tree.{Decl, Vars, Stmt, Parameter, Function, Constructor, Member, AMethod, AField}
+use Rattle.ash_tree.specs.Tree.{AConstructor, Class, Interface, Item, AClass, AnInterface, AFunction, AGlobal}
 
 abbrev pub classes_of : List Item → List Class
 classes_of [] = []

@@ -8,7 +8,7 @@ use Rattle.ash_tree.specs.declared.tree.places.Place.{Place}
 abbrev pub Tokens : Type 0
 Tokens = List (Meaning × Place)
 
--- where a token stands: its first byte, and its line
+-- the place of a token: its first byte, and its line
 abbrev pub place_of_token : Token → Place
 place_of_token t = record { at = t.from; line = t.line }
 

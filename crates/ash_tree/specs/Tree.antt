@@ -1,4 +1,4 @@
--- The trees of scripts, without where their parts lie in memory. Each node stands at a place.
+-- The trees of scripts, without where their parts lie in memory. Each node has a place.
 use Rattle.std.specs.Prelude.{ℕ, Bool, List, [], ◌∷◌, Option}
 use Rattle.ash_tree.specs.declared.tree.places.Place.{Place}
 use Rattle.ash_tree.specs.declared.tree.types.Primitive.{Primitive}
@@ -25,7 +25,7 @@ pub record TypeName : Type 0 where
   pub place : Place
   pub name : List ℕ
 
--- an expression; the arguments of a call, the suffixes of an operand and the operators of one level stand as lists
+-- an expression; the arguments of a call, the suffixes of an operand and the operators of one level are lists
 mutual
   pub data Expr : Type 0 where
     Number : Place → ℕ → Expr
@@ -48,7 +48,7 @@ mutual
     no_expr : Exprs
     expr : Expr → Exprs → Exprs
 
-  -- what stands after an operand
+  -- what follows an operand
   pub data Suffix : Type 0 where
     Field : Place → List ℕ → Suffix
     Method : Place → List ℕ → Exprs → Suffix
@@ -178,7 +178,7 @@ pub data Declaration : Type 0 where
   ASignature : Signature → Declaration
   AProperty : Property → Declaration
 
--- where an expression stands: its first token
+-- the place of an expression: its first token
 abbrev pub place_of : Expr → Place
 place_of (Number p n) = p
 place_of (Truth p b) = p
