@@ -1,5 +1,6 @@
 -- What class of piece the first bytes begin: no piece is of two classes, and none has two meanings.
-use Rattle.std.proofs.Common.{◌≡◌, ℕ, ◌+◌, ◌^◌, ◌<◌, ◌≤◌, true, cond, ◌||◌, nat_eq, List, [], ◌∷◌, ◌++◌, length, drop, slice_index, Some, None, codes, sym, refl, ap, ◌∙◌, subst, inl, inr, arith, lit<}
+use Rattle.std.proofs.Common.{◌≡◌, ℕ, ◌+◌, ◌^◌, ◌<◌, ◌≤◌, true, cond, ◌||◌, nat_eq, List, [], ◌∷◌, ◌++◌, length, drop}
+use Rattle.std.proofs.Common.{slice_index, Some, None, codes, sym, refl, ap, ◌∙◌, subst, inl, inr, arith, lit<}
 use Rattle.std.specs.List.{starts_with}
 use Rattle.ash_lex.specs.Bytes.{is_blank, is_digit, is_letter, Each, value_in}
 use Rattle.ash_lex.specs.Signs.{sign_text}

@@ -6,7 +6,8 @@ use Rattle.ash_lex.specs.declared.pieces.Piece.{Piece}
 use Rattle.ash_lex.proofs.LongestPiece.{longest_piece_is, none_begins}
 use Rattle.ash_lex.proofs.pieces.longest_piece.Goals as goal
 
-by_cases : (text : List ℕ) (o : Option Piece) → longest_piece text ≡ o → MatchOption o (BeginsNothing text) (BeginsWith text)
+by_cases : (text : List ℕ) (o : Option Piece) → longest_piece text ≡ o
+    → MatchOption o (BeginsNothing text) (BeginsWith text)
 by_cases text None h = none_begins text h
 by_cases text (Some p) h = longest_piece_is text p h
 
