@@ -1,5 +1,5 @@
--- How the longest piece that begins a text is found, by its first bytes. That it is the longest is
--- proved of it.
+-- These definitions say how the longest piece that begins a text is found, by its first bytes. That it is the longest
+-- is proved of it.
 use Rattle.std.specs.Prelude.{◌&&◌, ℕ, ◌+◌, Bool, not, List, [], ◌∷◌, length, Option, Some, None, find, drop, nat_eq}
 use Rattle.std.specs.Prelude.{slice_index, codes, if◌then◌else◌}
 use Rattle.std.specs.Option.{option_map}
@@ -35,7 +35,7 @@ use Rattle.ash_lex.specs.declared.words.UnsupportedWord.TheVariants.{Uint16}
 use Rattle.ash_lex.specs.declared.pieces.Piece.{Piece}
 use Rattle.ash_lex.specs.declared.pieces.Piece.TheVariants.{Gap, Open, Name, Decimal, Hexadecimal, Sign as SignPiece}
 
--- every sign, the longest first
+-- `signs` are all signs, the longest first.
 abbrev pub signs : List Sign
 signs =
     ShiftRightArithmeticAssign ∷ NotIs ∷ ShiftLeftAssign ∷ ShiftRightAssign ∷ ShiftRightArithmetic ∷ Equal ∷ NotEqual
@@ -45,63 +45,65 @@ signs =
     ∷ CloseBracket ∷ Semicolon ∷ Comma ∷ Colon ∷ Question ∷ Dot ∷ Handle ∷ BitNot ∷ LogicalNot ∷ Assign ∷ Less ∷ Greater
     ∷ Plus ∷ Minus ∷ Star ∷ Slash ∷ Percent ∷ BitAnd ∷ BitOr ∷ BitXor ∷ []
 
--- the text begins with the sign, and what follows may follow it
+-- The text begins with the sign, and what follows may follow it.
 abbrev pub begins : List ℕ → Sign → Bool
 begins text s = starts_with nat_eq text (sign_text s) && may_follow s (drop (length (sign_text s)) text)
 
--- the first of the signs that the text begins with
+-- `first_sign text` is the first of the signs that the text begins with.
 abbrev pub first_sign : List ℕ → Option Sign
 first_sign text = find (begins text) signs
 
--- every reserved word
+-- `reserved_words` are all reserved words.
 abbrev pub reserved_words : List ReservedWord
 reserved_words =
     And ∷ Or ∷ Xor ∷ Not ∷ Is ∷ Null ∷ True ∷ False ∷ Void ∷ BoolWord ∷ Int ∷ Int32 ∷ Int64 ∷ Uint ∷ Uint32 ∷ Uint64
     ∷ Class ∷ Interface ∷ Cast ∷ Array ∷ This ∷ If ∷ Else ∷ While ∷ Do ∷ For ∷ Switch ∷ Case ∷ Default ∷ Break
     ∷ Continue ∷ Return ∷ []
 
--- every unsupported word
+-- `unsupported_words` are all unsupported words.
 abbrev pub unsupported_words : List UnsupportedWord
 unsupported_words =
     Auto ∷ Catch ∷ Const ∷ Double ∷ Enum ∷ Float ∷ Funcdef ∷ Import ∷ In ∷ Inout ∷ Int8 ∷ Int16 ∷ Mixin ∷ Namespace
     ∷ Out ∷ Private ∷ Protected ∷ Try ∷ Typedef ∷ Uint8 ∷ Uint16 ∷ []
 
--- the reserved word that these characters are, if they are one
+-- `reserved_word text` is the reserved word that these characters are, if they are one.
 abbrev pub reserved_word : List ℕ → Option ReservedWord
 reserved_word text = find (λ w. bytes_eq text (reserved_text w)) reserved_words
 
--- the unsupported word that these characters are, if they are one
+-- `unsupported_word text` is the unsupported word that these characters are, if they are one.
 abbrev pub unsupported_word : List ℕ → Option UnsupportedWord
 unsupported_word text = find (λ w. bytes_eq text (unsupported_text w)) unsupported_words
 
--- how many bytes there are up to the first `*/`, and with it
+-- `comment_end text` is how many bytes there are up to the first `*/`, and with it.
 abbrev pub comment_end : List ℕ → Option ℕ
 comment_end [] = None
 comment_end (b ∷ bs) =
     if starts_with nat_eq (b ∷ bs) (codes "*/") then Some 2 else option_map (λ n. n + 1) (comment_end bs)
 
--- the comment whose text, after the `/*`, begins so
+-- `block_comment end` is the comment that ends so many bytes after its `/*`, or has no end.
 abbrev pub block_comment : Option ℕ → Piece
 block_comment None = Open
 block_comment (Some n) = Gap (2 + n)
 
+-- `sign_piece text` is the longest sign that begins a text.
 abbrev pub sign_piece : List ℕ → Option Piece
 sign_piece text = option_map SignPiece (first_sign text)
 
--- a comment, or else a sign
+-- `slash_piece text` is the comment, or else the sign, that begins a text at a `/`.
 abbrev pub slash_piece : List ℕ → Option Piece
 slash_piece text =
     if starts_with nat_eq text (codes "//") then Some (Gap (2 + prefix_len (λ b. not (is_line_feed b)) (drop 2 text)))
     else (if starts_with nat_eq text (codes "/*") then Some (block_comment (comment_end (drop 2 text)))
     else sign_piece text)
 
+-- `numeral_piece text` is the longest numeral that begins a text at a digit.
 abbrev pub numeral_piece : List ℕ → Piece
 numeral_piece text =
     if starts_with nat_eq text (codes "0x") && begins_with_hex_digit (drop 2 text)
     then Hexadecimal (2 + prefix_len is_hex_digit (drop 2 text))
     else Decimal (prefix_len is_digit text)
 
--- the longest piece that the text begins with
+-- `longest_piece text` is the longest piece that the text begins with.
 abbrev pub longest_piece : List ℕ → Option Piece
 longest_piece text =
     if is_blank (slice_index text 0) then Some (Gap 1)

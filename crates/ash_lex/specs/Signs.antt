@@ -1,4 +1,4 @@
--- How the signs are written.
+-- These definitions say how the signs are written.
 use Rattle.std.specs.Prelude.{ℕ, Bool, true, not, List, codes}
 use Rattle.ash_lex.specs.Bytes.{begins_with_word}
 use Rattle.ash_lex.specs.declared.signs.Sign.{Sign}
@@ -14,7 +14,7 @@ use Rattle.ash_lex.specs.declared.signs.Sign.TheVariants.{ShiftLeftAssign, Shift
 use Rattle.ash_lex.specs.declared.signs.Sign.TheVariants.{ShiftRightArithmetic, ShiftRightArithmeticAssign, Power}
 use Rattle.ash_lex.specs.declared.signs.Sign.TheVariants.{Scope}
 
--- the characters of a sign
+-- `sign_text s` are the characters of a sign.
 abbrev pub sign_text : Sign → List ℕ
 sign_text OpenParenthesis = codes "("
 sign_text CloseParenthesis = codes ")"
@@ -68,7 +68,7 @@ sign_text ShiftRightArithmeticAssign = codes ">>>="
 sign_text Power = codes "**"
 sign_text Scope = codes "::"
 
--- what may follow a sign: no letter, digit or `_` after `!is`, and anything after another
+-- No letter, digit or `_` may follow `!is`, and anything may follow another sign.
 abbrev pub may_follow : Sign → List ℕ → Bool
 may_follow NotIs after = not (begins_with_word after)
 may_follow _ after = true

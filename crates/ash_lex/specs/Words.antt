@@ -1,4 +1,4 @@
--- How the words that are no names are written.
+-- These definitions say how the words that are no names are written.
 use Rattle.std.specs.Prelude.{ℕ, List, codes}
 use Rattle.ash_lex.specs.declared.words.ReservedWord.{ReservedWord}
 use Rattle.ash_lex.specs.declared.words.ReservedWord.TheVariants.{And, Or, Xor, Not, Is, Null, True, False, Void, Bool}
@@ -11,7 +11,7 @@ use Rattle.ash_lex.specs.declared.words.UnsupportedWord.TheVariants.{Import, In,
 use Rattle.ash_lex.specs.declared.words.UnsupportedWord.TheVariants.{Out, Private, Protected, Try, Typedef, Uint8}
 use Rattle.ash_lex.specs.declared.words.UnsupportedWord.TheVariants.{Uint16}
 
--- the characters of a reserved word
+-- `reserved_text w` are the characters of a reserved word.
 abbrev pub reserved_text : ReservedWord → List ℕ
 reserved_text And = codes "and"
 reserved_text Or = codes "or"
@@ -46,7 +46,7 @@ reserved_text Break = codes "break"
 reserved_text Continue = codes "continue"
 reserved_text Return = codes "return"
 
--- the characters of an unsupported word
+-- `unsupported_text w` are the characters of an unsupported word.
 abbrev pub unsupported_text : UnsupportedWord → List ℕ
 unsupported_text Auto = codes "auto"
 unsupported_text Catch = codes "catch"

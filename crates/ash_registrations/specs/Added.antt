@@ -1,4 +1,4 @@
--- When one more registration is added.
+-- These definitions say when one more registration is added.
 use Rattle.std.specs.Prelude.{◌≡◌, ◌+◌, Bool, true, false, List, [], ◌∷◌, ◌++◌, Result, OnOk, OnErr, IfErr, length}
 use Rattle.std.specs.Prelude.{nat_lt}
 use Rattle.ash_registrations.specs.declared.adding.AddFault.{AddFault}
@@ -6,7 +6,7 @@ use Rattle.ash_registrations.specs.declared.adding.AddFault.TheVariants.{TooLong
 use Rattle.ash_registrations.specs.Calls.{Registration}
 use Rattle.ash_registrations.specs.Text.{line_of, text_of}
 
--- whether the text would pass 1,048,576 bytes with one more registration
+-- The text would pass 1,048,576 bytes with one more registration.
 abbrev pub is_too_long : List Registration → Registration → Bool
 is_too_long old added = nat_lt 1048576 (length (text_of old) + length (line_of added))
 

@@ -31,16 +31,16 @@ use Rattle.ash_tree.specs.Tokens.{Tokens}
 use Rattle.ash_tree.specs.Types.{IsElement}
 use Rattle.ash_tree.specs.Operators.{primitive, unary_operator, binary_operator, level, LEVELS, assign_operator}
 
--- how deep a token may be
+-- No token is deeper than this.
 abbrev pub DEPTH : ℕ
 DEPTH = 64
 
--- a phrase of this depth may begin here: the limit is not asked of the last `free` tokens
+-- A phrase of this depth may begin here: the limit does not hold for the last `free` tokens.
 abbrev pub Within : ℕ → ℕ → Tokens → Type 0
 Within free depth from = free < length from → depth ≤ DEPTH
 
 mutual
-  -- an `assign` that is one deeper than what it is in
+  -- The `assign` is one deeper than what it is in.
   pub data IsInner : ℕ → ℕ → Tokens → Expr → Tokens → Type 0 where
     inner : {free depth : ℕ} {from left : Tokens} {e : Expr} → Within free (suc depth) from
         → IsAssign free (suc depth) from e left → IsInner free depth from e left

@@ -50,7 +50,7 @@ pub data IsVars : ℕ → ℕ → Tokens → Vars → Tokens → Type 0 where
       → IsDecl free depth first d after → AreMoreDecls free depth after ds left
       → IsVars free depth from (record { of = t; decls = d ∷ ds }) left
 
--- what is before the first `;` of a `for`, with that `;`
+-- This is what a `for` has before its first `;`, with that `;`.
 pub data IsFirst : ℕ → ℕ → Tokens → Stmt → Tokens → Type 0 where
   no_first : {free depth : ℕ} {p : Place} {left : Tokens}
       → IsFirst free depth ((sign signs.Semicolon, p) ∷ left) (Empty p) left
@@ -61,14 +61,14 @@ pub data IsFirst : ℕ → ℕ → Tokens → Stmt → Tokens → Type 0 where
       → IsInner free depth from e ((sign signs.Semicolon, p) ∷ left)
       → IsFirst free depth from (Evaluate (place_of e) e) left
 
--- what is before the second `;` of a `for`, with that `;`
+-- This is what a `for` has before its second `;`, with that `;`.
 pub data IsTest : ℕ → ℕ → Tokens → Option Expr → Tokens → Type 0 where
   no_test : {free depth : ℕ} {p : Place} {left : Tokens}
       → IsTest free depth ((sign signs.Semicolon, p) ∷ left) None left
   test : {free depth : ℕ} {p : Place} {from left : Tokens} {e : Expr}
       → IsInner free depth from e ((sign signs.Semicolon, p) ∷ left) → IsTest free depth from (Some e) left
 
--- what follows `return`, with its `;`
+-- This is what follows a `return`, with its `;`.
 pub data IsResult : ℕ → ℕ → Tokens → Option Expr → Tokens → Type 0 where
   no_result : {free depth : ℕ} {p : Place} {left : Tokens}
       → IsResult free depth ((sign signs.Semicolon, p) ∷ left) None left
@@ -85,7 +85,7 @@ pub data IsLabel : Tokens → Place → Label → Tokens → Type 0 where
   default : {p r : Place} {left : Tokens} → IsLabel
       ((reserved words.Default, p) ∷ (sign signs.Colon, r) ∷ left) p labels.Default left
 
--- the statement ends in an `if` that an `else` could still follow
+-- The statement ends in an `if` that an `else` could still follow.
 abbrev pub is_open : Stmt → Bool
 is_open (If p c s) = true
 is_open (IfElse p c s t) = is_open t
@@ -94,7 +94,7 @@ is_open (For p f c es s) = is_open s
 is_open _ = false
 
 mutual
-  -- a statement that is one deeper than what it is in
+  -- The statement is one deeper than what it is in.
   pub data IsNested : ℕ → ℕ → Tokens → Stmt → Tokens → Type 0 where
     nested : {free depth : ℕ} {from left : Tokens} {s : Stmt} → Within free (suc depth) from
         → IsStmt free (suc depth) from s left → IsNested free depth from s left

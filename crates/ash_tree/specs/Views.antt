@@ -1,4 +1,4 @@
--- What the code's trees represent.
+-- These definitions say what the code's trees represent.
 use Rattle.std.specs.Prelude.{List, option_map, map, string_bytes}
 use Rattle.ash_tree.specs.declared.tree.places.Place.{Place}
 use Rattle.ash_tree.specs.declared.tree.types.TypeKind as type_kind
@@ -107,7 +107,7 @@ abbrev mutual
 abbrev pub expr_of : expr_code.Expr → Expr
 expr_of e = expr_at e.place e.kind
 
--- an operator of the code with its operand
+-- `operation_of l` is the operator with its right operand that the code's link represents.
 abbrev pub operation_of : link_code.Link → Operation
 operation_of l = record { operator = l.operator; operand = expr_of l.operand }
 
