@@ -41,11 +41,7 @@ impl<T: Drop> From<AllocFailed<T>> for AddFault {
 
 impl Registrations {
     /// Adds a registration that takes a name of a type or function, with that name.
-    pub fn add_named(
-        &mut self,
-        registration: Registration,
-        key: String,
-    ) -> Result<(), AddFault>
+    pub fn add_named(&mut self, registration: Registration, key: String) -> Result<(), AddFault>
         requires named { (name : List ℕ)
             → takes_name name (call_of registration) ≡ bytes_eq name (string_bytes key) }
         requires free { list_any (takes_name (string_bytes key)) (registered self.old) ≡ false }

@@ -15,7 +15,8 @@ use crate::tree::types::{Element, Primitive, TypeName};
 use std::alloc::{AllocError, Global};
 
 pub fn call(place: Place, name: String, arguments: Vec<Expr>) -> Expr
-    ensures { expr_of result ≡ Call place (string_bytes name) (exprs (map expr_of arguments.items)) }
+    ensures { expr_of result
+        ≡ Call place (string_bytes name) (exprs (map expr_of arguments.items)) }
 {
     Expr {
         place,
@@ -24,7 +25,8 @@ pub fn call(place: Place, name: String, arguments: Vec<Expr>) -> Expr
 }
 
 pub fn method(place: Place, name: String, arguments: Vec<Expr>) -> Suffix
-    ensures { suffix_of result ≡ Method place (string_bytes name) (exprs (map expr_of arguments.items)) }
+    ensures { suffix_of result
+        ≡ Method place (string_bytes name) (exprs (map expr_of arguments.items)) }
 {
     Suffix::Method {
         place,
@@ -210,21 +212,21 @@ pub fn declare(vars: Vars) -> Stmt
 }
 
 /// Two statements, each in a box.
-fn both_boxed(alloc: Global, one: Stmt, other: Stmt) -> Result<(Box<Stmt>, Box<Stmt>), AllocError>
+fn box_both(alloc: Global, one: Stmt, other: Stmt) -> Result<(Box<Stmt>, Box<Stmt>), AllocError>
     ensures { IfOk result (λ both. (both.0.value ≡ one) × (both.1.value ≡ other)) }
 {
-    let one = boxed(alloc, one);
-    let other = boxed(alloc, other);
+    let one = box_statement(alloc, one);
+    let other = box_statement(alloc, other);
     Ok((one?, other?))
 }
 
-fn boxed(alloc: Global, inner: Stmt) -> Result<Box<Stmt>, AllocError>
+fn box_statement(alloc: Global, inner: Stmt) -> Result<Box<Stmt>, AllocError>
     ensures { IfOk result (λ b. b.value ≡ inner) }
 {
     Ok(Box::new(alloc, inner)?)
 }
 
-/// What stands between the brackets of a `for`: `first; condition; steps`.
+/// What is between the brackets of a `for`: `first; condition; steps`.
 #[derive(Debug, Drop)]
 pub struct ForHead {
     pub first: Stmt,
@@ -233,12 +235,7 @@ pub struct ForHead {
 }
 
 /// `for (head) body`
-pub fn for_loop(
-    alloc: Global,
-    place: Place,
-    head: ForHead,
-    body: Stmt,
-) -> Result<Stmt, AllocError>
+pub fn for_loop(alloc: Global, place: Place, head: ForHead, body: Stmt) -> Result<Stmt, AllocError>
     ensures { IfOk result (λ s. stmt_of s
         ≡ For place (stmt_of head.first) (option_map expr_of head.condition)
         (map expr_of head.steps.items) (stmt_of body)) }
@@ -248,7 +245,7 @@ pub fn for_loop(
         condition,
         steps,
     } = head;
-    let (first, body) = both_boxed(alloc, first, body)?;
+    let (first, body) = box_both(alloc, first, body)?;
     Ok(Stmt {
         place,
         kind: StmtKind::For {
