@@ -557,7 +557,16 @@ fn for_statement<'a>(
     let (_, rest) = expect(Sign::CloseParenthesis, rest)?;
     let (body, rest) = nested(alloc, room, rest)?;
     Ok((
-        nodes::for_loop(alloc, place, first, condition, steps, body)?,
+        nodes::for_loop(
+            alloc,
+            place,
+            nodes::ForHead {
+                first,
+                condition,
+                steps,
+            },
+            body,
+        )?,
         rest,
     ))
 }

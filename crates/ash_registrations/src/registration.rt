@@ -1,4 +1,4 @@
-//! One accepted call, and what it takes.
+//! One accepted registration, and what it takes.
 ghost use Rattle.std.specs.Prelude.{◌≡◌};
 ghost use Rattle.ash_registrations.specs.Calls.{call_of};
 ghost use Rattle.ash_registrations.specs.Calls as spec;
