@@ -28,7 +28,8 @@ impl Counter {
         ensures refuses { (bytes : List ℕ)
             → ⟦<Counter as HostObject>⟧.refuses result bytes ↔ (length bytes ≢ 4) }
         ensures restores { RestoresSaved ⟦<Counter as HostObject>⟧ result }
-        ensures exact { SameRelation (⟦<Counter as HostObject>⟧.allows result) (AllowsByInt counter_step) }
+        ensures exact { SameRelation (⟦<Counter as HostObject>⟧.allows result)
+            (AllowsByInt counter_step) }
     {
         Counter { value: 0 }
     }

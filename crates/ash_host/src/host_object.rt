@@ -33,7 +33,8 @@ pub trait HostObject: Drop {
 
     /// Begins its life with the arguments of a factory. `Nothing` is success.
     fn start(&mut self, args: &[Word]) -> HostAnswer
-        ensures allowed { allows self.old (Start args.now) (state self.old) result (state self.new) }
+        ensures allowed { allows self.old (Start args.now) (state self.old) result
+            (state self.new) }
         ensures same_kind { kind_of self.new ≡ kind_of self.old }
         ensures same_relation { SameRelation (allows self.old) (allows self.new) }
         ensures bounded { length (state self.new) ≤ max_state };

@@ -3,7 +3,8 @@
 ghost use Rattle.std.specs.Prelude.{◌≤◌, length};
 ghost use Rattle.ash_host.specs.declared.event.Target.{Target};
 ghost use Rattle.ash_host.specs.Calls.{Invoke, max_state};
-ghost use Rattle.ash_host.specs.Laws.{ReachIsDecided, SweepIsExact, SweepIsOne, SweepSettles, CascadeIsSweep, CountIsReferences, PutIsExact, NumbersRise, SweepKeepsLast, RecordIsExact};
+ghost use Rattle.ash_host.specs.Laws.{ReachIsDecided, SweepIsExact, SweepIsOne, SweepSettles, CascadeIsSweep};
+ghost use Rattle.ash_host.specs.Laws.{CountIsReferences, PutIsExact, NumbersRise, SweepKeepsLast, RecordIsExact};
 ghost use Rattle.ash_host.specs.Records.{IsValidRecord};
 
 use crate::{HostAnswer, HostObject, Word};

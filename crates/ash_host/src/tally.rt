@@ -28,7 +28,8 @@ impl Tally {
         ensures refuses { (bytes : List ℕ)
             → ⟦<Tally as HostObject>⟧.refuses result bytes ↔ (length bytes ≢ 4) }
         ensures restores { RestoresSaved ⟦<Tally as HostObject>⟧ result }
-        ensures exact { SameRelation (⟦<Tally as HostObject>⟧.allows result) (AllowsByInt tally_step) }
+        ensures exact { SameRelation (⟦<Tally as HostObject>⟧.allows result)
+            (AllowsByInt tally_step) }
     {
         Tally { total: 0 }
     }

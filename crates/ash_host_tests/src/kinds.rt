@@ -19,8 +19,8 @@ enum Ask {
 // A call, its answer, and the state after it.
 type Row = (Ask, &'static str, &'static [u8]);
 
-// The calls and the makers stand in functions of their own, which promise nothing: so each contract is seen once, and not
-// in every test.
+// The calls and the makers stand in functions of their own, which promise nothing: so each contract is seen once, and
+// not in every test.
 
 fn counter() -> Counter {
     Counter::new()

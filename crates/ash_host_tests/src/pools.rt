@@ -1,5 +1,5 @@
-//! Which boxes a table from a state takes from its pool, and which are given up: with the table, or where there is none.
-//! A box has a name of two digits, of which the first is its kind.
+//! Which boxes a table from a state takes from its pool, and which are given up: with the table, or where there is
+//! none. A box has a name of two digits, of which the first is its kind.
 ghost use Rattle.std.specs.Prelude.{◌≡◌, IfOk, vec_len};
 
 use crate::reporter::{Log, Reporter, has_reported};
@@ -78,8 +78,8 @@ fn is_among(found: &[(u16, i32)], name: u16, number: Option<i32>) -> bool {
     found.iter().any(|it| it.0 == name && number.is_none_or(|number| it.1 == number))
 }
 
-/// Whether these counters are the ones that were given up after so many others, in any order, each with its number if one
-/// is named.
+/// Whether these counters are the ones that were given up after so many others, in any order, each with its number if
+/// one is named.
 pub fn has_reported_then(log: &Log, many: usize, wanted: &[(u16, Option<i32>)]) -> bool {
     let Ok(found) = log.try_borrow() else {
         return false;
@@ -248,7 +248,8 @@ fn boxes_go_to_objects_by_ascending_number(rt: HostRuntime) -> Result<(), Fail> 
     Ok(())
 }
 
-// Why a state is refused, and the boxes that are given up then: each once, with its number where it had taken its state.
+// Why a state is refused, and the boxes that are given up then: each once, with its number where it had taken its
+// state.
 struct Refusal<'a> {
     given: Given<'a>,
     fault: TableFault,

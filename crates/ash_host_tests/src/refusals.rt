@@ -1,5 +1,6 @@
-//! Memory that is refused once: `tests/program objects` has each allocation of each of these tests fail in turn, and they
-//! pass whichever it is. A call that is refused memory leaves all as it was, and does what it must when it is made again.
+//! Memory that is refused once: `tests/program objects` has each allocation of each of these tests fail in turn, and
+//! they pass whichever it is. A call that is refused memory leaves all as it was, and does what it must when it is made
+//! again.
 ghost use Rattle.std.specs.Prelude.{◌≡◌, ◌<◌, length};
 
 use crate::pools::{self, Given, Service, has_reported_then};

@@ -66,9 +66,13 @@ fn host(alloc: Global, number: u64, kept: Kept<'_>) -> Result<Stored, NoMemory>
 pub fn objects(alloc: Global, third: Kept<'_>, fifth: Kept<'_>) -> Result<Vec<Stored>, NoMemory>
     ensures numbered { IfOk result (λ objects. AreNumbered 9 (stored_in objects.items)) }
     ensures few { IfOk result (λ objects. vec_len objects ≤ 4096) }
-    ensures short { IfOk result (λ objects. (number : ℕ) → IfSome (object_at number (stored_in objects.items)) (λ body. length (words_of body) ≤ 4096)) }
-    ensures alive { IfOk result (λ objects. (number : ℕ) → IfSome (object_at number (stored_in objects.items))
-        (λ body. All (λ word. IfSome (handle word) (Lives (stored_in objects.items))) (words_of body))) }
+    ensures short { IfOk result
+        (λ objects. (number : ℕ) → IfSome (object_at number (stored_in objects.items))
+        (λ body. length (words_of body) ≤ 4096)) }
+    ensures alive { IfOk result
+        (λ objects. (number : ℕ) → IfSome (object_at number (stored_in objects.items))
+        (λ body. All (λ word. IfSome (handle word) (Lives (stored_in objects.items)))
+        (words_of body))) }
 {
     let mut objects = Vec::new(alloc);
     objects.push(script(alloc, 1, 3)?)?;

@@ -1,6 +1,6 @@
 //! What a test does with a table, step by step: the steps are data, so that the calls are proved once and not in each
-//! test. Memory is ample, or is refused once: then a step that is refused it leaves all as it was, and does what it must
-//! when it is taken again.
+//! test. Memory is ample, or is refused once: then a step that is refused it leaves all as it was, and does what it
+//! must when it is taken again.
 
 use crate::reporter::{Log, has_reported};
 use crate::table::{

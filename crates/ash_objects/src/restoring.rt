@@ -1,5 +1,6 @@
 //! A table from what a state holds.
-ghost use Rattle.std.specs.Prelude.{◌≡◌, ◌≤◌, ℕ, List, Option, Some, [], All, length, slice_get, IsSome, IfSome, IfOk, OnOk, IsErrOf, vec_len};
+ghost use Rattle.std.specs.Prelude.{◌≡◌, ◌≤◌, ℕ, List, Option, Some, [], All};
+ghost use Rattle.std.specs.Prelude.{length, slice_get, IsSome, IfSome, IfOk, OnOk, IsErrOf, vec_len};
 ghost use Rattle.ash_host.specs.Objects.{object_at, numbers, Lives, IsInOrder, AreNumbered, handle};
 ghost use Rattle.ash_slots.specs.Bodies.{words_of};
 ghost use Rattle.ash_slots.specs.Counting.{counted};
@@ -7,7 +8,11 @@ ghost use Rattle.ash_objects.specs.declared.restoring.TableFault.{TableFault};
 ghost use Rattle.ash_objects.specs.declared.restoring.Stored.{Stored};
 ghost use Rattle.ash_objects.specs.Counting.{words_at, AllLive};
 ghost use Rattle.ash_objects.specs.Listing.{AreListed};
-ghost use Rattle.ash_objects.specs.Restoring.{stored_in, states_in, kind_wanted, bytes_of, Drawn, Enough, Short, draw_then, draw_boxes, with_box_first, BroughtBack, IsBack, AreBack, AreBoxesBack, ServiceRefused, BoxRefused, IsRefused, IsRestored, with_taken, AreFit, ArePut, refer_objects};
+ghost use Rattle.ash_objects.specs.Restoring.{stored_in, states_in, kind_wanted, bytes_of, Drawn};
+ghost use Rattle.ash_objects.specs.Restoring.{Enough, Short, draw_then, draw_boxes, with_box_first};
+ghost use Rattle.ash_objects.specs.Restoring.{BroughtBack, IsBack, AreBack, AreBoxesBack, ServiceRefused};
+ghost use Rattle.ash_objects.specs.Restoring.{BoxRefused, IsRefused, IsRestored, with_taken, AreFit};
+ghost use Rattle.ash_objects.specs.Restoring.{ArePut, refer_objects};
 
 use crate::counting::refer_words;
 use crate::making::place_of_kind;
@@ -59,8 +64,10 @@ impl Stored {
 // Takes the first box of an object's kind from the pool, if it is a host object.
 fn take_box<B: HostObject>(pool: &mut Vec<B>, object: &Stored) -> Result<Option<B>, TableFault>
     ensures taken { IfOk result (λ taken. (others : List B → Drawn B)
-        → draw_then B.HostObject (kind_wanted object.now) pool.old.items others ≡ with_box_first taken (others pool.new.items)) }
-    ensures short { (kind : ℕ) → IsErrOf result (TableFault.PoolShort kind) → (others : List B → Drawn B)
+        → draw_then B.HostObject (kind_wanted object.now) pool.old.items others
+        ≡ with_box_first taken (others pool.new.items)) }
+    ensures short { (kind : ℕ) → IsErrOf result (TableFault.PoolShort kind)
+        → (others : List B → Drawn B)
         → draw_then B.HostObject (kind_wanted object.now) pool.old.items others ≡ Short kind }
     ensures not_refused { (number : ℕ) → IsErrOf result (TableFault.RestoreRefused number) → ⊥ }
     ensures memory { IsErrOf result TableFault.NoMemory → ⊥ }
@@ -81,7 +88,8 @@ fn take_boxes<B: HostObject>(
     objects: &[Stored],
     pool: &mut Vec<B>,
 ) -> Result<Vec<Option<B>>, TableFault>
-    ensures enough { IfOk result (λ boxes. draw_boxes B.HostObject objects.now pool.old.items ≡ Enough boxes.items pool.new.items) }
+    ensures enough { IfOk result (λ boxes. draw_boxes B.HostObject objects.now pool.old.items
+        ≡ Enough boxes.items pool.new.items) }
     ensures short { (kind : ℕ) → IsErrOf result (TableFault.PoolShort kind)
         → draw_boxes B.HostObject objects.now pool.old.items ≡ Short kind }
     ensures not_refused { (number : ℕ) → IsErrOf result (TableFault.RestoreRefused number) → ⊥ }
@@ -116,9 +124,10 @@ fn restore_services<B: HostObject>(
     states: &[Vec<u8>],
 ) -> Result<(), TableFault>
     requires { length states.now ≡ vec_len services.old }
-    ensures back { OnOk result (AreBack B.HostObject services.old.items (states_in states.now) services.new.items) }
-    ensures refused { (number : ℕ) → IsErrOf result (TableFault.RestoreRefused number) → (number ≡ 0)
-        × ServiceRefused B.HostObject services.old.items (states_in states.now) }
+    ensures back { OnOk result
+        (AreBack B.HostObject services.old.items (states_in states.now) services.new.items) }
+    ensures refused { (number : ℕ) → IsErrOf result (TableFault.RestoreRefused number)
+        → (number ≡ 0) × ServiceRefused B.HostObject services.old.items (states_in states.now) }
     ensures enough { (kind : ℕ) → IsErrOf result (TableFault.PoolShort kind) → ⊥ }
 {
     for place in 0..states.len() {
@@ -130,7 +139,8 @@ fn restore_services<B: HostObject>(
 // Gives what an object took the object's state.
 fn restore_box<B: HostObject>(object: &Stored, taken: &mut Option<B>) -> Result<(), TableFault>
     ensures back { OnOk result (IsBack B.HostObject object.now.body taken.old taken.new) }
-    ensures refused { (number : ℕ) → IsErrOf result (TableFault.RestoreRefused number) → (number ≡ object.now.number)
+    ensures refused { (number : ℕ) → IsErrOf result (TableFault.RestoreRefused number)
+        → (number ≡ object.now.number)
         × ((box : B) × (taken.old ≡ Some box) × B.refuses box (bytes_of object.now.body)) }
     ensures enough { (kind : ℕ) → IsErrOf result (TableFault.PoolShort kind) → ⊥ }
 {
@@ -146,7 +156,8 @@ fn restore_boxes<B: HostObject>(
     boxes: &mut Vec<Option<B>>,
 ) -> Result<(), TableFault>
     requires { length objects.now ≡ vec_len boxes.old }
-    ensures back { OnOk result (AreBoxesBack B.HostObject objects.now boxes.old.items boxes.new.items) }
+    ensures back { OnOk result
+        (AreBoxesBack B.HostObject objects.now boxes.old.items boxes.new.items) }
     ensures refused { (number : ℕ) → IsErrOf result (TableFault.RestoreRefused number)
         → BoxRefused B.HostObject objects.now boxes.old.items number }
     ensures enough { (kind : ℕ) → IsErrOf result (TableFault.PoolShort kind) → ⊥ }
@@ -222,7 +233,8 @@ fn numbers_of(alloc: Global, objects: &[Stored]) -> Result<Vec<u64>, TableFault>
 
 // Counts each object once more for each word of the objects of these numbers that is a handle to it.
 fn refer_from<B>(store: &mut Store<B>, list: &[u64])
-    requires there { All (λ number. Lives store.old.objects number × AllLive store.old.objects (words_at number store.old.objects)
+    requires there { All (λ number. Lives store.old.objects number
+        × AllLive store.old.objects (words_at number store.old.objects)
         × (length (words_at number store.old.objects) ≤ 4096)) list.now }
     requires few { length list.now ≤ 4096 }
     requires uncounted { (number : ℕ) → counted number store.old.objects ≡ 0 }
@@ -251,19 +263,24 @@ impl<B: HostObject> Objects<B> {
     ) -> Result<Objects<B>, TableFault>
         requires numbered { AreNumbered last (stored_in objects.items) }
         requires few { vec_len objects ≤ 4096 }
-        requires short { (number : ℕ) → IfSome (object_at number (stored_in objects.items)) (λ body. length (words_of body) ≤ 4096) }
+        requires short { (number : ℕ) → IfSome (object_at number (stored_in objects.items))
+            (λ body. length (words_of body) ≤ 4096) }
         requires alive { (number : ℕ) → IfSome (object_at number (stored_in objects.items))
-            (λ body. All (λ word. IfSome (handle word) (Lives (stored_in objects.items))) (words_of body)) }
+            (λ body. All (λ word. IfSome (handle word) (Lives (stored_in objects.items)))
+            (words_of body)) }
         requires as_many { length states.now ≡ vec_len services }
-        ensures objects { IfOk result (λ table. IsRestored B.HostObject objects.items pool.items table) }
-        ensures services { IfOk result (λ table. AreBack B.HostObject services.items (states_in states.now) table.services) }
+        ensures objects { IfOk result
+            (λ table. IsRestored B.HostObject objects.items pool.items table) }
+        ensures services { IfOk result
+            (λ table. AreBack B.HostObject services.items (states_in states.now) table.services) }
         ensures last { IfOk result (λ table. table.last ≡ last) }
         ensures settled { IfOk result (λ table. table.settled ≡ last) }
         ensures gone { IfOk result (λ table. table.gone ≡ []) }
         ensures short { (kind : ℕ) → IsErrOf result (TableFault.PoolShort kind)
             → draw_boxes B.HostObject objects.items pool.items ≡ Short kind }
         ensures refused { (number : ℕ) → IsErrOf result (TableFault.RestoreRefused number)
-            → IsRefused B.HostObject objects.items (states_in states.now) pool.items services.items number }
+            → IsRefused B.HostObject objects.items (states_in states.now) pool.items services.items
+            number }
     {
         let mut boxes = take_boxes(alloc, &objects, &mut pool)?;
         restore_services(&mut services, states)?;

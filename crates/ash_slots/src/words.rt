@@ -1,5 +1,6 @@
 //! The words that an object holds.
-ghost use Rattle.std.specs.Prelude.{◌≡◌, ◌<◌, ◌-◌, ◌++◌, [], length, take, drop, replicate, slice_get, slice_set, Some, OnOk, OnErr};
+ghost use Rattle.std.specs.Prelude.{◌≡◌, ◌<◌, ◌-◌, ◌++◌, [], length, take};
+ghost use Rattle.std.specs.Prelude.{drop, replicate, slice_get, slice_set, Some, OnOk, OnErr};
 
 use ash_host::{NoMemory, Word};
 use std::marker::Model;
@@ -77,7 +78,8 @@ impl Words {
 
     /// Appends a word until there are so many. Where memory is refused nothing is appended.
     pub fn grow(&mut self, len: usize, word: Word) -> Result<(), NoMemory>
-        ensures grown { OnOk result (self.new ≡ self.old ++ replicate (len - length self.old) word) }
+        ensures grown { OnOk result
+            (self.new ≡ self.old ++ replicate (len - length self.old) word) }
         ensures unchanged { OnErr result (self.new ≡ self.old) }
     {
         let more = len.saturating_sub(self.words.len());
