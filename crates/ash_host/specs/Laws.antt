@@ -37,7 +37,7 @@ CascadeIsSweep M = (held : List ℕ) (rank : ℕ → ℕ) (top : ℕ) (old new :
 abbrev pub CountIsReferences : Type 0 → Type 0
 CountIsReferences M = (globals : List Word) (objects : Objects M) (number : ℕ) → IsInOrder objects → (0 < count_of number globals objects) ↔ (Contains (handles globals) number ⊎ ((one : ℕ) × Refers objects one number))
 
--- what is put at a number stands there, all else stays where it was, and the order stays
+-- what is put at a number is there, all else stays where it was, and the order stays
 pub record IsPut {M : Type 0} (number : ℕ) (object : Plain M) (old new : Objects M) : Type 0 where
   pub places : (place : ℕ) → object_at place new ≡ (if nat_eq place number then Some object else object_at place old)
   pub in_order : IsInOrder new

@@ -11,7 +11,7 @@ use Rattle.ash_host.specs.declared.event.Target.TheVariants as targets
 use Rattle.ash_host.specs.declared.host_object.HostObject.{Ghosts}
 use Rattle.ash_host.specs.Calls.{HostCall, Start, Invoke, Get, Set, max_state}
 
--- one call: whom it went to, what it was, the state before it, the answer, and the state after it
+-- one call: what it went to, what it was, the state before it, the answer, and the state after it
 pub record HostRecord : Type 0 where
   pub target : Target
   pub call : HostCall

@@ -21,7 +21,7 @@ impl Counter {
     /// The number of the kind.
     pub const KIND: u16 = 1;
 
-    /// A counter that stands at 0.
+    /// A counter whose value is 0.
     pub fn new() -> Counter
         ensures kind { ⟦<Counter as HostObject>⟧.kind_of result ≡ 1 }
         ensures zero { ⟦<Counter as HostObject>⟧.state result ≡ int_bytes (pos 0) }

@@ -6,7 +6,7 @@ ghost use Rattle.ash_host.specs.Calls.{HostCall, Start, Invoke, Get, Set, Relati
 
 use crate::{HostAnswer, NoMemory, RestoreFault, Word};
 
-/// An object of the embedding program that scripts hold by handle, or a service after registered functions
+/// An object of the embedding program that scripts hold by handle, or a service whose functions are registered
 /// (AngelScript manual, "Registering a reference type").
 ///
 /// It is known by four things, which no code can read and each implementation proves: the kind, which no call
@@ -67,8 +67,8 @@ pub trait HostObject: Drop {
         ensures bounded { length (state self.now) ≤ max_state };
 
     /// Takes these bytes as its state. It refuses bytes that are no state of its kind. Where it is refused, or memory
-    /// runs out, its state may be another one afterwards. Of bytes that it may refuse it may answer either error, since
-    /// a kind may need memory to find them bad.
+    /// runs out, its state may be another one afterwards. Where it may refuse the bytes it may answer either error,
+    /// since a kind may need memory to find them bad.
     fn restore(&mut self, bytes: &[u8]) -> Result<(), RestoreFault>
         ensures restored { OnOk result (state self.new ≡ bytes.now) }
         ensures refused { IsErrOf result RestoreFault.Refused → refuses self.old bytes.now }

@@ -21,7 +21,7 @@ impl Tally {
     /// The number of the kind.
     pub const KIND: u16 = 2;
 
-    /// A tally that stands at 0.
+    /// A tally whose total is 0.
     pub fn new() -> Tally
         ensures kind { ⟦<Tally as HostObject>⟧.kind_of result ≡ 2 }
         ensures zero { ⟦<Tally as HostObject>⟧.state result ≡ int_bytes (pos 0) }

@@ -10,7 +10,7 @@ use Rattle.ash_slots.specs.Responses.{box_of}
 use Rattle.ash_slots.specs.Store.{Placed}
 use Rattle.ash_objects.specs.declared.restoring.Stored.{Stored}
 use Rattle.ash_objects.specs.declared.restoring.Saved.{Saved}
-use Rattle.ash_objects.specs.Restoring.{Drawn, Short, Enough, kind_wanted, draw_box, draw_others, draw_then, draw_boxes, with_box_first, IsBack, AreBoxesBack, IsBody, AreBodies, with_taken, AreFit, ArePut}
+use Rattle.ash_objects.specs.Restoring.{Drawn, Short, Enough, kind_wanted, draw_box, draw_others, draw_then, draw_boxes, with_box_first, RestoresBox, RestoresBoxes, IsBody, AreBodies, with_taken, AreFit, ArePut}
 use Rattle.ash_objects.proofs.Marks.{appended}
 
 module _ {B : Type 0} where
@@ -88,14 +88,14 @@ module _ {B : Type 0} where
   fit_length (object ∷ objects) (box ∷ boxes) fit = ap suc (fit_length objects boxes fit.1)
 
   -- what a box became is something where the box was
-  back_fit : (G : Ghosts B) (body : Body Saved) (one other : Option B) → IsBack G body one other → IsSome (with_taken body one) → IsSome (with_taken body other)
-  back_fit G (Script script) one other back some = refl
-  back_fit G (Array array) one other back some = refl
-  back_fit G (Host saved) None other back some = absurd (cc)
-  back_fit G (Host saved) (Some box) other back some = subst (λ (o : Option B). IsSome (with_taken (Host saved) o)) (sym back.1) refl
+  restored_fit : (G : Ghosts B) (body : Body Saved) (one other : Option B) → RestoresBox G body one other → IsSome (with_taken body one) → IsSome (with_taken body other)
+  restored_fit G (Script script) one other back some = refl
+  restored_fit G (Array array) one other back some = refl
+  restored_fit G (Host saved) None other back some = absurd (cc)
+  restored_fit G (Host saved) (Some box) other back some = subst (λ (o : Option B). IsSome (with_taken (Host saved) o)) (sym back.1) refl
 
   -- an object and what became of what it took
-  body_joined : (G : Ghosts B) (body : Body Saved) (one other : Option B) (out : Body B) → IsBack G body one other → with_taken body other ≡ Some out → IsBody G body one out
+  body_joined : (G : Ghosts B) (body : Body Saved) (one other : Option B) (out : Body B) → RestoresBox G body one other → with_taken body other ≡ Some out → IsBody G body one out
   body_joined G (Script script) one other out back is = cc
   body_joined G (Array array) one other out back is = cc
   body_joined G (Host saved) None other out back is =
@@ -106,26 +106,26 @@ module _ {B : Type 0} where
       (back.0, same, back.2)
 
   -- the same after the first of them
-  boxes_after : (G : Ghosts B) (object : Stored) (objects : List Stored) (one other : Option B) (before after : List (Option B)) → AreBoxesBack G (object ∷ objects) (one ∷ before) (other ∷ after) → AreBoxesBack G objects before after
+  boxes_after : (G : Ghosts B) (object : Stored) (objects : List Stored) (one other : Option B) (before after : List (Option B)) → RestoresBoxes G (object ∷ objects) (one ∷ before) (other ∷ after) → RestoresBoxes G objects before after
   boxes_after G object objects one other before after back = let all = back.many in record {
     many = omega (arith, all);
     each = λ place. back.each (suc place);
   }
 
   -- the boxes still fit once they are back
-  pub fit_back : (G : Ghosts B) (objects : List Stored) (before after : List (Option B)) → AreFit objects before → AreBoxesBack G objects before after → AreFit objects after
-  fit_back G [] [] [] fit back = tt
-  fit_back G [] [] (other ∷ after) fit back = let many = back.many in absurd (cc)
-  fit_back G [] (one ∷ before) after fit back = absurd fit
-  fit_back G (object ∷ objects) [] after fit back = absurd fit
-  fit_back G (object ∷ objects) (one ∷ before) [] fit back = let many = back.many in absurd (cc)
-  fit_back G (object ∷ objects) (one ∷ before) (other ∷ after) fit back = (
-    back_fit G object.body one other (back.each zero object one other refl refl refl) fit.0,
-    fit_back G objects before after fit.1 (boxes_after G object objects one other before after back),
+  pub fit_restored : (G : Ghosts B) (objects : List Stored) (before after : List (Option B)) → AreFit objects before → RestoresBoxes G objects before after → AreFit objects after
+  fit_restored G [] [] [] fit back = tt
+  fit_restored G [] [] (other ∷ after) fit back = let many = back.many in absurd (cc)
+  fit_restored G [] (one ∷ before) after fit back = absurd fit
+  fit_restored G (object ∷ objects) [] after fit back = absurd fit
+  fit_restored G (object ∷ objects) (one ∷ before) [] fit back = let many = back.many in absurd (cc)
+  fit_restored G (object ∷ objects) (one ∷ before) (other ∷ after) fit back = (
+    restored_fit G object.body one other (back.each zero object one other refl refl refl) fit.0,
+    fit_restored G objects before after fit.1 (boxes_after G object objects one other before after back),
   )
 
   -- what the objects are in the table is what they were stored as
-  pub bodies_put : (G : Ghosts B) (objects : List Stored) (before after : List (Option B)) (entries : List (ℕ × Placed B)) → AreFit objects before → AreBoxesBack G objects before after → ArePut objects after entries → AreBodies G objects before (map (λ e. (e.0, (e.1.item).body)) entries)
+  pub bodies_put : (G : Ghosts B) (objects : List Stored) (before after : List (Option B)) (entries : List (ℕ × Placed B)) → AreFit objects before → RestoresBoxes G objects before after → ArePut objects after entries → AreBodies G objects before (map (λ e. (e.0, (e.1.item).body)) entries)
   bodies_put G [] [] [] [] fit back put = tt
   bodies_put G [] (one ∷ before) after entries fit back put = absurd fit
   bodies_put G [] [] [] (e ∷ entries) fit back put = absurd put

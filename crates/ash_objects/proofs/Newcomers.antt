@@ -13,7 +13,7 @@ use Rattle.ash_host.proofs.Order.{object_at-with_at, in_order-with_at, same_in_o
 use Rattle.ash_slots.specs.Bodies.{words_of}
 use Rattle.ash_slots.specs.Store.{Placed, IsIn}
 use Rattle.ash_objects.specs.Table.{Living, Table, slot_of}
-use Rattle.ash_objects.specs.Making.{made, with_made, first_of_kind}
+use Rattle.ash_objects.specs.Making.{new_object, with_new_object, first_of_kind}
 use Rattle.std.specs.List.{remove}
 use Rattle.ash_host.specs.declared.host_object.HostObject.{Ghosts}
 use Rattle.ash_slots.specs.declared.body.Body.{Body}
@@ -92,27 +92,27 @@ module _ {B : Type 0} (n : ℕ) (p : Placed B) (l : List (ℕ × Placed B)) (o :
   fields_after m = omega (arith, all_fields (words_of (p.item).body) m (with_at n p l), fields_new m)
 
   -- what a contract sees: one object more, which nothing holds
-  pub view_new : (p.item).touched ≡ true → living_in (refer_all (words_of (p.item).body) (with_at n p l)) ≡ with_at n (made p.slot (p.item).body) (living_in l)
+  pub view_new : (p.item).touched ≡ true → living_in (refer_all (words_of (p.item).body) (with_at n p l)) ≡ with_at n (new_object p.slot (p.item).body) (living_in l)
   view_new touched =
-      same_in_order (living_in after_new) (with_at n (made p.slot (p.item).body) (living_in l)) (rw (numbers-living after_new after_new) (all_order (words_of (p.item).body) (with_at n p l) (in_order-with_at n p l o))) (in_order-with_at n (made p.slot (p.item).body) (living_in l) (rw (numbers-living l l) o))
+      same_in_order (living_in after_new) (with_at n (new_object p.slot (p.item).body) (living_in l)) (rw (numbers-living after_new after_new) (all_order (words_of (p.item).body) (with_at n p l) (in_order-with_at n p l o))) (in_order-with_at n (new_object p.slot (p.item).body) (living_in l) (rw (numbers-living l l) o))
       (λ m.
       object_at-living m after_new after_new
       ∙ living_face m after_new (fields_in m after_new)
       ∙ ap (λ (v : Option (Living B)). option_map (with_holds (counted m after_new - fields_in m after_new)) v) (all_face (words_of (p.item).body) m (with_at n p l) ∙ ap (λ (v : Option (Placed B)). option_map face v) (at_new m))
       ∙ ap (λ (k : ℕ). option_map (with_holds k) (option_map face (cond (nat_eq m n) (Some p) (object_at m l)))) (holds m)
       ∙ each m (nat_eq m n) refl
-      ∙ ap (λ (v : Option (Living B)). cond (nat_eq m n) (Some (made p.slot (p.item).body)) v) (sym (object_at-living m l l ∙ living_face m l (fields_in m l)))
-      ∙ sym (object_at-with_at n (made p.slot (p.item).body) m (living_in l)))
+      ∙ ap (λ (v : Option (Living B)). cond (nat_eq m n) (Some (new_object p.slot (p.item).body)) v) (sym (object_at-living m l l ∙ living_face m l (fields_in m l)))
+      ∙ sym (object_at-with_at n (new_object p.slot (p.item).body) m (living_in l)))
     where
       holds : (m : ℕ) → counted m after_new - fields_in m after_new ≡ counted m l - fields_in m l
       holds m = omega (arith, count_after m, fields_after m, s.covered m)
 
-      here : (k : ℕ) → k ≡ 0 → with_holds k (face p) ≡ made p.slot (p.item).body
+      here : (k : ℕ) → k ≡ 0 → with_holds k (face p) ≡ new_object p.slot (p.item).body
       here k is =
           ap (λ (h : ℕ). record { slot = p.slot; holds = h; touched = (p.item).touched; body = (p.item).body }) is
           ∙ ap (λ (t : Bool). record { slot = p.slot; holds = 0; touched = t; body = (p.item).body }) touched
 
-      each : (m : ℕ) (b : Bool) → nat_eq m n ≡ b → option_map (with_holds (counted m l - fields_in m l)) (option_map face (cond b (Some p) (object_at m l))) ≡ cond b (Some (made p.slot (p.item).body)) (option_map (with_holds (counted m l - fields_in m l)) (face_at m l))
+      each : (m : ℕ) (b : Bool) → nat_eq m n ≡ b → option_map (with_holds (counted m l - fields_in m l)) (option_map face (cond b (Some p) (object_at m l))) ≡ cond b (Some (new_object p.slot (p.item).body)) (option_map (with_holds (counted m l - fields_in m l)) (face_at m l))
       each m false is = refl
       each m true is =
           let nothing : object_at m l ≡ None = ap (λ (k : ℕ). object_at k l) (eqb-true m n is) ∙ none in
@@ -168,34 +168,34 @@ got (y ∷ xs) zero x within is = ap Some (sym is)
 got (y ∷ xs) (suc i) x within is = got xs i x (omega arith) is
 
 -- what a box that is drawn leaves
-pub drawn_is : {B : Type 0} (G : Ghosts B) (kind : ℕ) (t : Table B) (n slot place : ℕ) (box : B) (objects : List (ℕ × Living B)) (pool : List B) → first_of_kind G kind t ≡ Some place → slice_get t.pool place ≡ Some box → n ≡ t.last + 1 → objects ≡ with_at n (made slot (Host box)) t.objects → pool ≡ remove t.pool place → IsSomeAnd (first_of_kind G kind t) (λ place. IsSomeAnd (slice_get t.pool place) (λ box. IsSomeAnd (slot_of n (record t { objects = objects; pool = pool; last = n })) (λ slot. record t { objects = objects; pool = pool; last = n } ≡ record (with_made slot (Host box) t) { pool = remove t.pool place })))
+pub drawn_is : {B : Type 0} (G : Ghosts B) (kind : ℕ) (t : Table B) (n slot place : ℕ) (box : B) (objects : List (ℕ × Living B)) (pool : List B) → first_of_kind G kind t ≡ Some place → slice_get t.pool place ≡ Some box → n ≡ t.last + 1 → objects ≡ with_at n (new_object slot (Host box)) t.objects → pool ≡ remove t.pool place → IsSomeAnd (first_of_kind G kind t) (λ place. IsSomeAnd (slice_get t.pool place) (λ box. IsSomeAnd (slot_of n (record t { objects = objects; pool = pool; last = n })) (λ slot. record t { objects = objects; pool = pool; last = n } ≡ record (with_new_object slot (Host box) t) { pool = remove t.pool place })))
 drawn_is {B} G kind t n slot place box objects pool first there number put taken =
     rw (first, there, slot_is) final
   where
     slot_is : slot_of n (record t { objects = objects; pool = pool; last = n }) ≡ Some slot
     slot_is =
         ap (λ (l : List (ℕ × Living B)). option_map (λ object. object.slot) (object_at n l)) put
-        ∙ ap (λ (v : Option (Living B)). option_map (λ object. object.slot) v) (object_at-with_at n (made slot (Host box)) n t.objects)
-        ∙ ap (λ (b : Bool). option_map (λ object. object.slot) (cond b (Some (made slot (Host box))) (object_at n t.objects))) (eq-eqb n n refl)
+        ∙ ap (λ (v : Option (Living B)). option_map (λ object. object.slot) v) (object_at-with_at n (new_object slot (Host box)) n t.objects)
+        ∙ ap (λ (b : Bool). option_map (λ object. object.slot) (cond b (Some (new_object slot (Host box))) (object_at n t.objects))) (eq-eqb n n refl)
 
-    final : record t { objects = objects; pool = pool; last = n } ≡ record (with_made slot (Host box) t) { pool = remove t.pool place }
+    final : record t { objects = objects; pool = pool; last = n } ≡ record (with_new_object slot (Host box) t) { pool = remove t.pool place }
     final =
         ap (λ (l : List (ℕ × Living B)). record t { objects = l; pool = pool; last = n }) put
-        ∙ ap (λ (p : List B). record t { objects = with_at n (made slot (Host box)) t.objects; pool = p; last = n }) taken
-        ∙ ap (λ (k : ℕ). record t { objects = with_at k (made slot (Host box)) t.objects; pool = remove t.pool place; last = k }) number
+        ∙ ap (λ (p : List B). record t { objects = with_at n (new_object slot (Host box)) t.objects; pool = p; last = n }) taken
+        ∙ ap (λ (k : ℕ). record t { objects = with_at k (new_object slot (Host box)) t.objects; pool = remove t.pool place; last = k }) number
 
 -- what an object that is made leaves
-pub made_is : {B : Type 0} (t : Table B) (n slot : ℕ) (body : Body B) (objects : List (ℕ × Living B)) → n ≡ t.last + 1 → objects ≡ with_at n (made slot body) t.objects → IsSomeAnd (slot_of n (record t { objects = objects; last = n })) (λ slot. record t { objects = objects; last = n } ≡ with_made slot body t)
+pub made_is : {B : Type 0} (t : Table B) (n slot : ℕ) (body : Body B) (objects : List (ℕ × Living B)) → n ≡ t.last + 1 → objects ≡ with_at n (new_object slot body) t.objects → IsSomeAnd (slot_of n (record t { objects = objects; last = n })) (λ slot. record t { objects = objects; last = n } ≡ with_new_object slot body t)
 made_is {B} t n slot body objects number put =
     rw slot_is final
   where
     slot_is : slot_of n (record t { objects = objects; last = n }) ≡ Some slot
     slot_is =
         ap (λ (l : List (ℕ × Living B)). option_map (λ object. object.slot) (object_at n l)) put
-        ∙ ap (λ (v : Option (Living B)). option_map (λ object. object.slot) v) (object_at-with_at n (made slot body) n t.objects)
-        ∙ ap (λ (b : Bool). option_map (λ object. object.slot) (cond b (Some (made slot body)) (object_at n t.objects))) (eq-eqb n n refl)
+        ∙ ap (λ (v : Option (Living B)). option_map (λ object. object.slot) v) (object_at-with_at n (new_object slot body) n t.objects)
+        ∙ ap (λ (b : Bool). option_map (λ object. object.slot) (cond b (Some (new_object slot body)) (object_at n t.objects))) (eq-eqb n n refl)
 
-    final : record t { objects = objects; last = n } ≡ with_made slot body t
+    final : record t { objects = objects; last = n } ≡ with_new_object slot body t
     final =
         ap (λ (l : List (ℕ × Living B)). record t { objects = l; last = n }) put
-        ∙ ap (λ (k : ℕ). record t { objects = with_at k (made slot body) t.objects; last = k }) number
+        ∙ ap (λ (k : ℕ). record t { objects = with_at k (new_object slot body) t.objects; last = k }) number

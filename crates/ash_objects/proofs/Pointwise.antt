@@ -1,11 +1,11 @@
--- Lists that are changed place by place, from the prefix, and lists that are taken apart from the end.
+-- Lists that are changed place by place, from the first on, and lists that are taken apart from the end.
 use Rattle.std.proofs.Common.{◌≡◌, ℕ, List, [], ◌∷◌, refl, sym, ap, ◌∙◌, arith, Some, length, zero, suc, ◌+◌, ◌++◌, ◌≤◌, ◌<◌, ◌⊎◌, inl, inr, set, take, drop, map, min}
 use Rattle.std.specs.Prelude.{slice_get}
 use Rattle.std.proofs.lemmas.Bool.{cases_lt}
 use Rattle.std.proofs.lemmas.List.{length-set, length-take}
 use Rattle.std.proofs.lemmas.Option.{slice_get_within}
 
--- what stands at a place of a list that was made item by item
+-- what is at a place of a list that was made item by item
 pub got_map : {A C : Type 0} (f : A → C) (xs : List A) (k : ℕ) (x : A) (y : C) → slice_get xs k ≡ Some x → slice_get (map f xs) k ≡ Some y → f x ≡ y
 got_map f [] k x y was is = absurd (cc)
 got_map f (z ∷ xs) zero x y was is =
@@ -68,7 +68,7 @@ module _ {A : Type 0} (P : ℕ → A → A → Type 0) where
       let within = slice_get_within old place one was in
       h.done place one other (omega (arith, within, over)) was is
 
--- what stands before a place stands there
+-- what is at a place of a prefix is at that place of the list
 pub prefix_at : {A : Type 0} (k : ℕ) (xs : List A) (j : ℕ) (x : A) → slice_get (take k xs) j ≡ Some x → (j < k) × (slice_get xs j ≡ Some x)
 prefix_at zero xs j x h = absurd (cc)
 prefix_at (suc k) [] j x h = absurd (cc)
@@ -76,7 +76,7 @@ prefix_at (suc k) (y ∷ xs) zero x h = (omega arith, h)
 prefix_at (suc k) (y ∷ xs) (suc j) x h = let later = prefix_at k xs j x h in (omega (arith, later.0), later.1)
 
 module _ {A : Type 0} (P : ℕ → A → A → Type 0) where
-  -- what is before the place that was reached
+  -- the prefix before the place that was reached
   pub prefix_many : (k : ℕ) (old cur : List A) → IsDone P k old cur → length (take k cur) ≡ length (take k old)
   prefix_many k old cur h = length-take k cur ∙ ap (λ (n : ℕ). min k n) h.many ∙ sym (length-take k old)
 

@@ -20,12 +20,12 @@ use Rattle.ash_objects.proofs.Pointwise.{IsPopped, popped}
 use Rattle.ash_objects.proofs.Drawing.{fit_length}
 
 -- an entry before all others is put before them
-pub with_at_prefix : {A : Type 0} (n : ℕ) (p : A) (l : List (ℕ × A)) → IsStrictlySortedBy nat_cmp (n ∷ numbers l) → with_at n p l ≡ (n, p) ∷ l
+pub with_at_first : {A : Type 0} (n : ℕ) (p : A) (l : List (ℕ × A)) → IsStrictlySortedBy nat_cmp (n ∷ numbers l) → with_at n p l ≡ (n, p) ∷ l
 unfolding IsStrictlySortedBy
-with_at_prefix n p [] s = refl
-with_at_prefix n p (f ∷ l) s = ap (λ o. match_ordering o ((n, p) ∷ f ∷ l) ((f.0, p) ∷ l) (f ∷ with_at n p l)) s.0.0
+with_at_first n p [] s = refl
+with_at_first n p (f ∷ l) s = ap (λ o. match_ordering o ((n, p) ∷ f ∷ l) ((f.0, p) ∷ l) (f ∷ with_at n p l)) s.0.0
 
--- what stands after some of the objects is in order
+-- what comes after some of the objects is in order
 pub order_drop : {A : Type 0} (k : ℕ) (l : List (ℕ × A)) → IsInOrder l → IsInOrder (drop k l)
 order_drop zero l o = o
 order_drop (suc k) [] o = o
@@ -82,10 +82,10 @@ module _ {B : Type 0} where
       go true later = put.2
       go false later = later
 
-  -- an object that is put before those after it
-  pub put_prefix : (objects : List Stored) (boxes : List (Option B)) (k : ℕ) (object : Stored) (box : Option B) (p : Placed B) (l : List (ℕ × Placed B)) → IsInOrder (stored_in objects) → drop k objects ≡ object ∷ drop (k + 1) objects → drop k boxes ≡ box ∷ drop (k + 1) boxes → ArePut (drop (k + 1) objects) (drop (k + 1) boxes) l → with_taken object.body box ≡ Some (p.item).body → IsFresh p → ArePut (drop k objects) (drop k boxes) (with_at object.number p l)
-  put_prefix objects boxes k object box p l order os bs put is fresh =
-      subst (λ (es : List (ℕ × Placed B)). ArePut (drop k objects) (drop k boxes) es) (sym (with_at_prefix object.number p l sorted)) (rw (os, bs) (refl, is, fresh, put))
+  -- an object that is put before all others
+  pub put_first : (objects : List Stored) (boxes : List (Option B)) (k : ℕ) (object : Stored) (box : Option B) (p : Placed B) (l : List (ℕ × Placed B)) → IsInOrder (stored_in objects) → drop k objects ≡ object ∷ drop (k + 1) objects → drop k boxes ≡ box ∷ drop (k + 1) boxes → ArePut (drop (k + 1) objects) (drop (k + 1) boxes) l → with_taken object.body box ≡ Some (p.item).body → IsFresh p → ArePut (drop k objects) (drop k boxes) (with_at object.number p l)
+  put_first objects boxes k object box p l order os bs put is fresh =
+      subst (λ (es : List (ℕ × Placed B)). ArePut (drop k objects) (drop k boxes) es) (sym (with_at_first object.number p l sorted)) (rw (os, bs) (refl, is, fresh, put))
     where
       ordered : IsInOrder (stored_in (object ∷ drop (k + 1) objects))
       ordered = subst (λ (xs : List Stored). IsInOrder (stored_in xs)) os (subst (λ (es : List (ℕ × Body Saved)). IsInOrder es) (drop-map (λ object. (object.number, object.body)) k objects) (order_drop k (stored_in objects) order))
@@ -180,7 +180,7 @@ module _ {B : Type 0} where
       left = first.left;
       right = subst (λ (n : ℕ). bs' ≡ take n boxes) same second.left;
       within = let inside = first.within in omega (arith, inside);
-      put = put_prefix objects boxes (length os') object box p l order first.next next after is fresh;
+      put = put_first objects boxes (length os') object box p l order first.next next after is fresh;
     }
 
   -- all are put

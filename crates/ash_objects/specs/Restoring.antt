@@ -5,7 +5,7 @@ use Rattle.std.specs.List.{remove, position}
 use Rattle.std.specs.declared.vec.Vec.{Vec}
 use Rattle.std.specs.declared.alloc.Global.{Global}
 use Rattle.ash_host.specs.declared.host_object.HostObject.{Ghosts}
-use Rattle.ash_host.specs.Calls.{SameRelation}
+use Rattle.ash_host.specs.Calls.{SameRelation, max_state}
 use Rattle.ash_host.specs.Objects.{object_at}
 use Rattle.ash_slots.specs.declared.body.Body.{Body}
 use Rattle.ash_slots.specs.declared.body.Body.TheVariants.{Script, Array, Host}
@@ -65,18 +65,18 @@ module _ {B : Type 0} where
   draw_boxes G (object ∷ objects) pool = draw_then G (kind_wanted object) pool (λ left. draw_boxes G objects left)
 
   -- A host object took a state: it has it now, and keeps its kind and its relation.
-  pub record BroughtBack (G : Ghosts B) (before : B) (bytes : List ℕ) (after : B) : Type 0 where
+  pub record RestoresState (G : Ghosts B) (before : B) (bytes : List ℕ) (after : B) : Type 0 where
     pub has : G.state after ≡ bytes
     pub same_kind : G.kind_of after ≡ G.kind_of before
     pub same_relation : SameRelation (G.allows before) (G.allows after)
-    pub bounded : length (G.state after) ≤ 1024
+    pub bounded : length (G.state after) ≤ max_state
 
   -- what an object was stored as is what it is in a table, with what became of its box in place of its kind and state
   abbrev pub IsBody : Ghosts B → Body Saved → Option B → Body B → Type 0
   IsBody G (Script script) box body = body ≡ Script script
   IsBody G (Array array) box body = body ≡ Array array
   IsBody G (Host saved) None body = ⊥
-  IsBody G (Host saved) (Some before) body = (after : B) × (body ≡ Host after) × BroughtBack G before saved.state.items after
+  IsBody G (Host saved) (Some before) body = (after : B) × (body ≡ Host after) × RestoresState G before saved.state.items after
 
   -- the same of all, in order
   abbrev pub AreBodies : Ghosts B → List Stored → List (Option B) → List (ℕ × Body B) → Type 0
@@ -101,19 +101,19 @@ module _ {B : Type 0} where
     pub unmarked : (number : ℕ) → IfSome (object_at number table.objects) (λ object. object.touched ≡ false)
 
   -- services, each with the state that it had
-  pub record AreBack (G : Ghosts B) (before : List B) (states : List (List ℕ)) (after : List B) : Type 0 where
+  pub record RestoresServices (G : Ghosts B) (before : List B) (states : List (List ℕ)) (after : List B) : Type 0 where
     pub many : length after ≡ length before
-    pub each : (place : ℕ) (one other : B) (bytes : List ℕ) → slice_get before place ≡ Some one → slice_get after place ≡ Some other → slice_get states place ≡ Some bytes → BroughtBack G one bytes other
+    pub each : (place : ℕ) (one other : B) (bytes : List ℕ) → slice_get before place ≡ Some one → slice_get after place ≡ Some other → slice_get states place ≡ Some bytes → RestoresState G one bytes other
 
   -- what became of what an object took
-  abbrev pub IsBack : Ghosts B → Body Saved → Option B → Option B → Type 0
-  IsBack G body None after = after ≡ None
-  IsBack G body (Some before) after = (box : B) × (after ≡ Some box) × BroughtBack G before (bytes_of body) box
+  abbrev pub RestoresBox : Ghosts B → Body Saved → Option B → Option B → Type 0
+  RestoresBox G body None after = after ≡ None
+  RestoresBox G body (Some before) after = (box : B) × (after ≡ Some box) × RestoresState G before (bytes_of body) box
 
   -- what objects took, each box with the state that its object had
-  pub record AreBoxesBack (G : Ghosts B) (objects : List Stored) (before after : List (Option B)) : Type 0 where
+  pub record RestoresBoxes (G : Ghosts B) (objects : List Stored) (before after : List (Option B)) : Type 0 where
     pub many : length after ≡ length before
-    pub each : (place : ℕ) (object : Stored) (one other : Option B) → slice_get objects place ≡ Some object → slice_get before place ≡ Some one → slice_get after place ≡ Some other → IsBack G object.body one other
+    pub each : (place : ℕ) (object : Stored) (one other : Option B) → slice_get objects place ≡ Some object → slice_get before place ≡ Some one → slice_get after place ≡ Some other → RestoresBox G object.body one other
 
   -- The service at a place refused its state, and those before it took theirs.
   pub record ServiceRefused (G : Ghosts B) (services : List B) (states : List (List ℕ)) : Type 0 where
@@ -123,7 +123,7 @@ module _ {B : Type 0} where
     pub back : List B
     pub there : slice_get services place ≡ Some service
     pub state : slice_get states place ≡ Some bytes
-    pub before : AreBack G (take place services) states back
+    pub before : RestoresServices G (take place services) states back
     pub refused : G.refuses service bytes
 
   -- The box that the object of a number took refused the object's state, and those before it took theirs.
@@ -135,14 +135,14 @@ module _ {B : Type 0} where
     pub there : slice_get objects place ≡ Some object
     pub named : object.number ≡ number
     pub took : slice_get boxes place ≡ Some (Some box)
-    pub before : AreBoxesBack G objects (take place boxes) back
+    pub before : RestoresBoxes G objects (take place boxes) back
     pub refused : G.refuses box (bytes_of object.body)
 
   -- What was refused, once the pool was long enough: the state of the first service that refused; or, where all services
   -- took theirs, the state of the first host object, by number, whose box refused.
   pub data IsRefused (G : Ghosts B) (objects : List Stored) (states : List (List ℕ)) (pool services : List B) : ℕ → Type 0 where
     Service : (boxes : List (Option B)) (left : List B) → draw_boxes G objects pool ≡ Enough boxes left → ServiceRefused G services states → IsRefused G objects states pool services 0
-    Object : (number : ℕ) (boxes : List (Option B)) (left back : List B) → draw_boxes G objects pool ≡ Enough boxes left → AreBack G services states back → BoxRefused G objects boxes number → IsRefused G objects states pool services number
+    Object : (number : ℕ) (boxes : List (Option B)) (left back : List B) → draw_boxes G objects pool ≡ Enough boxes left → RestoresServices G services states back → BoxRefused G objects boxes number → IsRefused G objects states pool services number
 
   -- an object with what it took in place of its kind and state; nothing where it took nothing and had to
   abbrev pub with_taken : Body Saved → Option B → Option (Body B)

@@ -3,7 +3,7 @@ ghost use Rattle.std.specs.Prelude.{◌≡◌, ◌<◌, ◌≤◌, ◌-◌, ◌+
 ghost use Rattle.std.specs.Prelude.{take, length, slice_get, Some, IsSome, IfSome, OnOk, OnErr, IsErrOf};
 ghost use Rattle.ash_objects.specs.declared.arrays.LengthFault.{LengthFault};
 ghost use Rattle.ash_host.specs.Objects.{IsInOrder};
-ghost use Rattle.ash_objects.specs.Table.{slot_of, IsAlive, with_object, with_field};
+ghost use Rattle.ash_objects.specs.Table.{slot_of, IsAlive, with_object, with_field, max_elements};
 ghost use Rattle.ash_objects.specs.Arrays.{elements_at, array_at, with_elements};
 ghost use Rattle.ash_slots.specs.Arrays.{lengthened};
 
@@ -136,7 +136,7 @@ impl<B> Objects<B> {
     fn lengthen(&mut self, slot: usize, len: usize) -> Result<(), NoMemory>
         requires array { (number : ℕ) × (slot_of number self.old ≡ Some slot)
             × IsSome (array_at number self.old) }
-        requires short { len ≤ 4096 }
+        requires short { len ≤ max_elements }
         ensures lengthened { OnOk result ((number : ℕ) → slot_of number self.old ≡ Some slot
             → IfSome (array_at number self.old) (λ array. self.new
             ≡ with_object number (with_elements (lengthened len array)) self.old)) }
@@ -157,7 +157,7 @@ impl<B> Objects<B> {
             ≡ with_object number (with_elements (take len array.elements)) self.old) }
     {
         let mut words = take_elements(&mut self.store, slot);
-        release_words(&mut self.store, words.after(len));
+        release_words(&mut self.store, words.suffix(len));
         words.truncate(len);
         put_elements(&mut self.store, slot, words);
         self.marks.mark(slot);
@@ -168,7 +168,7 @@ impl<B> Objects<B> {
     pub fn resize_at(&mut self, slot: usize, len: usize) -> Result<(), LengthFault>
         requires { (number : ℕ) × (slot_of number self.old ≡ Some slot)
             × IsSome (array_at number self.old) }
-        ensures long { IsErrOf result LengthFault.TooLong ↔ (4096 < len) }
+        ensures long { IsErrOf result LengthFault.TooLong ↔ (max_elements < len) }
         ensures shorter { OnOk result ((number : ℕ) → slot_of number self.old ≡ Some slot
             → IfSome (array_at number self.old) (λ array. len ≤ length array.elements
             → self.new ≡ with_object number (with_elements (take len array.elements)) self.old)) }
@@ -197,7 +197,7 @@ impl<B> Objects<B> {
     /// held it; what is added is zero or null. It takes memory only where the array has fewer elements.
     pub fn resize(&mut self, number: u64, len: usize) -> Result<(), LengthFault>
         requires { IsSome (array_at number self.old) }
-        ensures long { IsErrOf result LengthFault.TooLong ↔ (4096 < len) }
+        ensures long { IsErrOf result LengthFault.TooLong ↔ (max_elements < len) }
         ensures shorter { OnOk result (IfSome (array_at number self.old)
             (λ array. len ≤ length array.elements
             → self.new ≡ with_object number (with_elements (take len array.elements)) self.old)) }
@@ -221,7 +221,7 @@ impl<B> Objects<B> {
         requires alive { IsAlive word self.old }
         ensures long { (number : ℕ) → slot_of number self.old ≡ Some slot
             → IfSome (array_at number self.old) (λ array. IsErrOf result LengthFault.TooLong
-            ↔ (4096 ≤ length array.elements)) }
+            ↔ (max_elements ≤ length array.elements)) }
         ensures inserted { OnOk result ((number : ℕ) → slot_of number self.old ≡ Some slot
             → IfSome (array_at number self.old) (λ array. self.new
             ≡ with_object number (with_elements (array.elements ++ word ∷ [])) self.old)) }
@@ -243,7 +243,7 @@ impl<B> Objects<B> {
         requires array { IsSome (array_at number self.old) }
         requires alive { IsAlive word self.old }
         ensures long { IsErrOf result LengthFault.TooLong
-            ↔ IfSome (array_at number self.old) (λ array. 4096 ≤ length array.elements) }
+            ↔ IfSome (array_at number self.old) (λ array. max_elements ≤ length array.elements) }
         ensures inserted { OnOk result (IfSome (array_at number self.old) (λ array. self.new
             ≡ with_object number (with_elements (array.elements ++ word ∷ [])) self.old)) }
         ensures unchanged { OnErr result (self.new ≡ self.old) }

@@ -25,4 +25,4 @@ pub use ash_slots::{Array, Body, Element, Script, Words};
 pub use making::{MAX_ELEMENTS, MAX_OBJECTS, MakeFault};
 pub use marking::Touched;
 pub use objects::Objects;
-pub use restoring::{Saved, Stored, TableFault};
+pub use restoring::{Saved, Stored, StoredObjects, TableFault};

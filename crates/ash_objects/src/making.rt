@@ -7,8 +7,8 @@ ghost use Rattle.ash_host.specs.declared.event.Event.{Event};
 ghost use Rattle.ash_objects.specs.declared.making.MakeFault.{MakeFault};
 ghost use Rattle.ash_slots.specs.declared.body.Body.{Body};
 ghost use Rattle.ash_slots.specs.Bodies.{words_of, initial_of};
-ghost use Rattle.ash_objects.specs.Table.{slot_of, IsAlive};
-ghost use Rattle.ash_objects.specs.Making.{IsFull, IsSpent, first_of_kind, with_made};
+ghost use Rattle.ash_objects.specs.Table.{slot_of, IsAlive, max_objects, max_elements};
+ghost use Rattle.ash_objects.specs.Making.{IsFull, IsSpent, first_of_kind, with_new_object};
 
 use crate::counting::refer_words;
 use crate::objects::Objects;
@@ -47,7 +47,7 @@ impl<B> Objects<B> {
     // The number of the next object.
     fn next_number(&self) -> Result<u64, MakeFault>
         ensures number { IfOk result (λ number. number ≡ self.now.last + 1) }
-        ensures room { OnOk result (length self.now.objects < 4096) }
+        ensures room { OnOk result (length self.now.objects < max_objects) }
         ensures full { IsErrOf result MakeFault.ObjectLimit ↔ IsFull self.now }
         ensures spent { IsErrOf result MakeFault.NumbersSpent
             ↔ ((IsFull self.now → ⊥) × IsSpent self.now) }
@@ -69,12 +69,12 @@ impl<B: HostObject> Objects<B> {
     // Puts a new object into the table under the next number.
     fn make(&mut self, next: u64, body: Body<B>) -> Result<(), NoMemory>
         requires next { next ≡ self.old.last + 1 }
-        requires room { length self.old.objects < 4096 }
-        requires short { length (words_of body) ≤ 4096 }
+        requires room { length self.old.objects < max_objects }
+        requires short { length (words_of body) ≤ max_elements }
         requires alive { All (λ word. IsAlive word self.old) (words_of body) }
         ensures unchanged { OnErr result (self.new ≡ self.old) }
         ensures made { OnOk result (IsSomeAnd (slot_of next self.new)
-            (λ slot. self.new ≡ with_made slot body self.old)) }
+            (λ slot. self.new ≡ with_new_object slot body self.old)) }
     {
         self.marks.reserve(self.store.vacant())?;
         let item = Item {
@@ -95,7 +95,7 @@ impl<B: HostObject> Objects<B> {
     /// order of declaration, and gives it the next number. The objects that its fields are handles to are counted once
     /// more for each; nothing holds the new one yet.
     pub fn new_script(&mut self, owner: u8, class: u16, fields: Words) -> Result<u64, MakeFault>
-        requires short { length fields ≤ 4096 }
+        requires short { length fields ≤ max_elements }
         requires alive { All (λ word. IsAlive word self.old) fields }
         ensures full { IsErrOf result MakeFault.ObjectLimit ↔ IsFull self.old }
         ensures spent { IsErrOf result MakeFault.NumbersSpent
@@ -106,7 +106,7 @@ impl<B: HostObject> Objects<B> {
         ensures number { IfOk result (λ number. number ≡ self.old.last + 1) }
         ensures made { IfOk result
             (λ number. IsSomeAnd (slot_of number self.new)
-            (λ slot. self.new ≡ with_made slot
+            (λ slot. self.new ≡ with_new_object slot
             (Body.Script (record { «module» = owner; class = class; fields = fields })) self.old)) }
     {
         let number = self.next_number()?;
@@ -127,13 +127,13 @@ impl<B: HostObject> Objects<B> {
         ensures spent { IsErrOf result MakeFault.NumbersSpent
             ↔ ((IsFull self.old → ⊥) × IsSpent self.old) }
         ensures long { IsErrOf result MakeFault.ArrayLimit
-            ↔ ((IsFull self.old → ⊥) × (IsSpent self.old → ⊥) × (4096 < length)) }
+            ↔ ((IsFull self.old → ⊥) × (IsSpent self.old → ⊥) × (max_elements < length)) }
         ensures pool { IsErrOf result MakeFault.PoolEmpty → ⊥ }
         ensures unchanged { OnErr result (self.new ≡ self.old) }
         ensures number { IfOk result (λ number. number ≡ self.old.last + 1) }
         ensures made { IfOk result
             (λ number. IsSomeAnd (slot_of number self.new)
-            (λ slot. self.new ≡ with_made slot
+            (λ slot. self.new ≡ with_new_object slot
             (Body.Array (record { element = element; elements = replicate length
             (initial_of element) })) self.old)) }
     {
@@ -172,7 +172,7 @@ impl<B: HostObject> Objects<B> {
         ensures drawn { IfOk result (λ number. IsSomeAnd (first_of_kind B.HostObject kind self.old)
             (λ place. IsSomeAnd (slice_get self.old.pool place)
             (λ box. IsSomeAnd (slot_of number self.new)
-            (λ slot. self.new ≡ record (with_made slot (Body.Host box) self.old)
+            (λ slot. self.new ≡ record (with_new_object slot (Body.Host box) self.old)
             { pool = remove self.old.pool place })))) }
     {
         let number = self.next_number()?;

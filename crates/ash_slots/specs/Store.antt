@@ -29,7 +29,7 @@ module _ {B : Type 0} where
   with_entry number slot None rest = rest
   with_entry number slot (Some entry) rest = (number, placed slot entry) ∷ rest
 
-  -- the objects that stand in these slots, each slot with its object's number
+  -- the objects that are in these slots, each slot with its object's number
   abbrev pub placed_in : Slab (Entry B) → List (ℕ × ℕ) → List (ℕ × Placed B)
   placed_in entries [] = []
   placed_in entries (e ∷ index) = with_entry e.0 e.1 (get entries e.1) (placed_in entries index)

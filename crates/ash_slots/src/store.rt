@@ -24,9 +24,9 @@ pub struct Store<B> {
 
 impl<B> Model for Store<B> {
     ghost use Rattle.std.specs.Prelude.{length, vec_capacity};
-    ghost use Rattle.ash_slots.specs.Store.{Store as Shelf, placed_in, IsStored};
+    ghost use Rattle.ash_slots.specs.Store.{Store as StoreModel, placed_in, IsStored};
 
-    ghost Value = { Shelf B };
+    ghost Value = { StoreModel B };
 
     ghost view = { λ s. record {
       objects = placed_in s.entries s.index.entries;

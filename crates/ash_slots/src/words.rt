@@ -43,8 +43,8 @@ impl Words {
         self.words.as_slice()
     }
 
-    /// The words from a place on, in order; none where there is no such place.
-    pub fn after(&self, place: usize) -> &[Word]
+    /// The words from a place on, in order; none where the place is beyond them.
+    pub fn suffix(&self, place: usize) -> &[Word]
         ensures { result.now ≡ drop place self.now }
     {
         match self.words.get(place..) {

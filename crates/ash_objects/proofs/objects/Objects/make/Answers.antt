@@ -3,7 +3,7 @@ use Rattle.ash_host.specs.Objects.{with_at}
 use Rattle.ash_slots.specs.Bodies.{words_of}
 use Rattle.ash_slots.specs.Store.{Placed}
 use Rattle.ash_objects.specs.Counting.{living_in, refer_all}
-use Rattle.ash_objects.specs.Making.{made}
+use Rattle.ash_objects.specs.Making.{new_object}
 use Rattle.ash_objects.proofs.Referring.{all_alive_view, all_face}
 use Rattle.ash_objects.proofs.Newcomers.{length-living, made_is, view_new, table_new, absent, slot_new, words_new, alive_new, fits_new}
 use Rattle.ash_objects.proofs.Listed.{listed_covers, listed_new, listed_faces}
@@ -61,7 +61,7 @@ returns-clause-made g c =
     let alive = all_alive_view (words_of c.args.body) l (rw (← c.self.view_is) at c.requires.alive) in
     let here = slot_new n p l t.in_order t.counted none alive refl in
     let referred = rw c.in-Ok.ensures.objects at (c.refer_words.ensures n) in
-    let put : living_in c.refer_words.new.store.objects ≡ with_at n (made c.in-Ok.slot c.args.body) (living_in l) =
+    let put : living_in c.refer_words.new.store.objects ≡ with_at n (new_object c.in-Ok.slot c.args.body) (living_in l) =
     ap living_in (referred here ∙ ap (λ ws. refer_all ws (with_at n p l)) (words_new n p l t.in_order t.counted none alive refl))
     ∙ view_new n p l t.in_order t.counted none alive refl refl in
     rw (← c.self.view_is) (made_is _ n c.in-Ok.slot c.args.body (living_in c.refer_words.new.store.objects) number put)
