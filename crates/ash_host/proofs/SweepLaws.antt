@@ -10,7 +10,7 @@ use Rattle.ash_host.proofs.Membership.{is_among-numbers, or_first, or_second}
 use Rattle.ash_host.proofs.Order.{same_in_order}
 use Rattle.ash_host.proofs.ReachLaws.{is_reachable_says, is_reachable_yes}
 
--- what stands at a number decides what is referred to from there
+-- what is at a number decides what is referred to from there
 pub references_same : {M : Type 0} (a b : Objects M) (one other : ℕ) → object_at one a ≡ object_at one b → Refers a one other → Refers b one other
 references_same a b one other e r = subst (λ o. Contains (option_map_or (λ object. handles (fields_of object)) o []) other) e r
 

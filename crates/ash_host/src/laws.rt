@@ -33,7 +33,7 @@ pub fn count_is_references<M>()
     ensures { CountIsReferences M }
 {}
 
-/// An object that is put at a number changes that number alone, and the counts by what it holds.
+/// An object that is put at a number changes that number only, and the counts by what it holds.
 pub fn put_is_exact<M>()
     ensures { PutIsExact M }
 {}

@@ -2,7 +2,7 @@
 //! host objects, the objects of the embedding program that handles refer to, with the two kinds that come with the
 //! product. It stands on no other crate, so that all others can use it. It promises that the integer operators are
 //! those of whole numbers, reduced to the width of their type, and of every host object that each answer lies
-//! within the relation that its kind reports.
+//! within the relation of its kind.
 //!
 //! In reading order: `word` (values), `answer` (what a call of a host object answers), `fault` (why one isn't saved
 //! or restored), `host_object` (the trait), `counter` and `tally` (the kinds that come with the product, with `int`,

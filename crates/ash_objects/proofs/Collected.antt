@@ -35,7 +35,7 @@ module _ {B : Type 0} where
   abbrev pub living_mark : ℕ × Living B → ℕ × Bool
   living_mark e = (e.0, is_boxed (e.1).body)
 
-  -- what a contract sees of reports
+  -- the events of what a contract sees
   pub since_is : (settled : ℕ) (gone : List (ℕ × Living B)) → gone_since settled gone ≡ marked_since settled (map living_mark gone)
   since_is settled [] = refl
   since_is settled (e ∷ gone) = ap (λ (l : List ℕ). cond (nat_le e.0 settled) (e.0 ∷ l) l) (since_is settled gone)

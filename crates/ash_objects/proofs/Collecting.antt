@@ -251,7 +251,7 @@ module _ {B : Type 0} where
     some_other m true e = cc
     some_other m false e = refl
 
-    -- who lives still is another, and lived
+    -- what lives still is another, and lived
     lives_taken : (m : ℕ) → Lives l3 m → Lives l2 m
     lives_taken m lives = lives_face m l2 l3 (sym (released_face ws m l2)) lives
 
@@ -291,7 +291,7 @@ module _ {B : Type 0} where
         let one : (p.item).count ≡ 1 = omega arith in
         ap (λ (b : Bool). cond b true p.waiting) (eq-eqb (p.item).count 1 one)
 
-    -- who is no longer there was not held
+    -- what is no longer there was not held
     gone_now : (m : ℕ) → object_at m l3 ≡ None → counted m old ≤ fields_in m old
     gone_now m none = go (nat_eq entry.number m) refl
       where

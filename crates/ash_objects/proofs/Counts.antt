@@ -1,4 +1,4 @@
--- What is kept of counts, and what a contract sees of it.
+-- The counts that are stored, and what a contract sees of them.
 use Rattle.std.proofs.Common.{◌≡◌, ℕ, Bool, true, false, cond, List, [], ◌∷◌, refl, sym, subst, ap, ◌∙◌, nat_eq, arith, Option, Some, None, length, ◌+◌, ◌-◌, ◌≤◌, ◌<◌, ◌^◌, ◌*◌}
 use Rattle.std.specs.Prelude.{IsSome, IfSome}
 use Rattle.std.specs.Option.{option_map, option_map_or}
@@ -36,7 +36,7 @@ module _ {B : Type 0} where
       let b = sum_by-cons (holding n) e.1 (values_of l) in
       omega (arith, a, b, fields-living n all l)
 
-  -- what a contract sees of two stores differs at one number alone
+  -- what a contract sees of two stores differs at one number only
   pub view_change : (old new : List (ℕ × Placed B)) (n : ℕ) (f : Living B → Living B) → IsInOrder old → IsInOrder new → ((m : ℕ) → option_map (living (fields_in m new)) (object_at m new) ≡ cond (nat_eq n m) (option_map f (option_map (living (fields_in m old)) (object_at m old))) (option_map (living (fields_in m old)) (object_at m old))) → living_in new ≡ change_at n f (living_in old)
   view_change old new n f o p each =
       same_in_order (living_in new) (change_at n f (living_in old)) (rw (numbers-living new new) p) (in_order-change n f (living_in old) (rw (numbers-living old old) o))
@@ -62,7 +62,7 @@ module _ {B : Type 0} where
   pub counted_fits : (n : ℕ) (l : List (ℕ × Placed B)) → IsInOrder l → AreCounted l → counted n l ≤ 2 ^ 127 + 2 ^ 24
   counted_fits n l o s = omega (arith, s.bounded n, s.few, fields_small n l o s.short)
 
-  -- the count that is kept is the one that a contract sees
+  -- the count that is stored is the one that a contract sees
   pub count_is : (n : ℕ) (l : List (ℕ × Placed B)) → AreCounted l → option_map_or (λ object. object.holds) (object_at n (living_in l)) 0 + fields_holding n (living_in l) ≡ counted n l
   count_is n l s =
       go (object_at n l) refl

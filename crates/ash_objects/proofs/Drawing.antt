@@ -112,7 +112,7 @@ module _ {B : Type 0} where
     each = λ place. back.each (suc place);
   }
 
-  -- the boxes still fit once they are back
+  -- the boxes still fit once they are restored
   pub fit_restored : (G : Ghosts B) (objects : List Stored) (before after : List (Option B)) → AreFit objects before → RestoresBoxes G objects before after → AreFit objects after
   fit_restored G [] [] [] fit back = tt
   fit_restored G [] [] (other ∷ after) fit back = let many = back.many in absurd (cc)

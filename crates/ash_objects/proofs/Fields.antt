@@ -38,7 +38,7 @@ hits_word m (words.Object k) = refl
 same_test : (a b : ℕ) → nat_eq a b ≡ nat_eq b a
 same_test a b = grind (arith, nat_tests)
 
--- the word that stands at a place
+-- the word that is at a place
 word_at : {A : Type 0} (ws : List A) (i : ℕ) (x d : A) → slice_get ws i ≡ Some x → (i < length ws) × (get_or ws i d ≡ x)
 word_at [] i x d h = cc
 word_at (y ∷ ws) zero x d h = (omega arith, cc)
@@ -52,7 +52,7 @@ handles-set m ws i before after there =
     let was = ap (λ (w : Word). cond {A = ℕ} (is_handle_to m w) 1 0) at.1 in
     omega (arith, sums, was, hits_word m before, hits_word m after)
 
--- a word that stands among words is counted
+-- a word that is among words is counted
 pub handles-at : (m : ℕ) (ws : List Word) (i : ℕ) (before : Word) → slice_get ws i ≡ Some before → hits (handle before) m ≤ handles_to m ws
 handles-at m ws i before there =
     let at = word_at ws i before words.Null there in
@@ -72,7 +72,7 @@ module _ {B : Type 0} where
       go None is = refl
       go (Some p) is = refl
 
-  -- what a contract sees of two stores whose counts and fields changed alike differs at one number alone
+  -- what a contract sees of two stores whose counts and fields changed alike differs at one number only
   pub view_face : (old new : List (ℕ × Placed B)) (n : ℕ) (f : Living B → Living B) → ((k : ℕ) (x : Living B) → with_holds k (f x) ≡ f (with_holds k x)) → IsInOrder old → IsInOrder new → ((m : ℕ) → face_at m new ≡ cond (nat_eq n m) (option_map f (face_at m old)) (face_at m old)) → ((m : ℕ) → counted m new - fields_in m new ≡ counted m old - fields_in m old) → living_in new ≡ change_at n f (living_in old)
   view_face old new n f apart o p faces holds =
       view_change old new n f o p
@@ -97,7 +97,7 @@ module _ {B : Type 0} where
       go true None = refl
       go true (Some p) = ap Some (same p)
 
-  -- what stands at each number after a handle was counted
+  -- what is at each number after a handle was counted
   module _ (f : Placed B → Placed B) (keeps : (p : Placed B) → face (f p) ≡ face p) where
     pub handle_face : (h : Option ℕ) (m : ℕ) (l : List (ℕ × Placed B)) → face_at m (change_handle f h l) ≡ face_at m l
     handle_face None m l = refl

@@ -42,7 +42,7 @@ module _ {B : Type 0} where
       let rises = n i j x le (omega (arith, many)) in
       omega (arith, one, two, rises)
 
--- what is appended stands before the rest
+-- what is appended comes before the rest
 pub appended : {A : Type 0} (done rest : List A) (x : A) → (done ++ x ∷ []) ++ rest ≡ done ++ x ∷ rest
 appended [] rest x = refl
 appended (y ∷ done) rest x = ap (λ (l : List _). y ∷ l) (appended done rest x)
@@ -79,7 +79,7 @@ module _ {B : Type 0} where
       ap (λ (b : Bool). done ++ cond b (Dropped e.number ∷ marked_drops (map entry_mark rest)) (marked_drops (map entry_mark rest))) (sym boxed)
       ∙ ap (λ (l : List Event). done ++ l) (sym (drops-cons e.number (is_boxed (e.item).body) (map entry_mark rest)))
 
--- what stands at a number, mapped
+-- what is at a number, mapped
 pub object_at-mapped : {A C : Type 0} (f : A → C) (m : ℕ) (l : List (ℕ × A)) → object_at m (map (λ e. (e.0, f e.1)) l) ≡ option_map f (object_at m l)
 object_at-mapped f m [] = refl
 object_at-mapped {A} {C} f m (e ∷ l) =

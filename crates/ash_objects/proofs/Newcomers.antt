@@ -47,7 +47,7 @@ module _ {B : Type 0} (n : ℕ) (p : Placed B) (l : List (ℕ × Placed B)) (o :
   pub slot_new : IsIn n p.slot (with_at n p l)
   slot_new = subst (λ (v : Option (Placed B)). IsSomeAnd v (λ object. object.slot ≡ p.slot)) (sym (at_new n ∙ ap (λ (b : Bool). cond b (Some p) (object_at n l)) (eq-eqb n n refl))) refl
 
-  -- who lived lives
+  -- what lived lives
   alive_more : (h : Option ℕ) → IfSome h (Lives l) → IfSome h (Lives (with_at n p l))
   alive_more None h = tt
   alive_more (Some m) h = subst (λ (v : Option (Placed B)). IsSome v) (sym (at_new m)) (go (nat_eq m n) (object_at m l) h)

@@ -15,7 +15,7 @@ use Rattle.ash_objects.specs.Restoring.{refer_objects}
 use Rattle.ash_objects.proofs.Referring.{all_face, all_fields, all_order, all_length, all_each, all_counted, all_alive_face, words_at_face}
 
 module _ {A : Type 0} where
-  -- each of these entries stands among all
+  -- each of these entries is among all
   abbrev pub EachIn : List (ℕ × A) → List (ℕ × A) → Type 0
   EachIn [] all = Unit {0}
   EachIn (e ∷ l) all = (object_at e.0 all ≡ Some e.1) × EachIn l all

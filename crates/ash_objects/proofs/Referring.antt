@@ -62,7 +62,7 @@ word_alive P (x ∷ ws) zero w h all = let same : x ≡ w = cc in subst P same (
 word_alive P (x ∷ ws) (suc k) w h all = word_alive P ws k w h (All-tail P x ws all)
 
 module _ {B : Type 0} where
-  -- who lives in one of two stores with the same objects lives in the other
+  -- what lives in one of two stores with the same objects lives in the other
   pub lives_face : (k : ℕ) (a b : List (ℕ × Placed B)) → face_at k a ≡ face_at k b → Lives b k → Lives a k
   lives_face k a b same h = go (object_at k a) (object_at k b) same h
     where

@@ -27,7 +27,7 @@ module _ {B : Type 0} where
     pub stock_order : IsInOrder l
     stock_order = subst (λ (ns : List ℕ). IsStrictlyIncreasing ns) (sym (put_numbers objects boxes l put)) numbered.in_order
 
-    -- who lives there is stored, and the other way round
+    -- what lives there is stored, and the other way round
     lives_there : (m : ℕ) → Lives (stored_in objects) m → Lives l m
     lives_there m h = go (object_at m l) (object_at m (stored_in objects)) (put_words m objects boxes l put) h
       where

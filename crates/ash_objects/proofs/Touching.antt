@@ -121,7 +121,7 @@ module _ {B : Type 0} where
   unmarked_order [] l o = o
   unmarked_order (n ∷ ns) l o = unmarked_order ns (change_at n unmarked l) (in_order-change n unmarked l o)
 
-  -- what stands at each number
+  -- what is at each number
   at_unmarked : (ns : List ℕ) (m : ℕ) (l : List (ℕ × Placed B)) → object_at m (unmark_all ns l) ≡ cond (is_among ns m) (option_map unmarked (object_at m l)) (object_at m l)
   at_unmarked [] m l = refl
   at_unmarked (n ∷ ns) m l =

@@ -50,7 +50,7 @@ module _ {B : Type 0} where
   pub in_view : (n slot : ℕ) (l : List (ℕ × Placed B)) → option_map (λ object. object.slot) (object_at n (living_in l)) ≡ Some slot → IsIn n slot l
   in_view n slot l h = is_in_from n slot l (sym (slot_view n l) ∙ h)
 
-  -- who lives for a contract lives
+  -- what lives for a contract lives
   pub lives_view : (n : ℕ) (l : List (ℕ × Placed B)) → Lives (living_in l) n → Lives l n
   lives_view n l h = go (object_at n l) (subst (λ (v : Option (Living B)). IsSome v) (object_at-living n l l) h)
     where

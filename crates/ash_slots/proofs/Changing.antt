@@ -10,7 +10,7 @@ use Rattle.ash_host.proofs.Order.{none_after, in_order_after, same_in_order}
 use Rattle.ash_slots.specs.Store.{Placed, AreStored, IsIn, change_in, change_at}
 
 module _ {A : Type 0} where
-  -- what stands at each number after a change at one
+  -- what is at each number after a change at one
   pub object_at-change : (n : ℕ) (f : A → A) (m : ℕ) (l : List (ℕ × A)) → object_at m (change_at n f l) ≡ cond (nat_eq n m) (option_map f (object_at m l)) (object_at m l)
   object_at-change n f m [] = go (nat_eq n m)
     where
@@ -42,7 +42,7 @@ module _ {A : Type 0} where
   pub in_order-change : (n : ℕ) (f : A → A) (l : List (ℕ × A)) → IsInOrder l → IsInOrder (change_at n f l)
   in_order-change n f l o = rw (numbers-change n f l) o
 
-  -- where nothing stands nothing changes
+  -- where nothing is nothing changes
   pub change_none : (n : ℕ) (f : A → A) (l : List (ℕ × A)) → object_at n l ≡ None → change_at n f l ≡ l
   change_none n f [] h = refl
   change_none n f (e ∷ l) h =
@@ -52,7 +52,7 @@ module _ {A : Type 0} where
       go true is later = let here = sym (ap (λ (b : Bool). cond b (Some e.1) (object_at n l)) is) ∙ h in absurd (cc)
       go false is later = ap (λ (t : List (ℕ × A)). e ∷ t) (later (sym (ap (λ (b : Bool). cond b (Some e.1) (object_at n l)) is) ∙ h))
 
-  -- a number stands once
+  -- a number is there once
   pub none_later : (n : ℕ) (e : ℕ × A) (l : List (ℕ × A)) → IsInOrder (e ∷ l) → nat_eq n e.0 ≡ true → object_at n l ≡ None
   none_later n e l o same = go (object_at n l) refl
     where
@@ -86,7 +86,7 @@ module _ {A : Type 0} where
       go false later = omega (arith, later, sum_by-cons g e.1 (values_of (change_at n f l)), sum_by-cons g e.1 (values_of l))
 
 module _ {B : Type 0} where
-  -- what stands at each number after a change in a slot
+  -- what is at each number after a change in a slot
   pub object_at-change_in : (slot : ℕ) (f : Placed B → Placed B) (m : ℕ) (l : List (ℕ × Placed B)) → object_at m (change_in slot f l) ≡ option_map (λ object. cond (nat_eq slot object.slot) (f object) object) (object_at m l)
   object_at-change_in slot f m [] = refl
   object_at-change_in slot f m (e ∷ l) =

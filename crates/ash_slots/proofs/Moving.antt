@@ -33,7 +33,7 @@ removed_by_number n (e ∷ l) = ap (λ (b : Bool). cond b l (e ∷ remove_entry 
 level : (x y : ℕ) → nat_cmp x y ≡ Equal → nat_eq x y ≡ true
 level x y h = grind (arith, nat_tests)
 
--- a number at which nothing stands is not that of the first entry, nor of a later one
+-- a number at which nothing is is not that of the first entry, nor of a later one
 not_first : {A : Type 0} (n : ℕ) (e : ℕ × A) (l : List (ℕ × A)) → object_at n (e ∷ l) ≡ None → (nat_eq n e.0 ≡ false) × (object_at n l ≡ None)
 not_first {A} n e l h = go (nat_eq n e.0) refl
   where
@@ -48,7 +48,7 @@ none_later {A} n e l o same = go (object_at n l) refl
     go None is = is
     go (Some x) is = let not_here = none_after e l n o (subst (λ (v : Option A). IsSome v) (sym is) refl) in absurd (cc)
 
--- what stands at each number once one was taken out
+-- what is at each number once one was taken out
 pub object_at-removed : {A : Type 0} (n m : ℕ) (l : List (ℕ × A)) → IsInOrder l → object_at m (remove_entry (nat_eq n) l) ≡ cond (nat_eq n m) None (object_at m l)
 object_at-removed {A} n m [] o = go (nat_eq n m)
   where
@@ -111,7 +111,7 @@ module _ {B : Type 0} where
       at_most None = omega arith
       at_most (Some entry) = flag entry.waiting
 
-  -- the slabs differ in one slot alone
+  -- the slabs differ in one slot only
   pub record SameBut (old new : Slab (Entry B)) (slot : ℕ) : Type 0 where
     pub same : (s : ℕ) → s ≢ slot → get new s ≡ get old s
 
@@ -184,7 +184,7 @@ module _ {B : Type 0} where
       new_placed : IsSomeAnd (get new slot) (λ x. x.number ≡ n)
       new_placed = subst (λ (o : Option (Entry B)). IsSomeAnd o (λ x. x.number ≡ n)) (sym now) number
 
-      -- what stands once an object came into an empty slot
+      -- what is once an object came into an empty slot
       pub inserted_in : (index : List (ℕ × ℕ)) → ArePlaced old index → object_at n index ≡ None → (placed_in new (with_at n slot index) ≡ with_at n (placed slot entry) (placed_in old index)) × ArePlaced new (with_at n slot index)
       inserted_in [] a none = (new_here [], (new_placed, tt))
       inserted_in (e ∷ index) a none =

@@ -17,7 +17,7 @@ use Rattle.ash_slots.specs.Counting.{counted, once_more, once_less, with_count, 
 use Rattle.ash_slots.proofs.Changing.{object_at-change, object_at-change_in, in_order-change, change_in_is}
 
 module _ {A : Type 0} where
-  -- changes that do the same to what stands there are one
+  -- changes that do the same to what is there are one
   pub change_same : (n : ℕ) (f g : A → A) (l : List (ℕ × A)) → IsInOrder l → ((x : A) → object_at n l ≡ Some x → f x ≡ g x) → change_at n f l ≡ change_at n g l
   change_same n f g l o same =
       same_in_order (change_at n f l) (change_at n g l) (in_order-change n f l o) (in_order-change n g l o) (λ m. object_at-change n f m l ∙ each m (nat_eq n m) refl (object_at m l) refl ∙ sym (object_at-change n g m l))

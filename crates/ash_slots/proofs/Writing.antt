@@ -144,7 +144,7 @@ module _ {B : Type 0} where
       more k None h = tt
       more k (Some x) h = λ yes. Contains-append_left idle (slot ∷ []) k (h yes)
 
-  -- who is listed still once the last of the list was taken from it
+  -- what is listed still once the last of the list was taken from it
   pub popped_listed : (old new : Slab (Entry B)) (slot : ℕ) (idle rest : List ℕ) → idle ≡ rest ++ slot ∷ [] → ((s : ℕ) → s ≢ slot → get new s ≡ get old s) → IfSome (get new slot) (λ entry. entry.waiting ≡ false) → ((s : ℕ) → IfSome (get old s) (λ entry. entry.waiting ≡ true → Contains idle s)) → (s : ℕ) → IfSome (get new s) (λ entry. entry.waiting ≡ true → Contains rest s)
   popped_listed old new slot idle rest is others unflagged each s =
       go (nat_eq slot s) refl
