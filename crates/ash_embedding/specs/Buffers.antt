@@ -1,5 +1,6 @@
 -- What a buffer of bytes answers. Its state is its bytes.
-use Rattle.std.specs.Prelude.{◌≡◌, ◌⊎◌, ℕ, ◌==◌, ◌-◌, ◌%◌, List, [], ◌∷◌, ◌++◌, length, take, slice_index, nat_lt, pos, if◌then◌else◌}
+use Rattle.std.specs.Prelude.{◌≡◌, ◌⊎◌, ℕ, ◌==◌, ◌-◌, ◌%◌, List, []}
+use Rattle.std.specs.Prelude.{◌∷◌, ◌++◌, length, take, slice_index, nat_lt, pos, if◌then◌else◌}
 use Rattle.std.specs.Int.{w32, cast_unsigned}
 use Rattle.ash_host.specs.declared.word.Word.TheVariants.{Int, Null}
 use Rattle.ash_host.specs.declared.answer.HostAnswer.{HostAnswer}
@@ -46,4 +47,5 @@ pub record IsOutOfMemory (before : List ℕ) (answer : HostAnswer) (after : List
 
 -- A buffer answers as its step says, or answers that memory ran out and changes nothing.
 abbrev pub AllowsBuffer : HostCall → List ℕ → HostAnswer → List ℕ → Type 0
-AllowsBuffer call before answer after = IsStep (buffer_step call before) answer after ⊎ IsOutOfMemory before answer after
+AllowsBuffer call before answer after = IsStep (buffer_step call before) answer after
+    ⊎ IsOutOfMemory before answer after

@@ -22,7 +22,8 @@ adds number value = let sum = int_wrap w32 (value +ℤ number) in leaves (Value 
 -- Counter's methods at one `int`: 1 adds, 2 raises with the argument's low 16 bits
 abbrev pub counter_method : ℕ → ℤ → ℤ → Outcome
 counter_method method number value =
-    if method == 1 then adds number value else (if method == 2 then leaves (Raise (low_bits_of number)) value else leaves Nothing value)
+    if method == 1 then adds number value
+    else (if method == 2 then leaves (Raise (low_bits_of number)) value else leaves Nothing value)
 
 -- What Counter answers, at the number that it has. Its factory and its property 1 set the number.
 abbrev pub counter_step : HostCall → ℤ → Outcome
@@ -40,6 +41,7 @@ tally_step (Get _) value = leaves (Value Null) value
 tally_step _ value = leaves Nothing value
 
 -- the one answer and the one state that a kind with one `int` as its state allows
-pub record AllowsByInt (step : HostCall → ℤ → Outcome) (call : HostCall) (before : List ℕ) (answer : HostAnswer) (after : List ℕ) : Type 0 where
+pub record AllowsByInt (step : HostCall → ℤ → Outcome) (call : HostCall) (before : List ℕ) (answer : HostAnswer)
+    (after : List ℕ) : Type 0 where
   pub answered : answer ≡ (step call (int_of_bytes before)).answer
   pub left : after ≡ int_bytes (step call (int_of_bytes before)).value

@@ -1,5 +1,6 @@
 -- Objects as plain data: what lives by which number, what refers to what, and how many handles there are.
-use Rattle.std.specs.Prelude.{ℕ, ◌+◌, ◌<◌, ◌≤◌, ◌==◌, Bool, true, false, List, [], Option, None, Some, IsSome, Contains, nat_eq, count_by, sum_by}
+use Rattle.std.specs.Prelude.{ℕ, ◌+◌, ◌<◌, ◌≤◌, ◌==◌, Bool, true, false, List}
+use Rattle.std.specs.Prelude.{[], Option, None, Some, IsSome, Contains, nat_eq, count_by, sum_by}
 use Rattle.std.specs.List.{filter_map}
 use Rattle.std.specs.List.Sorted.{IsStrictlyIncreasing}
 use Rattle.std.specs.Option.{option_map_or}

@@ -10,7 +10,7 @@ use Rattle.ash_slots.specs.Responses.{box_of}
 use Rattle.ash_slots.specs.Store.{Placed}
 use Rattle.ash_objects.specs.declared.restoring.Stored.{Stored}
 use Rattle.ash_objects.specs.declared.restoring.Saved.{Saved}
-use Rattle.ash_objects.specs.Restoring.{Drawn, Short, Enough, kind_wanted, draw_box, draw_others, draw_then, draw_boxes, with_box_first, RestoresBox, RestoresBoxes, IsBody, AreBodies, with_taken, AreFit, ArePut}
+use Rattle.ash_objects.specs.Restoring.{Drawn, Short, Enough, kind_wanted, draw_box, draw_others, draw_then, draw_boxes, with_box_first, RestoresBox, RestoresBoxes, IsBody, AreBodies, with_drawn, AreFit, ArePut}
 use Rattle.ash_objects.proofs.Marks.{appended}
 
 module _ {B : Type 0} where
@@ -65,11 +65,11 @@ module _ {B : Type 0} where
   fit_drawn G (object ∷ objects) pool boxes left h =
       go (λ rest bs l is. fit_drawn G objects rest bs l is) object.body refl h
     where
-      step : (box : Option B) (d : Drawn B) → IsSome (with_taken object.body box) → ((bs : List (Option B)) (l : List B) → d ≡ Enough bs l → AreFit objects bs) → with_box_first box d ≡ Enough boxes left → AreFit (object ∷ objects) boxes
+      step : (box : Option B) (d : Drawn B) → IsSome (with_drawn object.body box) → ((bs : List (Option B)) (l : List B) → d ≡ Enough bs l → AreFit objects bs) → with_box_first box d ≡ Enough boxes left → AreFit (object ∷ objects) boxes
       step box (Short kind) some later h = absurd (cc)
       step box (Enough bs l) some later h = let is : box ∷ bs ≡ boxes = cc in subst (λ (ys : List (Option B)). AreFit (object ∷ objects) ys) is (some, later bs l refl)
 
-      taking : ((rest : List B) (bs : List (Option B)) (l : List B) → draw_boxes G objects rest ≡ Enough bs l → AreFit objects bs) → (kind : ℕ) (t : Option (B × List B)) → ((box : B) → IsSome (with_taken object.body (Some box))) → draw_others kind t (λ rest. draw_boxes G objects rest) ≡ Enough boxes left → AreFit (object ∷ objects) boxes
+      taking : ((rest : List B) (bs : List (Option B)) (l : List B) → draw_boxes G objects rest ≡ Enough bs l → AreFit objects bs) → (kind : ℕ) (t : Option (B × List B)) → ((box : B) → IsSome (with_drawn object.body (Some box))) → draw_others kind t (λ rest. draw_boxes G objects rest) ≡ Enough boxes left → AreFit (object ∷ objects) boxes
       taking later kind None some h = absurd (cc)
       taking later kind (Some t) some h = step (Some t.0) (draw_boxes G objects t.1) (some t.0) (later t.1) h
 
@@ -77,9 +77,9 @@ module _ {B : Type 0} where
       at body is h = subst (λ (b : Body Saved). draw_then G (option_map (λ saved. saved.kind) (box_of b)) pool (λ rest. draw_boxes G objects rest) ≡ Enough boxes left) is h
 
       go : ((rest : List B) (bs : List (Option B)) (l : List B) → draw_boxes G objects rest ≡ Enough bs l → AreFit objects bs) → (body : Body Saved) → object.body ≡ body → draw_boxes G (object ∷ objects) pool ≡ Enough boxes left → AreFit (object ∷ objects) boxes
-      go later (Script script) is h = step None (draw_boxes G objects pool) (subst (λ (b : Body Saved). IsSome (with_taken {B = B} b None)) (sym is) refl) (later pool) (at (Script script) is h)
-      go later (Array array) is h = step None (draw_boxes G objects pool) (subst (λ (b : Body Saved). IsSome (with_taken {B = B} b None)) (sym is) refl) (later pool) (at (Array array) is h)
-      go later (Host saved) is h = taking later saved.kind (draw_box G saved.kind pool) (λ box. subst (λ (b : Body Saved). IsSome (with_taken b (Some box))) (sym is) refl) (at (Host saved) is h)
+      go later (Script script) is h = step None (draw_boxes G objects pool) (subst (λ (b : Body Saved). IsSome (with_drawn {B = B} b None)) (sym is) refl) (later pool) (at (Script script) is h)
+      go later (Array array) is h = step None (draw_boxes G objects pool) (subst (λ (b : Body Saved). IsSome (with_drawn {B = B} b None)) (sym is) refl) (later pool) (at (Array array) is h)
+      go later (Host saved) is h = taking later saved.kind (draw_box G saved.kind pool) (λ box. subst (λ (b : Body Saved). IsSome (with_drawn b (Some box))) (sym is) refl) (at (Host saved) is h)
 
   pub fit_length : (objects : List Stored) (boxes : List (Option B)) → AreFit objects boxes → length boxes ≡ length objects
   fit_length [] [] fit = refl
@@ -88,20 +88,20 @@ module _ {B : Type 0} where
   fit_length (object ∷ objects) (box ∷ boxes) fit = ap suc (fit_length objects boxes fit.1)
 
   -- what a box became is something where the box was
-  restored_fit : (G : Ghosts B) (body : Body Saved) (one other : Option B) → RestoresBox G body one other → IsSome (with_taken body one) → IsSome (with_taken body other)
+  restored_fit : (G : Ghosts B) (body : Body Saved) (one other : Option B) → RestoresBox G body one other → IsSome (with_drawn body one) → IsSome (with_drawn body other)
   restored_fit G (Script script) one other back some = refl
   restored_fit G (Array array) one other back some = refl
   restored_fit G (Host saved) None other back some = absurd (cc)
-  restored_fit G (Host saved) (Some box) other back some = subst (λ (o : Option B). IsSome (with_taken (Host saved) o)) (sym back.1) refl
+  restored_fit G (Host saved) (Some box) other back some = subst (λ (o : Option B). IsSome (with_drawn (Host saved) o)) (sym back.1) refl
 
   -- an object and what became of what it took
-  body_joined : (G : Ghosts B) (body : Body Saved) (one other : Option B) (out : Body B) → RestoresBox G body one other → with_taken body other ≡ Some out → IsBody G body one out
+  body_joined : (G : Ghosts B) (body : Body Saved) (one other : Option B) (out : Body B) → RestoresBox G body one other → with_drawn body other ≡ Some out → IsBody G body one out
   body_joined G (Script script) one other out back is = cc
   body_joined G (Array array) one other out back is = cc
   body_joined G (Host saved) None other out back is =
-      let none : with_taken (Host saved) other ≡ None = ap (λ (o : Option B). with_taken (Host saved) o) back in absurd (cc)
+      let none : with_drawn (Host saved) other ≡ None = ap (λ (o : Option B). with_drawn (Host saved) o) back in absurd (cc)
   body_joined G (Host saved) (Some box) other out back is =
-      let some : with_taken (Host saved) other ≡ Some (Host back.0) = ap (λ (o : Option B). with_taken (Host saved) o) back.1 in
+      let some : with_drawn (Host saved) other ≡ Some (Host back.0) = ap (λ (o : Option B). with_drawn (Host saved) o) back.1 in
       let same : out ≡ Host back.0 = cc in
       (back.0, same, back.2)
 

@@ -15,7 +15,7 @@ use Rattle.ash_slots.specs.Bodies.{words_of}
 use Rattle.ash_slots.specs.Store.{Placed}
 use Rattle.ash_objects.specs.declared.restoring.Stored.{Stored}
 use Rattle.ash_objects.specs.declared.restoring.Saved.{Saved}
-use Rattle.ash_objects.specs.Restoring.{stored_in, with_taken, AreFit, IsFresh, ArePut}
+use Rattle.ash_objects.specs.Restoring.{stored_in, with_drawn, AreFit, IsFresh, ArePut}
 use Rattle.ash_objects.proofs.Pointwise.{IsPopped, popped}
 use Rattle.ash_objects.proofs.Drawing.{fit_length}
 
@@ -33,7 +33,7 @@ order_drop (suc k) (e ∷ l) o = order_drop k l (in_order_after e l o)
 
 module _ {B : Type 0} where
   -- words of what was put
-  pub words_joined : (body : Body Saved) (taken : Option B) (out : Body B) → with_taken body taken ≡ Some out → words_of out ≡ words_of body
+  pub words_joined : (body : Body Saved) (taken : Option B) (out : Body B) → with_drawn body taken ≡ Some out → words_of out ≡ words_of body
   words_joined (Script script) taken out is = let same : out ≡ Script script = cc in ap (λ (b : Body B). words_of b) same
   words_joined (Array array) taken out is = let same : out ≡ Array array = cc in ap (λ (b : Body B). words_of b) same
   words_joined (Host saved) None out is = absurd (cc)
@@ -83,7 +83,7 @@ module _ {B : Type 0} where
       go false later = later
 
   -- an object that is put before all others
-  pub put_first : (objects : List Stored) (boxes : List (Option B)) (k : ℕ) (object : Stored) (box : Option B) (p : Placed B) (l : List (ℕ × Placed B)) → IsInOrder (stored_in objects) → drop k objects ≡ object ∷ drop (k + 1) objects → drop k boxes ≡ box ∷ drop (k + 1) boxes → ArePut (drop (k + 1) objects) (drop (k + 1) boxes) l → with_taken object.body box ≡ Some (p.item).body → IsFresh p → ArePut (drop k objects) (drop k boxes) (with_at object.number p l)
+  pub put_first : (objects : List Stored) (boxes : List (Option B)) (k : ℕ) (object : Stored) (box : Option B) (p : Placed B) (l : List (ℕ × Placed B)) → IsInOrder (stored_in objects) → drop k objects ≡ object ∷ drop (k + 1) objects → drop k boxes ≡ box ∷ drop (k + 1) boxes → ArePut (drop (k + 1) objects) (drop (k + 1) boxes) l → with_drawn object.body box ≡ Some (p.item).body → IsFresh p → ArePut (drop k objects) (drop k boxes) (with_at object.number p l)
   put_first objects boxes k object box p l order os bs put is fresh =
       subst (λ (es : List (ℕ × Placed B)). ArePut (drop k objects) (drop k boxes) es) (sym (with_at_first object.number p l sorted)) (rw (os, bs) (refl, is, fresh, put))
     where
@@ -109,7 +109,7 @@ module _ {B : Type 0} where
           let same = eq-eqb object.number object.number refl in
           absurd (cc)
 
-  pub fit_at : (objects : List Stored) (boxes : List (Option B)) (k : ℕ) (object : Stored) (box : Option B) → AreFit objects boxes → slice_get objects k ≡ Some object → slice_get boxes k ≡ Some box → IsSome (with_taken object.body box)
+  pub fit_at : (objects : List Stored) (boxes : List (Option B)) (k : ℕ) (object : Stored) (box : Option B) → AreFit objects boxes → slice_get objects k ≡ Some object → slice_get boxes k ≡ Some box → IsSome (with_drawn object.body box)
   fit_at [] [] k object box fit one two = absurd (cc)
   fit_at [] (b ∷ boxes) k object box fit one two = absurd fit
   fit_at (o ∷ objects) [] k object box fit one two = absurd fit
@@ -169,13 +169,13 @@ module _ {B : Type 0} where
     after : ArePut (drop (length os' + 1) objects) (drop (length os' + 1) boxes) l
     after = subst (λ (n : ℕ). ArePut (drop n objects) (drop n boxes) l) long s.put
 
-    pub put_fits : IsSome (with_taken object.body box)
+    pub put_fits : IsSome (with_drawn object.body box)
     put_fits = fit_at objects boxes (length os') object box fit first.there (subst (λ (n : ℕ). slice_get boxes n ≡ Some box) same second.there)
 
     pub put_new : object_at object.number l ≡ None
     put_new = put_absent objects boxes (length os') object l order first.next after
 
-    pub put_more : (p : Placed B) → with_taken object.body box ≡ Some (p.item).body → IsFresh p → PutState objects boxes os' bs' (with_at object.number p l)
+    pub put_more : (p : Placed B) → with_drawn object.body box ≡ Some (p.item).body → IsFresh p → PutState objects boxes os' bs' (with_at object.number p l)
     put_more p is fresh = record {
       left = first.left;
       right = subst (λ (n : ℕ). bs' ≡ take n boxes) same second.left;

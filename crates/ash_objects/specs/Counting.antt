@@ -20,7 +20,12 @@ module _ {B : Type 0} where
 
   -- what a contract sees of an object to which there are so many handles in fields
   abbrev pub living : ℕ → Placed B → Living B
-  living handles object = record { slot = object.slot; holds = (object.item).count - handles; touched = (object.item).touched; body = (object.item).body }
+  living handles object = record {
+    slot = object.slot;
+    holds = (object.item).count - handles;
+    touched = (object.item).touched;
+    body = (object.item).body;
+  }
 
   -- what a contract sees of an object but its holds
   abbrev pub face : Placed B → Living B
@@ -43,8 +48,10 @@ module _ {B : Type 0} where
   pub record AreCounted (objects : List (ℕ × Placed B)) : Type 0 where
     pub covered : (number : ℕ) → fields_in number objects ≤ counted number objects
     pub bounded : (number : ℕ) → counted number objects ≤ fields_in number objects + 2 ^ 127
-    pub waiting : (number : ℕ) → IfSome (object_at number objects) (λ object. (object.item).count ≡ 0 → object.waiting ≡ true)
-    pub short : (number : ℕ) → IfSome (object_at number objects) (λ object. length (words_of (object.item).body) ≤ max_elements)
+    pub waiting : (number : ℕ)
+        → IfSome (object_at number objects) (λ object. (object.item).count ≡ 0 → object.waiting ≡ true)
+    pub short : (number : ℕ)
+        → IfSome (object_at number objects) (λ object. length (words_of (object.item).body) ≤ max_elements)
     pub few : length objects ≤ max_objects
 
   -- every number was given: none is 0 or above the last

@@ -13,7 +13,8 @@ module _ {B : Type 0} where
 
   -- the table with a new object in a slot, which takes the next number
   abbrev pub with_new_object : ℕ → Body B → Table B → Table B
-  with_new_object slot body table = record table { objects = with_at (table.last + 1) (new_object slot body) table.objects; last = table.last + 1 }
+  with_new_object slot body table =
+      record table { objects = with_at (table.last + 1) (new_object slot body) table.objects; last = table.last + 1 }
 
   -- as many objects live as may
   abbrev pub IsFull : Table B → Type 0

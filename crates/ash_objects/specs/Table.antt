@@ -61,7 +61,8 @@ module _ {B : Type 0} where
 
   -- the word at a place of an object
   abbrev pub field_of : ℕ → ℕ → Table B → Option Word
-  field_of number place table = option_and_then (λ object. slice_get (words_of object.body) place) (object_at number table.objects)
+  field_of number place table = option_and_then (λ object. slice_get (words_of object.body) place)
+      (object_at number table.objects)
 
   -- the object that a word is a handle to lives, if it is one
   abbrev pub IsAlive : Word → Table B → Type 0

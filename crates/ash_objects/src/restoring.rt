@@ -13,7 +13,7 @@ ghost use Rattle.ash_objects.specs.Restoring.{stored_in, states_in, kind_wanted,
 ghost use Rattle.ash_objects.specs.Restoring.{Enough, Short, draw_then, draw_boxes, with_box_first};
 ghost use Rattle.ash_objects.specs.Restoring.{RestoresState, RestoresBox, RestoresServices};
 ghost use Rattle.ash_objects.specs.Restoring.{RestoresBoxes, ServiceRefused};
-ghost use Rattle.ash_objects.specs.Restoring.{BoxRefused, IsRefused, IsRestored, with_taken, AreFit};
+ghost use Rattle.ash_objects.specs.Restoring.{BoxRefused, IsRefused, IsRestored, with_drawn, AreFit};
 ghost use Rattle.ash_objects.specs.Restoring.{ArePut, refer_objects};
 
 use crate::counting::refer_words;
@@ -181,8 +181,8 @@ fn restore_boxes<B: HostObject>(
 
 // What an object is, with the box that it took in place of its kind and state.
 fn join<B: HostObject>(body: Body<Saved>, taken: Option<B>) -> Body<B>
-    requires { IsSome (with_taken body taken) }
-    ensures { with_taken body taken ≡ Some result }
+    requires { IsSome (with_drawn body taken) }
+    ensures { with_drawn body taken ≡ Some result }
 {
     match body {
         Body::Script(script) => Body::Script(script),

@@ -17,7 +17,8 @@ box_of (Host box) = Some box
 
 -- A host object answers a call within its relation, at its state before and after, and keeps its kind and its
 -- relation. Its state is no longer than a state may be.
-pub record Responds {B : Type 0} (G : Ghosts B) (before : B) (call : HostCall) (answer : HostAnswer) (after : B) : Type 0 where
+pub record Responds {B : Type 0} (G : Ghosts B) (before : B) (call : HostCall) (answer : HostAnswer)
+    (after : B) : Type 0 where
   pub allowed : G.allows before call (G.state before) answer (G.state after)
   pub same_kind : G.kind_of after ≡ G.kind_of before
   pub same_relation : SameRelation (G.allows before) (G.allows after)
@@ -33,7 +34,8 @@ module _ {B : Type 0} where
   boxed box object = with_item (record { count = (object.item).count; touched = true; body = Host box }) object
 
   -- The host object of a number answers a call, and nothing else changes.
-  pub record AnswersIn (G : Ghosts B) (number : ℕ) (call : HostCall) (answer : HostAnswer) (old new : List (ℕ × Placed B)) : Type 0 where
+  pub record AnswersIn (G : Ghosts B) (number : ℕ) (call : HostCall) (answer : HostAnswer)
+      (old new : List (ℕ × Placed B)) : Type 0 where
     pub before : B
     pub after : B
     pub was : stored_box number old ≡ Some before
