@@ -91,11 +91,6 @@ pub fn has_reported_then(log: &Log, many: usize, wanted: &[(u16, Option<i32>)]) 
     found.len() == wanted.len() && wanted.iter().all(|report| is_among(found, report.0, report.1))
 }
 
-/// Stops the test where a condition is not met.
-pub fn check_true(rt: &impl Abort, found: bool, what: &str, place: usize) {
-    assert!(rt; found, "{what} {place}");
-}
-
 /// Two services, with their states.
 pub const SERVICES: [Service<'static>; 2] = [
     Service {
@@ -213,7 +208,7 @@ fn check_order(
     };
     let objects = restored(alloc, &log, &input)??;
     let is_met = drops_boxes(alloc, objects, &log, order)?;
-    check_true(rt, is_met, "the sweep of order", place);
+    assert!(rt; is_met, "the sweep of order {place}");
     let [one, other] = order.left;
     let others = [
         (one, Some(0)),
@@ -221,12 +216,8 @@ fn check_order(
         (31, Some(8)),
         (41, Some(9)),
     ];
-    check_true(
-        rt,
-        has_reported_then(&log, 2, &others),
-        "what is left of order",
-        place,
-    );
+    let is_met = has_reported_then(&log, 2, &others);
+    assert!(rt; is_met, "what is left of order {place}");
     Ok(())
 }
 

@@ -1,6 +1,6 @@
 //! States that are refused, and the boxes that are given up then: those of the pool and of the services.
 
-use crate::pools::{RestoreInput, SERVICES, Service, check_true, has_reported_then, restored};
+use crate::pools::{RestoreInput, SERVICES, Service, has_reported_then, restored};
 use crate::restoring::SavedHost;
 use crate::table::new_log;
 use ash_objects::TableFault;
@@ -16,7 +16,7 @@ struct Refusal<'a> {
     given_up: &'a [(u16, Option<i32>)],
 }
 
-// Memory aside a pool that is too short comes first, then the services in order, and then the objects by number. Those
+// Apart from memory, a pool that is too short comes first, then the services in order, then the objects by number. Those
 // before the one that refuses have their states.
 static REFUSALS: [Refusal<'static>; 6] = [
     Refusal {
@@ -159,18 +159,9 @@ fn check_refusal(
 ) -> Result<(), Fail> {
     let log = new_log(alloc, 8)?;
     let fault = restored(alloc, &log, &refusal.input)?.err();
-    check_true(
-        rt,
-        fault == Some(refusal.fault),
-        "the fault of refusal",
-        place,
-    );
-    check_true(
-        rt,
-        has_reported_then(&log, 0, refusal.given_up),
-        "what is given up by refusal",
-        place,
-    );
+    assert_eq!(rt; fault, Some(refusal.fault), "the fault of refusal {place}");
+    let is_met = has_reported_then(&log, 0, refusal.given_up);
+    assert!(rt; is_met, "what is given up by refusal {place}");
     Ok(())
 }
 

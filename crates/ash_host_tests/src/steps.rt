@@ -237,10 +237,6 @@ fn new_table_with(alloc: Global, counters: u16, memory: Memory) -> Result<(Table
     }
 }
 
-fn check_true(rt: &impl Abort, found: bool, what: &str, number: usize) {
-    assert!(rt; found, "{what} {number}");
-}
-
 /// Takes the steps in order, and looks at what each comes to and at what they leave.
 pub fn check(
     rt: &impl Abort,
@@ -252,21 +248,11 @@ pub fn check(
     let mut events = Vec::new(alloc);
     for (place, step) in sequence.steps.iter().enumerate() {
         let is_met = take_with(alloc, &mut objects, *step, &mut events, memory)?;
-        check_true(rt, is_met, "step", place);
+        assert!(rt; is_met, "step {place}");
     }
-    check_true(rt, events.as_slice() == sequence.events, "the events of", 0);
-    check_true(
-        rt,
-        has_reported(&log, sequence.given_up),
-        "what is given up by",
-        0,
-    );
+    assert_eq!(rt; events.as_slice(), sequence.events);
+    assert!(rt; has_reported(&log, sequence.given_up));
     drop(objects);
-    check_true(
-        rt,
-        has_reported(&log, sequence.with_the_table),
-        "what goes with",
-        0,
-    );
+    assert!(rt; has_reported(&log, sequence.with_the_table));
     Ok(())
 }
