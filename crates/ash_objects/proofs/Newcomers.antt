@@ -30,7 +30,8 @@ length-with_at n v [] = omega arith
 length-with_at {A} n v (e ∷ l) =
     go (nat_cmp n e.0) (length-with_at n v l)
   where
-    go : (b : Ordering) → length (with_at n v l) ≤ length l + 1 → length (match_ordering b ((n, v) ∷ e ∷ l) ((e.0, v) ∷ l) (e ∷ with_at n v l)) ≤ suc (length l) + 1
+    go : (b : Ordering) → length (with_at n v l) ≤ length l + 1
+        → length (match_ordering b ((n, v) ∷ e ∷ l) ((e.0, v) ∷ l) (e ∷ with_at n v l)) ≤ suc (length l) + 1
     go Less later = omega arith
     go Equal later = omega arith
     go Greater later = omega (arith, later)
@@ -42,10 +43,14 @@ module _ {B : Type 0} (n : ℕ) (p : Placed B) (l : List (ℕ × Placed B)) (o :
 
   -- where it is
   pub words_new : words_at n (with_at n p l) ≡ words_of (p.item).body
-  words_new = ap (λ (v : Option (Placed B)). option_map_or (λ object. words_of (object.item).body) v []) (at_new n ∙ ap (λ (b : Bool). cond b (Some p) (object_at n l)) (eq-eqb n n refl))
+  words_new =
+      ap (λ (v : Option (Placed B)). option_map_or (λ object. words_of (object.item).body) v []) (at_new n
+      ∙ ap (λ (b : Bool). cond b (Some p) (object_at n l)) (eq-eqb n n refl))
 
   pub slot_new : IsIn n p.slot (with_at n p l)
-  slot_new = subst (λ (v : Option (Placed B)). IsSomeAnd v (λ object. object.slot ≡ p.slot)) (sym (at_new n ∙ ap (λ (b : Bool). cond b (Some p) (object_at n l)) (eq-eqb n n refl))) refl
+  slot_new =
+      subst (λ (v : Option (Placed B)). IsSomeAnd v (λ object. object.slot ≡ p.slot))
+      (sym (at_new n ∙ ap (λ (b : Bool). cond b (Some p) (object_at n l)) (eq-eqb n n refl))) refl
 
   -- what lived lives
   alive_more : (h : Option ℕ) → IfSome h (Lives l) → IfSome h (Lives (with_at n p l))
@@ -68,14 +73,16 @@ module _ {B : Type 0} (n : ℕ) (p : Placed B) (l : List (ℕ × Placed B)) (o :
   counted_new : (m : ℕ) → counted m (with_at n p l) ≡ counted m l
   counted_new m = ap (λ (v : Option (Placed B)). option_map_or (λ object. (object.item).count) v 0) (at_new m) ∙ go (nat_eq m n) refl
     where
-      go : (b : Bool) → nat_eq m n ≡ b → option_map_or (λ object. (object.item).count) (cond b (Some p) (object_at m l)) 0 ≡ counted m l
+      go : (b : Bool) → nat_eq m n ≡ b
+          → option_map_or (λ object. (object.item).count) (cond b (Some p) (object_at m l)) 0 ≡ counted m l
       go false is = refl
       go true is =
           let nothing : object_at m l ≡ None = ap (λ (k : ℕ). object_at k l) (eqb-true m n is) ∙ none in
           fresh ∙ sym (ap (λ (v : Option (Placed B)). option_map_or (λ object. (object.item).count) v 0) nothing)
 
   -- no count comes near what the code can hold
-  pub fits_new : (m : ℕ) → length (words_of (p.item).body) ≤ 4096 → counted m (with_at n p l) + length (words_at n (with_at n p l)) < 2 ^ 128
+  pub fits_new : (m : ℕ) → length (words_of (p.item).body) ≤ 4096
+      → counted m (with_at n p l) + length (words_at n (with_at n p l)) < 2 ^ 128
   fits_new m short =
       let words = ap length words_new in
       let small = counted_fits m l o s in
@@ -85,14 +92,17 @@ module _ {B : Type 0} (n : ℕ) (p : Placed B) (l : List (ℕ × Placed B)) (o :
   abbrev pub after_new : List (ℕ × Placed B)
   after_new = refer_all (words_of (p.item).body) (with_at n p l)
 
-  count_after : (m : ℕ) → counted m (refer_all (words_of (p.item).body) (with_at n p l)) ≡ counted m l + handles_to m (words_of (p.item).body)
+  count_after : (m : ℕ) → counted m (refer_all (words_of (p.item).body) (with_at n p l))
+      ≡ counted m l + handles_to m (words_of (p.item).body)
   count_after m = omega (arith, all_counted (words_of (p.item).body) m (with_at n p l) alive_new, counted_new m)
 
-  fields_after : (m : ℕ) → fields_in m (refer_all (words_of (p.item).body) (with_at n p l)) ≡ fields_in m l + handles_to m (words_of (p.item).body)
+  fields_after : (m : ℕ) → fields_in m (refer_all (words_of (p.item).body) (with_at n p l))
+      ≡ fields_in m l + handles_to m (words_of (p.item).body)
   fields_after m = omega (arith, all_fields (words_of (p.item).body) m (with_at n p l), fields_new m)
 
   -- what a contract sees: one object more, which nothing holds
-  pub view_new : (p.item).touched ≡ true → living_in (refer_all (words_of (p.item).body) (with_at n p l)) ≡ with_at n (new_object p.slot (p.item).body) (living_in l)
+  pub view_new : (p.item).touched ≡ true → living_in (refer_all (words_of (p.item).body) (with_at n p l))
+      ≡ with_at n (new_object p.slot (p.item).body) (living_in l)
   view_new touched =
       same_in_order (living_in after_new) (with_at n (new_object p.slot (p.item).body) (living_in l)) (rw (numbers-living after_new after_new) (all_order (words_of (p.item).body) (with_at n p l) (in_order-with_at n p l o))) (in_order-with_at n (new_object p.slot (p.item).body) (living_in l) (rw (numbers-living l l) o))
       (λ m.
@@ -112,14 +122,18 @@ module _ {B : Type 0} (n : ℕ) (p : Placed B) (l : List (ℕ × Placed B)) (o :
           ap (λ (h : ℕ). record { slot = p.slot; holds = h; touched = (p.item).touched; body = (p.item).body }) is
           ∙ ap (λ (t : Bool). record { slot = p.slot; holds = 0; touched = t; body = (p.item).body }) touched
 
-      each : (m : ℕ) (b : Bool) → nat_eq m n ≡ b → option_map (with_holds (counted m l - fields_in m l)) (option_map face (cond b (Some p) (object_at m l))) ≡ cond b (Some (new_object p.slot (p.item).body)) (option_map (with_holds (counted m l - fields_in m l)) (face_at m l))
+      each : (m : ℕ) (b : Bool) → nat_eq m n ≡ b
+          → option_map (with_holds (counted m l - fields_in m l)) (option_map face (cond b (Some p) (object_at m l)))
+          ≡ cond b (Some (new_object p.slot (p.item).body))
+          (option_map (with_holds (counted m l - fields_in m l)) (face_at m l))
       each m false is = refl
       each m true is =
           let nothing : object_at m l ≡ None = ap (λ (k : ℕ). object_at k l) (eqb-true m n is) ∙ none in
           let zero_count : counted m l ≡ 0 = ap (λ (v : Option (Placed B)). option_map_or (λ object. (object.item).count) v 0) nothing in
           ap Some (here (counted m l - fields_in m l) (omega (arith, zero_count)))
 
-  each_new : (P : Placed B → Type 0) → P p → ((m : ℕ) → IfSome (object_at m l) P) → (m : ℕ) → IfSome (object_at m (with_at n p l)) P
+  each_new : (P : Placed B → Type 0) → P p → ((m : ℕ) → IfSome (object_at m l) P) → (m : ℕ)
+      → IfSome (object_at m (with_at n p l)) P
   each_new P mine each m = subst (λ (v : Option (Placed B)). IfSome v P) (sym (at_new m)) (go (nat_eq m n) (each m))
     where
       go : (b : Bool) → IfSome (object_at m l) P → IfSome (cond b (Some p) (object_at m l)) P
@@ -134,14 +148,21 @@ module _ {B : Type 0} (n : ℕ) (p : Placed B) (l : List (ℕ × Placed B)) (o :
       go true is h = let same = eqb-true m n is in (omega (arith, same, later), omega (arith, same))
       go false is h = let g = given m h in (g.0, let g1 = g.1 in omega (arith, g1, later))
 
-  pub table_new : (last settled : ℕ) → AreGiven last l → settled ≤ last → p.waiting ≡ true → length (words_of (p.item).body) ≤ 4096 → length l < 4096 → last < n → IsTable (refer_all (words_of (p.item).body) (with_at n p l)) n settled
+  pub table_new : (last settled : ℕ) → AreGiven last l → settled ≤ last → p.waiting ≡ true
+      → length (words_of (p.item).body) ≤ 4096 → length l < 4096 → last < n
+      → IsTable (refer_all (words_of (p.item).body) (with_at n p l)) n settled
   table_new last settled given cleared waits short few later = record {
     in_order = all_order (words_of (p.item).body) (with_at n p l) (in_order-with_at n p l o);
     counted = record {
       covered = λ m. omega (arith, fields_after m, count_after m, s.covered m);
       bounded = λ m. omega (arith, fields_after m, count_after m, s.bounded m);
-      waiting = all_each (λ x. (x.item).count ≡ 0 → x.waiting ≡ true) (words_of (p.item).body) (with_at n p l) (λ x h zero. absurd (omega arith)) (each_new (λ x. (x.item).count ≡ 0 → x.waiting ≡ true) (λ zero. waits) s.waiting);
-      short = all_each (λ x. length (words_of (x.item).body) ≤ 4096) (words_of (p.item).body) (with_at n p l) (λ x h. h) (each_new (λ x. length (words_of (x.item).body) ≤ 4096) short s.short);
+      waiting =
+          all_each (λ x. (x.item).count ≡ 0 → x.waiting ≡ true) (words_of (p.item).body) (with_at n p l)
+          (λ x h zero. absurd (omega arith)) (each_new (λ x. (x.item).count ≡ 0 → x.waiting ≡ true)
+          (λ zero. waits) s.waiting);
+      short =
+          all_each (λ x. length (words_of (x.item).body) ≤ 4096) (words_of (p.item).body) (with_at n p l)
+          (λ x h. h) (each_new (λ x. length (words_of (x.item).body) ≤ 4096) short s.short);
       few = let longer = length-with_at n p l in omega (arith, all_length (words_of (p.item).body) (with_at n p l), longer, few);
     };
     given = all_given n (words_of (p.item).body) (with_at n p l) (given_new last given later);

@@ -47,8 +47,13 @@ returns-in_err-restore_box-clause-refused g c = λ number is.
       named = sym r.0;
       took = sym (h.rest k (omega arith)) ∙ got cur k one within c.index_mut.ensures.value ∙ ap Some r.1.1;
       before = record {
-        many = prefix_many (λ place one other. (object : Stored) → slice_get objects place ≡ Some object → RestoresBox G object.body one other) k old cur h;
-        each = λ place object one other at was is. prefix_done (λ place one other. (object : Stored) → slice_get objects place ≡ Some object → RestoresBox G object.body one other) k old cur h place one other was is object at;
+        many =
+            prefix_many (λ place one other. (object : Stored) → slice_get objects place ≡ Some object
+            → RestoresBox G object.body one other) k old cur h;
+        each =
+            λ place object one other at was is. prefix_done (λ place one other. (object : Stored)
+            → slice_get objects place ≡ Some object
+            → RestoresBox G object.body one other) k old cur h place one other was is object at;
       };
       refused = r.1.2;
     }
@@ -56,5 +61,11 @@ returns-in_err-restore_box-clause-refused g c = λ number is.
 pub returns-clause-restored : goal.returns-clause-restored
 returns-clause-restored g c = record {
   many = c.loop-place.invariant.done.many;
-  each = λ place object one other at was is. done_all (λ place one other. (object : Stored) → slice_get c.args.objects.now place ≡ Some object → RestoresBox g.B.HostObject object.body one other) c.loop-place.place c.args.boxes.now.items c.loop-place.boxes.items c.loop-place.invariant.done (omega (arith, c.requires, c.loop-place-test.false, c.args.boxes.now.ok.0)) place one other was is object at;
+  each =
+      λ place object one other at was is. done_all (λ place one other. (object : Stored)
+      → slice_get c.args.objects.now place ≡ Some object
+      → RestoresBox g.B.HostObject object.body one other) c.loop-place.place c.args.boxes.now.items
+      c.loop-place.boxes.items c.loop-place.invariant.done
+      (omega (arith, c.requires, c.loop-place-test.false, c.args.boxes.now.ok.0)) place one other was is object
+      at;
 }

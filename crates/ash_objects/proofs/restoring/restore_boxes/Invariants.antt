@@ -7,5 +7,6 @@ use Rattle.ash_objects.proofs.restoring.restore_boxes.Given as goal
 
 abbrev pub invariant-loop-place : goal.invariant-loop-place
 invariant-loop-place g l = record {
-  done : IsDone (λ place one other. (object : Stored) → slice_get l.objects place ≡ Some object → RestoresBox g.B.HostObject object.body one other) l.place l.initial.boxes.items l.boxes.items;
+  done : IsDone (λ place one other. (object : Stored) → slice_get l.objects place ≡ Some object
+      → RestoresBox g.B.HostObject object.body one other) l.place l.initial.boxes.items l.boxes.items;
 }

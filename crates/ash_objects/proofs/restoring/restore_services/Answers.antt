@@ -27,7 +27,13 @@ loop-place-preserved g c =
 pub returns-clause-restored : goal.returns-clause-restored
 returns-clause-restored g c = record {
   many = c.loop-place.invariant.done.many;
-  each = λ place one other bytes was is there. done_all (λ place one other. (bytes : List ℕ) → slice_get (states_in c.args.states.now) place ≡ Some bytes → RestoresState g.B.HostObject one bytes other) c.loop-place.place c.args.services.now.items c.loop-place.services.items c.loop-place.invariant.done (omega (arith, c.requires, c.loop-place-test.false, c.args.services.now.ok.0)) place one other was is bytes there;
+  each =
+      λ place one other bytes was is there. done_all (λ place one other. (bytes : List ℕ)
+      → slice_get (states_in c.args.states.now) place ≡ Some bytes
+      → RestoresState g.B.HostObject one bytes other) c.loop-place.place c.args.services.now.items
+      c.loop-place.services.items c.loop-place.invariant.done
+      (omega (arith, c.requires, c.loop-place-test.false, c.args.services.now.ok.0)) place one other was is bytes
+      there;
 }
 
 pub returns-in_err-restore_state-clause-refused : goal.returns-in_err-restore_state-clause-refused
@@ -51,10 +57,18 @@ returns-in_err-restore_state-clause-refused g c = λ number is.
         bytes = state.items;
         back = take k cur;
         there = sym (h.rest k (omega arith)) ∙ got cur k one within c.index_mut.ensures.value;
-        state = slice_get-map (λ (state : Vec ℕ Global). state.items) states k ∙ ap (λ (o : Option (Vec ℕ Global)). option_map (λ (state : Vec ℕ Global). state.items) o) (got states k state c.loop-place-test.true c.index-states-place.is);
+        state =
+            slice_get-map (λ (state : Vec ℕ Global). state.items) states k
+            ∙ ap (λ (o : Option (Vec ℕ Global)). option_map (λ (state : Vec ℕ Global). state.items) o)
+            (got states k state c.loop-place-test.true c.index-states-place.is);
         before = record {
-          many = prefix_many (λ place one other. (bytes : List ℕ) → slice_get (states_in states) place ≡ Some bytes → RestoresState G one bytes other) k old cur h;
-          each = λ place one other bytes was is at. prefix_done (λ place one other. (bytes : List ℕ) → slice_get (states_in states) place ≡ Some bytes → RestoresState G one bytes other) k old cur h place one other was is bytes at;
+          many =
+              prefix_many (λ place one other. (bytes : List ℕ) → slice_get (states_in states) place ≡ Some bytes
+              → RestoresState G one bytes other) k old cur h;
+          each =
+              λ place one other bytes was is at. prefix_done (λ place one other. (bytes : List ℕ)
+              → slice_get (states_in states) place ≡ Some bytes
+              → RestoresState G one bytes other) k old cur h place one other was is bytes at;
         };
         refused = subst (λ (bs : List ℕ). G.refuses one bs) c.as_slice.ensures.value r.1;
       },

@@ -45,8 +45,12 @@ invariant_of-self-2 g c =
     let first = listed_covers l _ _ c.mark.ensures.covers (listed_covers l _ _ c.reserve.ensures.covers c.self.invariant.listed) in
     let put = listed_new n p l _ (omega (arith, c.in_ok-reserve.ensures.room, c.vacant.ensures, c.in-Ok.ensures.slot, c.mark.ensures.covers.room)) (λ yes. c.mark.ensures.listed) first in
     rw (referred here, words_new n p l t.in_order t.counted none alive refl) (record {
-      table = table_new n p l t.in_order t.counted none alive refl c.self.inside.last c.self.inside.settled t.given t.cleared refl short few later;
-      listed = listed_faces (refer_all (words_of c.args.body) (with_at n p l)) (with_at n p l) _ (λ m. all_face (words_of c.args.body) m (with_at n p l)) put;
+      table =
+          table_new n p l t.in_order t.counted none alive refl c.self.inside.last c.self.inside.settled t.given
+          t.cleared refl short few later;
+      listed =
+          listed_faces (refer_all (words_of c.args.body) (with_at n p l)) (with_at n p l) _
+          (λ m. all_face (words_of c.args.body) m (with_at n p l)) put;
     })
 
 pub returns-clause-made : goal.returns-clause-made

@@ -87,8 +87,12 @@ invariant_of-result g c =
     let few : length objects ≤ 4096 = omega (arith, c.requires.few, c.args.stored.objects.ok.0) in
     let all : c.deref-4.result.now ≡ numbers l = c.deref-4.ensures.value ∙ c.in_ok-list.ensures.numbers ∙ ap (λ (os : List Stored). numbers (stored_in os)) c.deref-3.ensures.value ∙ sym (put_numbers objects after l c.in_ok-put_objects.ensures.put) in
     rw (c.refer_from.ensures, all) (record {
-      listed = listed_faces (refer_objects (numbers l) l) l _ (λ m. referred_face (numbers l) m l) c.in_ok-put_objects.ensures.listed;
-      table = stock_table objects after l c.args.stored.last c.in_ok-put_objects.ensures.put c.requires.numbered few c.requires.short c.requires.alive;
+      listed =
+          listed_faces (refer_objects (numbers l) l) l _
+          (λ m. referred_face (numbers l) m l) c.in_ok-put_objects.ensures.listed;
+      table =
+          stock_table objects after l c.args.stored.last c.in_ok-put_objects.ensures.put c.requires.numbered few
+          c.requires.short c.requires.alive;
     })
 
 pub returns-clause-objects : goal.returns-clause-objects

@@ -85,7 +85,10 @@ invariant_of-self g c =
     let left = listed_faces (release_all (drop len es) (change_at n (refilled []) l)) (change_at n (refilled []) l) _ (λ m. released_face (drop len es) m (change_at n (refilled []) l)) emptied in
     rw all (record {
       table = table_shorter n len a.0 l _ _ t a.1;
-      listed = listed_change n c.args.slot (refilled (take len es)) (release_all (drop len es) (change_at n (refilled []) l)) _ (λ p. refl) (in_shorter n len a.0 l _ _ t a.1 c.args.slot here) c.mark.ensures.listed left;
+      listed =
+          listed_change n c.args.slot (refilled (take len es))
+          (release_all (drop len es) (change_at n (refilled []) l)) _
+          (λ p. refl) (in_shorter n len a.0 l _ _ t a.1 c.args.slot here) c.mark.ensures.listed left;
     })
 
 pub returns : goal.returns
