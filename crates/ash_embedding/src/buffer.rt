@@ -13,7 +13,7 @@ pub const MAX_BYTES: usize = 1024;
 
 /// Bytes that scripts append and take from the end. Method 1 `void put(int)` puts the low 8 bits of its
 /// argument, and raises 1 where the buffer is full. Method 2 `int take()` takes the last byte, and raises 2 where
-/// there is none. Property 1 `int length` says how many there are, and can't be written. Its factory takes no
+/// there is none. Property 1 `int length` is how many there are, and can't be written. Its factory takes no
 /// arguments. Any other number or arguments answer `Nothing`, a property `Null`, and change nothing.
 #[derive(Drop)]
 pub struct Buffer {

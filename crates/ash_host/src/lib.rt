@@ -6,7 +6,7 @@
 //!
 //! In reading order: `word` (values), `answer` (what a call of a host object answers), `fault` (why one isn't saved
 //! or restored), `host_object` (the trait), `counter` and `tally` (the kinds that come with the product, with `int`,
-//! the number that they keep), `event` (what a request does to host objects), `laws` (of objects, and of what host
+//! the number that each has), `event` (what a request does to host objects), `laws` (of objects, and of what host
 //! objects answer).
 #![tactic(auto)]
 

@@ -1,5 +1,5 @@
 //! Tests of what the crates below the front end have: integers, kinds of host objects, and the table of objects. They
-//! are in a crate with tests alone, so that the crates with the code are proved once.
+//! are in a crate of tests only, so that the crates with the code are proved once.
 //!
 //! - `rows`: every operator on every type of integers at its extremes, worked out by hand.
 //! - `kinds`: what each kind of host objects answers to rows of calls, what it saves, and what it comes back from.

@@ -1,4 +1,4 @@
--- What a store ends as where a `&mut` to an item is handed out.
+-- What a store ends as where a `&mut` to an item is returned.
 use Rattle.std.specs.Prelude.{ℕ}
 use Rattle.std.specs.Borrow.{Lends, Fml, RattleType, MutBor}
 use Rattle.ash_slots.specs.Store.{Store, change_in, with_item}

@@ -15,8 +15,8 @@ box_of (Script _) = None
 box_of (Array _) = None
 box_of (Host box) = Some box
 
--- A host object answers a call within its relation, at its state before and after, and keeps its kind and its
--- relation. Its state is no longer than a state may be.
+-- A host object answers a call within its relation, at its state before and after. Its kind and its relation are as
+-- before, and its state is no longer than a state may be.
 pub record Responds {B : Type 0} (G : Ghosts B) (before : B) (call : HostCall) (answer : HostAnswer)
     (after : B) : Type 0 where
   pub allowed : G.allows before call (G.state before) answer (G.state after)

@@ -25,7 +25,7 @@ pub fn read_word<B>(store: &Store<B>, slot: usize, place: usize) -> Word
     }
 }
 
-/// Writes a word at a place of the object in a slot, which touches it, and hands back the word before.
+/// Writes a word at a place of the object in a slot, which touches it, and returns the word before.
 pub fn write_word<B>(store: &mut Store<B>, slot: usize, place: usize, word: Word) -> Word
     requires { (number : ℕ) × IsIn number slot store.old.objects
         × IsSomeAnd (object_at number store.old.objects)

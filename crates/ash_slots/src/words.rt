@@ -97,7 +97,7 @@ impl Words {
         self.words.truncate(len);
     }
 
-    /// Hands out the words, and leaves none. It takes no memory.
+    /// Moves the words out, and leaves none. It takes no memory.
     pub fn take(&mut self) -> Words
         ensures value { result ≡ self.old }
         ensures none { self.new ≡ [] }
