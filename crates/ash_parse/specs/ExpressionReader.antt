@@ -1,5 +1,5 @@
--- ParseResult an expression, one function for each phrase. `below` reads what stands one deeper: a whole expression where it
--- is reported `true`, and the operand of a unary operator where it is reported `false`.
+-- Reading an expression, one function for each phrase. `below` reads what is one deeper: a whole expression where it is
+-- given `true`, and the operand of a unary operator where it is given `false`.
 use Rattle.std.specs.Prelude.{ℕ, zero, suc, List, [], ◌∷◌, ◌==◌, Bool, true, false, Option, Some, None, is_some, Ok, Err, if◌then◌else◌}
 use Rattle.ash_lex.specs.Tokens.{Meaning, name, number, sign, reserved}
 use Rattle.ash_lex.specs.declared.signs.Sign.TheVariants as signs
@@ -66,8 +66,8 @@ bracketed_with below ts = do
   Ok (e.0, closed.1)
 
 -- NAME [args], after the name
-unfoldable pub named_with : Below → Place → List ℕ → Tokens → ParseResult Expr
-named_with below p text ts =
+unfoldable pub name_or_call_with : Below → Place → List ℕ → Tokens → ParseResult Expr
+name_or_call_with below p text ts =
     if next_is_sign signs.OpenParenthesis ts then (arguments_with below ts >>= λ es. Ok (Call p text (exprs es.0), es.1)) else Ok (Name p text, ts)
 
 -- "<" elem ">" args, after the word `array`
@@ -86,7 +86,7 @@ cast_with below p ts = do
 
 abbrev pub primary_by : Below → Option Primitive → Meaning → Place → Tokens → ParseResult Expr
 primary_by below (Some k) m p ts = bracketed_with below ts >>= λ e. Ok (Convert p k e.0, e.1)
-primary_by below None (name text) p ts = named_with below p text ts
+primary_by below None (name text) p ts = name_or_call_with below p text ts
 primary_by below None (number n) p ts = Ok (Number p n, ts)
 primary_by below None (sign signs.OpenParenthesis) p ts = bracketed_with below ((sign signs.OpenParenthesis, p) ∷ ts) >>= λ e. Ok (Brackets p e.0, e.1)
 primary_by below None (reserved words.True) p ts = Ok (Truth p true, ts)

@@ -1,5 +1,5 @@
--- Where tokens first go wrong, by the grammar alone: what stands before the fault begins a module, and what stands up to
--- it and with it does not, or has it too deep. In what follows `prefix` is what stands before the fault.
+-- Where tokens first go wrong, by the grammar alone: the tokens before the fault begin a module, and those up to it and
+-- with it do not, or have it too deep. In what follows `prefix` are the tokens before the fault.
 use Rattle.std.specs.Prelude.{◌≡◌, ℕ, suc, ◌+◌, ◌⊎◌, List, [], ◌∷◌, ◌++◌, length}
 use Rattle.ash_lex.specs.Tokens.{Meaning, reserved}
 use Rattle.ash_lex.specs.declared.words.ReservedWord.TheVariants as words
@@ -70,7 +70,7 @@ abbrev pub FirstDeclarationFault : Tokens → Halt → Type 0
 FirstDeclarationFault all (Unexpected rest) = (prefix : Tokens) × (all ≡ prefix ++ rest) × DeclarationBegun prefix × NoDeclarationGoesOn prefix rest
 FirstDeclarationFault all (TooDeep rest) = ⊥
 
--- what is reported is such a fault, or memory ran out
+-- the fault is such a first one, or memory ran out
 abbrev pub ReportsFirst : (Tokens → Halt → Type 0) → List Token → ParseFault → Type 0
 ReportsFirst IsFirst all faults.NoMemory = Unit {0}
 ReportsFirst IsFirst all fault = (halt : Halt) × Reports all fault halt × IsFirst (tokens_of all) halt

@@ -1,4 +1,4 @@
--- ParseResult modules and registered declarations, one function for each phrase.
+-- Reading modules and registered declarations, one function for each phrase.
 use Rattle.std.specs.Prelude.{ℕ, List, [], ◌∷◌, Bool, true, false, Option, Some, None, Ok, Err, if◌then◌else◌}
 use Rattle.ash_lex.specs.Tokens.{Meaning, reserved}
 use Rattle.ash_lex.specs.declared.signs.Sign.TheVariants as signs
@@ -11,7 +11,7 @@ use Rattle.ash_parse.specs.Signs.{is_sign}
 use Rattle.ash_parse.specs.Readers.{ParseResult, Unexpected, ◌>>=◌, put, loop, next_is_sign, expect_at, name_at}
 use Rattle.ash_parse.specs.TypeReader.{is_array, after_element}
 use Rattle.ash_parse.specs.ExpressionReader.{below_at}
-use Rattle.ash_parse.specs.StatementReader.{next_is_name, type_at, is_vars, declared_with, goes_on, block_with, nested_at}
+use Rattle.ash_parse.specs.StatementReader.{next_is_name, type_at, is_vars, vars_statement_with, goes_on, block_with, nested_at}
 
 unfoldable pub is_void : Meaning → Bool
 is_void (reserved words.Void) = true
@@ -70,12 +70,12 @@ function_at ts = do
 
 -- vars ";" outside functions
 unfoldable pub globals_at : Tokens → ParseResult Vars
-globals_at ts = declared_with (below_at DEPTH) ts
+globals_at ts = vars_statement_with (below_at DEPTH) ts
 
 -- all but the first token
-unfoldable pub after : Tokens → Tokens
-after [] = []
-after (t ∷ ts) = ts
+unfoldable pub without_first : Tokens → Tokens
+without_first [] = []
+without_first (t ∷ ts) = ts
 
 -- after the "(" of a function's parameters, and not of arguments
 unfoldable pub opens_body : Tokens → Bool
@@ -85,11 +85,11 @@ opens_body ((m, p) ∷ ts) = if is_sign signs.CloseParenthesis m then next_is_si
 -- NAME "(" and what begins parameters
 unfoldable pub names_function : Tokens → Bool
 names_function ts =
-    if next_is_name ts then (if next_is_sign signs.OpenParenthesis (after ts) then (if is_vars (after (after ts)) then true else opens_body (after (after ts))) else false) else false
+    if next_is_name ts then (if next_is_sign signs.OpenParenthesis (without_first ts) then (if is_vars (without_first (without_first ts)) then true else opens_body (without_first (without_first ts))) else false) else false
 
 -- ["@"], and after it NAME "(" and what begins parameters
 unfoldable pub handle_names_function : Tokens → Bool
-handle_names_function ts = if next_is_sign signs.Handle ts then names_function (after ts) else names_function ts
+handle_names_function ts = if next_is_sign signs.Handle ts then names_function (without_first ts) else names_function ts
 
 abbrev pub array_names_function : Option Tokens → Bool
 array_names_function None = false
@@ -101,7 +101,7 @@ is_function [] = false
 is_function ((m, p) ∷ ts) = if is_void m then true else (if is_array m then array_names_function (after_element ts) else handle_names_function ts)
 
 unfoldable pub is_constructor : Tokens → Bool
-is_constructor ts = if next_is_name ts then next_is_sign signs.OpenParenthesis (after ts) else false
+is_constructor ts = if next_is_name ts then next_is_sign signs.OpenParenthesis (without_first ts) else false
 
 unfoldable pub constructor_at : Tokens → ParseResult Constructor
 constructor_at ts = do
@@ -177,7 +177,7 @@ item_at ((m, p) ∷ ts) =
     if is_class m then (class_at ts >>= λ c. Ok (AClass c.0, c.1))
     else (if is_interface m then (interface_at ts >>= λ i. Ok (AnInterface i.0, i.1)) else other_item_at ((m, p) ∷ ts))
 
--- after each ";" in prefix
+-- the tokens after each ";" that they begin with
 unfoldable pub strip : Tokens → Tokens
 strip [] = []
 strip ((m, p) ∷ ts) = if is_sign signs.Semicolon m then strip ts else (m, p) ∷ ts
@@ -199,7 +199,7 @@ module_at ts = entries_at (strip ts)
 
 -- type [NAME]
 unfoldable pub unnamed_at : Tokens → ParseResult Named
-unnamed_at ts = type_at ts >>= λ t. Ok (t.0, if next_is_name t.1 then after t.1 else t.1)
+unnamed_at ts = type_at ts >>= λ t. Ok (t.0, if next_is_name t.1 then without_first t.1 else t.1)
 
 unfoldable pub next_unnamed_at : Tokens → ParseResult Named
 next_unnamed_at ts = do

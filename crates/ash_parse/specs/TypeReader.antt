@@ -1,4 +1,4 @@
--- ParseResult the type of an array's elements and the type that a cast names, and passing the former.
+-- Reading the type of an array's elements and the type that a cast names, and passing the former.
 use Rattle.std.specs.Prelude.{[], ◌∷◌, Bool, true, false, Option, Some, None, Ok, Err, if◌then◌else◌}
 use Rattle.ash_lex.specs.Tokens.{Meaning, name, reserved}
 use Rattle.ash_lex.specs.declared.signs.Sign.{Sign}
