@@ -37,7 +37,7 @@ end_by (Some t) = t.to
 abbrev pub end_of : List Token → ℕ
 end_of ts = end_by (slice_get ts (length ts - 1))
 
--- where the first of the tokens from the fault on stands, or where all of the tokens end
+-- where the first of the tokens from the fault on is, or where all of the tokens end
 abbrev pub start : ℕ → Tokens → ℕ
 start end [] = end
 start end ((m, p) ∷ rest) = p.at
@@ -47,7 +47,7 @@ abbrev pub fault_at : ℕ → Option UnsupportedPart → ParseFault
 fault_at at None = faults.Unexpected at
 fault_at at (Some part) = faults.Unsupported part at
 
--- the fault that stands at the first of these tokens, where all tokens end at a place
+-- the fault at the first of these tokens, where all tokens end at a place
 abbrev pub fault_before : ℕ → Tokens → ParseFault
 fault_before end [] = faults.Unexpected end
 fault_before end ((m, p) ∷ rest) = fault_at p.at (part_of m)

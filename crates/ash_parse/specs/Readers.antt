@@ -1,5 +1,5 @@
--- Reading tokens from left to right, as a function. What is read comes with the tokens that are left; a reader that stops
--- gives the tokens from the fault on.
+-- Reading tokens from left to right, as a function. What is read comes with the tokens that are left; a reader that
+-- stops gives the tokens from the fault on.
 use Rattle.std.specs.Prelude.{◌≡◌, ℕ, zero, suc, List, [], ◌∷◌, length, Bool, false, Result, Ok, Err, if◌then◌else◌}
 use Rattle.std.specs.Borrow.{Bor}
 use Rattle.ash_lex.specs.Tokens.{Meaning, name}
@@ -11,7 +11,7 @@ use Rattle.ash_parse.specs.declared.error.ParseError.{ParseError}
 use Rattle.ash_parse.specs.declared.error.ParseError.TheVariants as errors
 use Rattle.ash_parse.specs.Signs.{is_sign}
 
--- why reading stops, and the tokens from there on: the first of them fits nowhere, or stands too deep
+-- why reading stops, and the tokens from there on: the first of them fits nowhere, or is too deep
 pub data Halt : Type 0 where
   Unexpected : Tokens → Halt
   TooDeep : Tokens → Halt
@@ -35,7 +35,7 @@ abbrev pub ParsesAs : {X Y : Type 0} → (X → Y) → Result (X × Bor (List To
 ParsesAs view (Ok x) read = read ≡ Ok (view x.0, tokens_of x.1.now)
 ParsesAs view (Err e) read = Fails e read
 
--- one more before what is read
+-- what is read, with one more before it
 abbrev pub put : {A : Type 0} → A → ParseResult (List A) → ParseResult (List A)
 put x (Ok y) = Ok (x ∷ y.0, y.1)
 put x (Err e) = Err e

@@ -1,6 +1,7 @@
 -- Reading types, declarations of variables and statements, one function for each phrase. `below` reads an expression
 -- one deeper, and `nested` a statement one deeper.
-use Rattle.std.specs.Prelude.{ℕ, zero, suc, List, [], ◌∷◌, Bool, true, false, not, Option, Some, None, is_some, Ok, Err, if◌then◌else◌}
+use Rattle.std.specs.Prelude.{ℕ, zero, suc, List, [], ◌∷◌, Bool, true, false, not, Option, Some, None, is_some, Ok}
+use Rattle.std.specs.Prelude.{Err, if◌then◌else◌}
 use Rattle.ash_lex.specs.Tokens.{Meaning, name, number, sign, reserved}
 use Rattle.ash_lex.specs.declared.signs.Sign.TheVariants as signs
 use Rattle.ash_lex.specs.declared.words.ReservedWord.TheVariants as words
@@ -8,14 +9,19 @@ use Rattle.ash_tree.specs.declared.tree.places.Place.{Place}
 use Rattle.ash_tree.specs.declared.tree.types.Primitive.{Primitive}
 use Rattle.ash_tree.specs.declared.tree.statements.Label.{Label}
 use Rattle.ash_tree.specs.declared.tree.statements.Label.TheVariants as labels
-use Rattle.ash_tree.specs.Tree.{Named, Prim, Object, Handle, Array, ArrayHandle, Expr, Initializer, Default, Value, Arguments, Decl, Vars, Stmt, Empty, Declare, Evaluate, Block, If, IfElse, While, DoWhile, For, Switch, Break, Continue, Return, Case, labelled, place_of, place_of_type, stmts, cases}
+use Rattle.ash_tree.specs.Tree.{Named, Prim, Object, Handle, Array, ArrayHandle, Expr, Initializer, Default, Value}
+use Rattle.ash_tree.specs.Tree.{Arguments, Decl, Vars, Stmt, Empty, Declare, Evaluate, Block, If, IfElse, While}
+use Rattle.ash_tree.specs.Tree.{DoWhile, For, Switch, Break, Continue, Return, Case, labelled, place_of}
+use Rattle.ash_tree.specs.Tree.{place_of_type, stmts, cases}
 use Rattle.ash_tree.specs.Tokens.{Tokens}
 use Rattle.ash_tree.specs.Operators.{primitive}
 use Rattle.ash_parse.specs.declared.stmt_tokens.StmtToken.{StmtToken}
 use Rattle.ash_parse.specs.declared.stmt_tokens.StmtToken.TheVariants as stmt_tokens
-use Rattle.ash_parse.specs.Readers.{ParseResult, Unexpected, TooDeep, ◌>>=◌, put, loop, next_is, next_is_sign, expect_at, name_at}
+use Rattle.ash_parse.specs.Readers.{ParseResult, Unexpected, TooDeep, ◌>>=◌, put, loop, next_is, next_is_sign}
+use Rattle.ash_parse.specs.Readers.{expect_at, name_at}
 use Rattle.ash_parse.specs.TypeReader.{is_array, element_at, after_element}
-use Rattle.ash_parse.specs.ExpressionReader.{Below, begins, exprs_with, arguments_with, bracketed_with, assign_with, below_at}
+use Rattle.ash_parse.specs.ExpressionReader.{Below, begins, exprs_with, arguments_with, bracketed_with, assign_with}
+use Rattle.ash_parse.specs.ExpressionReader.{below_at}
 
 unfoldable pub is_name : Meaning → Bool
 is_name (name text) = true
@@ -26,7 +32,8 @@ next_is_name ts = next_is is_name ts
 
 -- ["@"] after what is then a handle
 abbrev pub handle_by : Named → Named → Tokens → ParseResult Named
-handle_by plain handle ts = if next_is_sign signs.Handle ts then (expect_at signs.Handle ts >>= λ h. Ok (handle, h.1)) else Ok (plain, ts)
+handle_by plain handle ts =
+    if next_is_sign signs.Handle ts then (expect_at signs.Handle ts >>= λ h. Ok (handle, h.1)) else Ok (plain, ts)
 
 abbrev pub type_by : Option Primitive → Meaning → Place → Tokens → ParseResult Named
 type_by (Some k) m p ts = Ok (Prim p k, ts)
@@ -51,12 +58,16 @@ array_names_vars (Some ts) = names_vars ts
 unfoldable pub is_vars : Tokens → Bool
 is_vars [] = false
 is_vars ((m, p) ∷ ts) =
-    if is_some (primitive m) then next_is_name ts else (if is_name m then names_vars ts else (if is_array m then array_names_vars (after_element ts) else false))
+    if is_some (primitive m) then next_is_name ts
+    else (if is_name m then names_vars ts
+    else (if is_array m then array_names_vars (after_element ts) else false))
 
 unfoldable pub initializer_with : Below → Tokens → ParseResult Initializer
 initializer_with below ts =
-    if next_is_sign signs.Assign ts then (expect_at signs.Assign ts >>= λ a. assign_with below a.1 >>= λ e. Ok (Value e.0, e.1))
-    else (if next_is_sign signs.OpenParenthesis ts then (arguments_with below ts >>= λ es. Ok (Arguments es.0, es.1)) else Ok (Default, ts))
+    if next_is_sign signs.Assign ts
+    then (expect_at signs.Assign ts >>= λ a. assign_with below a.1 >>= λ e. Ok (Value e.0, e.1))
+    else (if next_is_sign signs.OpenParenthesis ts
+    then (arguments_with below ts >>= λ es. Ok (Arguments es.0, es.1)) else Ok (Default, ts))
 
 unfoldable pub decl_with : Below → Tokens → ParseResult Decl
 decl_with below ts = do
@@ -101,7 +112,7 @@ test_with below ts =
     if next_is_sign signs.Semicolon ts then (expect_at signs.Semicolon ts >>= λ s. Ok (None, s.1))
     else (below true ts >>= λ e. expect_at signs.Semicolon e.1 >>= λ s. Ok (Some e.0, s.1))
 
--- what stands after `return`, with its ";"
+-- what is after `return`, with its ";"
 unfoldable pub return_value_with : Below → Tokens → ParseResult (Option Expr)
 return_value_with below ts =
     if next_is_sign signs.Semicolon ts then (expect_at signs.Semicolon ts >>= λ s. Ok (None, s.1))
@@ -175,7 +186,8 @@ is_else _ = false
 -- after the first branch of an `if`
 unfoldable pub else_with : Nested → Place → Expr → Stmt → Tokens → ParseResult Stmt
 else_with nested p c s [] = Ok (If p c s, [])
-else_with nested p c s ((m, o) ∷ ts) = if is_else (stmt_token m) then (nested ts >>= λ t. Ok (IfElse p c s t.0, t.1)) else Ok (If p c s, (m, o) ∷ ts)
+else_with nested p c s ((m, o) ∷ ts) =
+    if is_else (stmt_token m) then (nested ts >>= λ t. Ok (IfElse p c s t.0, t.1)) else Ok (If p c s, (m, o) ∷ ts)
 
 unfoldable pub if_with : Below → Nested → Place → Tokens → ParseResult Stmt
 if_with below nested p ts = do
@@ -232,7 +244,8 @@ number_at ((m, p) ∷ ts) = Err (Unexpected ((m, p) ∷ ts))
 -- ["-"] NUMBER ":"
 unfoldable pub case_value_at : Tokens → ParseResult (Label × Place)
 case_value_at ts =
-    if next_is_sign signs.Minus ts then (expect_at signs.Minus ts >>= λ o. number_at o.1 >>= λ n. expect_at signs.Colon n.1 >>= λ c. Ok ((labels.CaseMinus (n.0).0, o.0), c.1))
+    if next_is_sign signs.Minus ts then (expect_at signs.Minus ts >>= λ o. number_at o.1
+    >>= λ n. expect_at signs.Colon n.1 >>= λ c. Ok ((labels.CaseMinus (n.0).0, o.0), c.1))
     else (number_at ts >>= λ n. expect_at signs.Colon n.1 >>= λ c. Ok ((labels.Case (n.0).0, (n.0).1), c.1))
 
 abbrev pub label_by : StmtToken → Meaning → Place → Tokens → ParseResult (Label × Place)
@@ -270,7 +283,9 @@ switch_with below nested p ts = do
 
 -- vars ";" | stmt
 unfoldable pub local_with : Below → Nested → Tokens → ParseResult Stmt
-local_with below nested ts = if is_vars ts then (vars_statement_with below ts >>= λ v. Ok (Declare (place_of_type (v.0).of) v.0, v.1)) else nested ts
+local_with below nested ts =
+    if is_vars ts then (vars_statement_with below ts >>= λ v. Ok (Declare (place_of_type (v.0).of) v.0, v.1))
+    else nested ts
 
 unfoldable pub locals_with : Below → Nested → Tokens → ParseResult (List Stmt)
 locals_with below nested ts = loop goes_on (local_with below nested) ts
@@ -283,7 +298,8 @@ block_with below nested ts = do
   Ok (ss.0, z.1)
 
 abbrev pub stmt_by : StmtToken → Below → Nested → Meaning → Place → Tokens → ParseResult Stmt
-stmt_by stmt_tokens.Block below nested m p ts = block_with below nested ((m, p) ∷ ts) >>= λ b. Ok (Block p (stmts b.0), b.1)
+stmt_by stmt_tokens.Block below nested m p ts =
+    block_with below nested ((m, p) ∷ ts) >>= λ b. Ok (Block p (stmts b.0), b.1)
 stmt_by stmt_tokens.Empty below nested m p ts = Ok (Empty p, ts)
 stmt_by stmt_tokens.If below nested m p ts = if_with below nested p ts
 stmt_by stmt_tokens.While below nested m p ts = while_with below nested p ts
