@@ -10,15 +10,15 @@ use Rattle.ash_tree.specs.Types.{IsType}
 use Rattle.ash_tree.specs.Grammar.{IsResultType, typed, IsUnnamed, unnamed, with_name, AreMoreUnnamed, no_more_unnamed, more_unnamed, AreUnnamed, no_unnamed, some_unnamed, Declares, signature, property}
 use Rattle.ash_parse.specs.Readers.{Unexpected, next_is_sign}
 use Rattle.ash_parse.specs.StatementReader.{is_name, next_is_name, type_at}
-use Rattle.ash_parse.specs.ItemReader.{after as after_first, is_left, result_type_at, unnamed_at, next_unnamed_at, more_unnamed_at, unnamed_list_at, unnamed_parameters_at, property_by, declaration_after, declaration_at}
+use Rattle.ash_parse.specs.ItemReader.{without_first, is_left, result_type_at, unnamed_at, next_unnamed_at, more_unnamed_at, unnamed_list_at, unnamed_parameters_at, property_by, declaration_after, declaration_at}
 use Rattle.ash_parse.specs.Faults.{whole_declaration_at}
-use Rattle.ash_parse.proofs.BeginLaws.{Stopped, Law, Then, Behind, Grows, then, law_as, done, fill_here, stops_here, after, fill_after, either, sign_then, name_then, put_law, all_of, nowhere}
+use Rattle.ash_parse.proofs.BeginLaws.{Stopped, Law, Then, After, Grows, then, law_as, done, fill_here, stops_here, after, fill_after, either, sign_then, name_then, put_law, all_of, nowhere}
 use Rattle.ash_parse.proofs.BeginTypes.{begin_type}
 use Rattle.ash_parse.proofs.BeginItems.{begin_result_type, stops_with}
 
 -- [NAME], after a type
-begin_name : (t : Named) (ts : Tokens) → Law (Ok (t, cond (next_is_name ts) (after_first ts) ts)) ts (Then (λ free. IsType) (λ free. IsUnnamed) t)
-unfolding next_is_name is_name after_first
+begin_name : (t : Named) (ts : Tokens) → Law (Ok (t, cond (next_is_name ts) (without_first ts) ts)) ts (Then (λ free. IsType) (λ free. IsUnnamed) t)
+unfolding next_is_name is_name without_first
 begin_name t [] = done _ t [] (λ free left before d. unnamed d)
 begin_name t ((name text, p) ∷ ts) = after _ (name text, p) _ ts (done _ t ts (λ free left before d. with_name d))
 begin_name t ((m, p) ∷ ts) = done _ t ((m, p) ∷ ts) (λ free left before d. unnamed d)
@@ -71,7 +71,7 @@ property_whole {p} {text} {from} {t} left (typed d) e = property (subst (λ (l :
 
 -- what is after the type and the name of a declaration
 abbrev Follows : Option Named → Place → List ℕ → ℕ → Tokens → Declaration → Tokens → Type 0
-Follows r p text = Behind (name text, p) (Then (λ free. IsResultType) Whole r)
+Follows r p text = After (name text, p) (Then (λ free. IsResultType) Whole r)
 
 signature_whole : (r : Option Named) (p : Place) (text : List ℕ) (xs : List Named) (free : ℕ) (from left : Tokens) → AreUnnamed from xs left → Follows r p text free from (ASignature (record { place = p; result = r; name = text; parameters = xs })) left
 signature_whole r p text xs free from left d before t e = signature t (subst (λ (l : Tokens). AreUnnamed from xs l) e d)

@@ -20,7 +20,7 @@ use Rattle.ash_parse.specs.ItemReader.{is_void, is_class, is_interface, result_t
 use Rattle.ash_parse.proofs.Readings.{sign_is}
 use Rattle.ash_parse.proofs.ItemSound.{void_is, class_is, interface_is}
 use Rattle.ash_parse.proofs.StatementSound.{nested_sound}
-use Rattle.ash_parse.proofs.BeginLaws.{left_at, GoesOn, Stopped, Law, Filled, Explained, Then, Behind, Grows, Ending, then, law_as, done, fill_here, stops_here, after, fill_after, either, explain_either, sign_then, name_then, put_law, all_of, nowhere, some_name}
+use Rattle.ash_parse.proofs.BeginLaws.{left_at, GoesOn, Stopped, Law, Filled, Explained, Then, After, Grows, Ending, then, law_as, done, fill_here, stops_here, after, fill_after, either, explain_either, sign_then, name_then, put_law, all_of, nowhere, some_name}
 use Rattle.ash_parse.proofs.BeginExpressions.{begin_whole, begin_part}
 use Rattle.ash_parse.proofs.BeginTypes.{begin_type}
 use Rattle.ash_parse.proofs.BeginStatements.{begin_declared, begin_block, begin_nested}
@@ -131,7 +131,7 @@ begin_more_interfaces : (ts : Tokens) → Law (more_interfaces_at ts) ts (λ fre
 unfolding more_interfaces_at
 begin_more_interfaces ts = all_of (next_is_sign signs.Comma) next_interface_at (λ free. AreMoreInterfaces) (λ free left. no_more_interfaces) (λ s b. (begin_next_interface s).explained) (length ts) ts
 
-begin_listed_interfaces : (p : Place) (ts : Tokens) → Law (listed_interfaces_at ts) ts (Behind (sign signs.Colon, p) (λ free. AreInterfaces))
+begin_listed_interfaces : (p : Place) (ts : Tokens) → Law (listed_interfaces_at ts) ts (After (sign signs.Colon, p) (λ free. AreInterfaces))
 unfolding listed_interfaces_at
 begin_listed_interfaces p ts =
     name_then _ _ ts
@@ -144,7 +144,7 @@ begin_interfaces ts =
     (sign_then _ signs.Colon _ ts begin_listed_interfaces)
     (done _ [] ts (λ free left. no_interfaces))
 
-begin_class : (p : Place) (ts : Tokens) → Law (class_at ts) ts (Behind (reserved words.Class, p) IsClass)
+begin_class : (p : Place) (ts : Tokens) → Law (class_at ts) ts (After (reserved words.Class, p) IsClass)
 unfolding class_at
 begin_class p ts =
     name_then _ _ ts
@@ -169,7 +169,7 @@ begin_interface_methods ts =
     all_of goes_on interface_method_at (λ free. AreInterfaceMethods) (λ free left. no_interface_methods)
     (λ s b. (law_as (λ free. IsInterfaceMethod) (Grows (λ free. AreInterfaceMethods)) (λ free from x left d xs end more. more_interface_methods d more) (interface_method_at s) s (begin_interface_method s)).explained) (length ts) ts
 
-begin_interface : (p : Place) (ts : Tokens) → Law (interface_at ts) ts (Behind (reserved words.Interface, p) (λ free. IsInterface))
+begin_interface : (p : Place) (ts : Tokens) → Law (interface_at ts) ts (After (reserved words.Interface, p) (λ free. IsInterface))
 unfolding interface_at
 begin_interface p ts =
     name_then _ _ ts
@@ -198,15 +198,15 @@ begin_item ((m, p) ∷ ts) =
     record {
       explained = explain_either (is_class m) (class_at ts >>= λ c. Ok (AClass c.0, c.1)) (cond (is_interface m) (interface_at ts >>= λ i. Ok (AnInterface i.0, i.1)) (other_item_at u)) u IsItem
           (λ b. subst (λ w. Explained (class_at ts >>= λ c. Ok (AClass c.0, c.1)) ((w, p) ∷ ts) IsItem) (sym (class_is m b))
-          (after IsItem (reserved words.Class, p) (class_at ts >>= λ c. Ok (AClass c.0, c.1)) ts (then (Behind (reserved words.Class, p) IsClass) _ (class_at ts) _ ts (begin_class p ts) (λ c r. done _ (AClass c) r (λ free left before d. a_class d)))).explained)
+          (after IsItem (reserved words.Class, p) (class_at ts >>= λ c. Ok (AClass c.0, c.1)) ts (then (After (reserved words.Class, p) IsClass) _ (class_at ts) _ ts (begin_class p ts) (λ c r. done _ (AClass c) r (λ free left before d. a_class d)))).explained)
           (λ b. explain_either (is_interface m) (interface_at ts >>= λ i. Ok (AnInterface i.0, i.1)) (other_item_at u) u IsItem
           (λ c. subst (λ w. Explained (interface_at ts >>= λ i. Ok (AnInterface i.0, i.1)) ((w, p) ∷ ts) IsItem) (sym (interface_is m c))
-          (after IsItem (reserved words.Interface, p) (interface_at ts >>= λ i. Ok (AnInterface i.0, i.1)) ts (then (Behind (reserved words.Interface, p) (λ free. IsInterface)) _ (interface_at ts) _ ts (begin_interface p ts) (λ i r. done _ (AnInterface i) r (λ free left before d. an_interface d)))).explained)
+          (after IsItem (reserved words.Interface, p) (interface_at ts >>= λ i. Ok (AnInterface i.0, i.1)) ts (then (After (reserved words.Interface, p) (λ free. IsInterface)) _ (interface_at ts) _ ts (begin_interface p ts) (λ i r. done _ (AnInterface i) r (λ free left before d. an_interface d)))).explained)
           (λ c. (begin_other_item u).explained));
       filled = fill_item;
     }
 
--- the ";" in prefix, which change nothing
+-- each ";" that the tokens begin with changes nothing
 record Stripped (ts : Tokens) : Type 0 where
   semicolons : Tokens
   all : ts ≡ semicolons ++ strip ts

@@ -16,7 +16,7 @@ use Rattle.ash_tree.specs.Types.{IsElement}
 use Rattle.ash_tree.specs.Expressions.{DEPTH, IsInner, inner, AreExprs, no_exprs, some_exprs, AreMoreExprs, no_more_exprs, more_exprs, IsArgs, args, IsAssign, no_assign, assign, IsCond, no_branch, branches, IsBinary, operand, joined, AreLinks, no_links, more_links, IsUnary, applied, postfix, AreSuffixes, no_suffixes, more_suffixes, IsSuffix, field, method, index, increment, decrement, IsPrimary, numeral, yes, no, null, this, named, call, brackets, convert, new_array, cast}
 use Rattle.ash_parse.specs.Signs.{is_sign, same_sign}
 use Rattle.ash_parse.specs.Readers.{next_is, next_is_sign}
-use Rattle.ash_parse.specs.ExpressionReader.{Below, begins, next_expr_with, more_exprs_with, exprs_with, arguments_with, bracketed_with, named_with, new_array_with, cast_with, primary_with, begins_suffix, is_suffix, member_with, index_with, suffix_with, suffixes_with, postfix_with, unary_with, operator_at, is_link, link_by, links_by, chain_by, binary_with, branches_with, assign_from, assign_with, limit_at, below_at}
+use Rattle.ash_parse.specs.ExpressionReader.{Below, begins, next_expr_with, more_exprs_with, exprs_with, arguments_with, bracketed_with, name_or_call_with, new_array_with, cast_with, primary_with, begins_suffix, is_suffix, member_with, index_with, suffix_with, suffixes_with, postfix_with, unary_with, operator_at, is_link, link_by, links_by, chain_by, binary_with, branches_with, assign_from, assign_with, limit_at, below_at}
 use Rattle.ash_parse.specs.TypeReader.{target_at}
 use Rattle.ash_parse.proofs.Readings.{expect_again, next_is_sign-again, name_again}
 use Rattle.ash_parse.proofs.Elements.{element_read}
@@ -294,11 +294,11 @@ module _ (below : Below) where
   index_again p q from left e h = then_reads _ h (rw (expect_again signs.CloseBracket q left) whole)
 
   named_again : (p : Place) (text : List ℕ) (left : Tokens) → next_is_sign signs.OpenParenthesis left ≡ false → primary_with below ((name text, p) ∷ left) ≡ Ok (Name p text, left)
-  unfolding primary_with named_with primitive
+  unfolding primary_with name_or_call_with primitive
   named_again p text left s = rw s refl
 
   call_again : {free : ℕ} (p o : Place) (text : List ℕ) (from left : Tokens) (es : List Expr) → Reads (List Expr) free (arguments_with below ((sign signs.OpenParenthesis, o) ∷ from)) (es, left) → Reads Expr free (primary_with below ((name text, p) ∷ (sign signs.OpenParenthesis, o) ∷ from)) (Call p text (exprs es), left)
-  unfolding primary_with named_with primitive
+  unfolding primary_with name_or_call_with primitive
   call_again p o text from left es h = rw (next_is_sign-again signs.OpenParenthesis o from) (then_reads _ h whole)
 
   brackets_again : {free : ℕ} (p q : Place) (from left : Tokens) (e : Expr) → Reads Expr free (below true from) (e, (sign signs.CloseParenthesis, q) ∷ left) → Reads Expr free (primary_with below ((sign signs.OpenParenthesis, p) ∷ from)) (Brackets p e, left)

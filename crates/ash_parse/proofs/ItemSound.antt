@@ -14,7 +14,7 @@ use Rattle.ash_parse.specs.Signs.{is_sign}
 use Rattle.ash_parse.specs.Readers.{Unexpected, ◌>>=◌, put, loop, next_is_sign, expect_at, name_at}
 use Rattle.ash_parse.specs.ExpressionReader.{below_at}
 use Rattle.ash_parse.specs.StatementReader.{type_at, goes_on, nested_at}
-use Rattle.ash_parse.specs.ItemReader.{is_void, is_class, is_interface, result_type_at, parameter_at, next_parameter_at, more_parameters_at, parameter_list_at, parameters_at, body_at, function_at, globals_at, after, is_function, is_constructor, constructor_at, member_at, members_at, next_interface_at, more_interfaces_at, listed_interfaces_at, interfaces_at, class_at, interface_method_at, interface_methods_at, interface_at, other_item_at, item_at, strip, entry_at, is_left, entries_at, module_at}
+use Rattle.ash_parse.specs.ItemReader.{is_void, is_class, is_interface, result_type_at, parameter_at, next_parameter_at, more_parameters_at, parameter_list_at, parameters_at, body_at, function_at, globals_at, without_first, is_function, is_constructor, constructor_at, member_at, members_at, next_interface_at, more_interfaces_at, listed_interfaces_at, interfaces_at, class_at, interface_method_at, interface_methods_at, interface_at, other_item_at, item_at, strip, entry_at, is_left, entries_at, module_at}
 use Rattle.ash_parse.proofs.Readings.{no_err, bind_ok, at_pair, if_elim, put_ok, Finds, repeat_sound, sign_is, expect_sound, name_sound}
 use Rattle.ash_parse.proofs.Types.{ends_in, type_sound}
 use Rattle.ash_parse.proofs.ExpressionSound.{whole_sound, part_sound}

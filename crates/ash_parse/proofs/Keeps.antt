@@ -35,7 +35,7 @@ Beyond t more n = (seen rest : Tokens) → LeavesOpen t seen → more ≡ seen +
 
 -- What two answers have to do with each other, where the tokens that were read differ only in what is after `t`. They are
 -- one answer, but that where `more` is left after `t` in the first, `other` is in the second; or both took `t`. Or the
--- first took what reports that a declaration of variables begins, which it doesn't with the tokens of the second; or it
+-- first took what decides that a declaration of variables begins, which it doesn't with the tokens of the second; or it
 -- stops at a token that stands too deep, with which a declaration begins in the second.
 pub data Agree {A : Type 0} (t : Meaning × Place) (more other : Tokens) : ParseResult A → ParseResult A → Type 0 where
   reads : (x : A) (prefix : Tokens) → Agree t more other (Ok (x, prefix ++ t ∷ more)) (Ok (x, prefix ++ t ∷ other))
@@ -216,7 +216,7 @@ if_lawful test {on} {off} steady p q =
     choice_lawful test (λ t more other prefix. let s = prefix ++ t ∷ more in let r = prefix ++ t ∷ other in
     no_cross (test s) (test r) (Agree t more other (on s) (off r)) (Agree t more other (off s) (on r)) (steady t more other prefix)) p q
 
--- one answer, reported by one reader and the other
+-- one answer, given by one reader and the other
 pub alike : {A : Type 0} {one two : Tokens → ParseResult A} → ((s : Tokens) → one s ≡ two s) → Lawful two → Lawful one
 alike {one} {two} e law = record {
   keeps = λ t more other prefix. let s = prefix ++ t ∷ more in let r = prefix ++ t ∷ other in

@@ -10,7 +10,7 @@ use Rattle.ash_tree.specs.Types.{IsElement}
 use Rattle.ash_parse.specs.Signs.{is_sign}
 use Rattle.ash_parse.specs.Readers.{Halt, Unexpected, TooDeep, ParseResult, ◌>>=◌, next_is_sign, name_at}
 use Rattle.ash_parse.specs.StatementReader.{is_name, next_is_name, is_vars, goes_on}
-use Rattle.ash_parse.specs.ItemReader.{is_class, is_interface, parameters_at, body_at, after, is_constructor, constructor_at, member_at, members_at, next_interface_at, more_interfaces_at, listed_interfaces_at, interfaces_at, class_at, interface_method_at, interface_methods_at, interface_at, item_at, strip, entry_at, is_left, entries_at, module_at, unnamed_at, next_unnamed_at, more_unnamed_at, unnamed_list_at, unnamed_parameters_at, property_by, declaration_after, declaration_at}
+use Rattle.ash_parse.specs.ItemReader.{is_class, is_interface, parameters_at, body_at, without_first, is_constructor, constructor_at, member_at, members_at, next_interface_at, more_interfaces_at, listed_interfaces_at, interfaces_at, class_at, interface_method_at, interface_methods_at, interface_at, item_at, strip, entry_at, is_left, entries_at, module_at, unnamed_at, next_unnamed_at, more_unnamed_at, unnamed_list_at, unnamed_parameters_at, property_by, declaration_after, declaration_at}
 use Rattle.ash_parse.specs.Faults.{whole_declaration_at}
 use Rattle.ash_parse.specs.FirstFault.{LeavesOpen}
 use Rattle.ash_parse.proofs.ItemShorter.{member_shrinks, next_interface_shrinks, interface_method_shrinks, entry_shrinks, next_unnamed_shrinks, strip_shorter}
@@ -44,7 +44,7 @@ name_in_prefix (reserved n) p s Q h go = absurd (no_true h)
 name_in_prefix (unsupported n) p s Q h go = absurd (no_true h)
 
 constructor_steady : (a t : Meaning × Place) (more other prefix : Tokens) → is_constructor (a ∷ prefix ++ t ∷ more) ≡ is_constructor (a ∷ prefix ++ t ∷ other)
-unfolding is_constructor next_is_name after
+unfolding is_constructor next_is_name without_first
 constructor_steady a t more other prefix = rw (sign_steady signs.OpenParenthesis t more other prefix) refl
 
 constructor_takes : (text : List ℕ) (p : Place) (n : ℕ) (s : Tokens) → length s ≤ n → Past n (a_constructor ((name text, p) ∷ s))
@@ -176,8 +176,8 @@ unfolding is_name
 name_no_array (reserved words.Array) e = no_true e
 name_no_array m e = tt
 
-optional_name : (t : Named) → Lawful (λ s. Ok (t, cond (next_is_name s) (after s) s))
-unfolding next_is_name after
+optional_name : (t : Named) → Lawful (λ s. Ok (t, cond (next_is_name s) (without_first s) s))
+unfolding next_is_name without_first
 optional_name t = led_lawful (λ n. omega arith) (λ m p. by_token (is_name m) m p refl)
   where
     by_token : (b : Bool) (m : Meaning) (p : Place) → is_name m ≡ b → Led (m, p) (λ s. Ok (t, cond b s ((m, p) ∷ s)))
@@ -224,7 +224,7 @@ whole_declaration_lawful = bind_lawful _ declaration_lawful λ d. if_lawful is_l
 pub keeps_unexpected : (prefix more other : Tokens) (t : Meaning × Place) → module_at (prefix ++ t ∷ more) ≡ Err (Unexpected (t ∷ more)) → module_at (prefix ++ t ∷ other) ≡ Err (Unexpected (t ∷ other))
 keeps_unexpected prefix more other t h = stops_alike t more other (module_lawful.keeps t more other prefix) h
 
--- where a token stands too deep, what stands after those that tell what it begins changes nothing
+-- where a token stands too deep, what is after those that decide what it begins changes nothing
 pub keeps_too_deep : (prefix seen more other : Tokens) (t u : Meaning × Place) → is_vars (t ∷ (seen ++ u ∷ more)) ≡ is_vars (t ∷ (seen ++ u ∷ other)) → module_at (prefix ++ t ∷ (seen ++ u ∷ more)) ≡ Err (TooDeep (t ∷ (seen ++ u ∷ more))) → module_at (prefix ++ t ∷ (seen ++ u ∷ other)) ≡ Err (TooDeep (t ∷ (seen ++ u ∷ other)))
 keeps_too_deep prefix seen more other t u same h =
     let regroup : (s : Tokens) → (prefix ++ t ∷ seen) ++ s ≡ prefix ++ t ∷ (seen ++ s) = λ s. append_assoc prefix (t ∷ seen) s in

@@ -77,7 +77,7 @@ leaves_less : (t : Meaning × Place) (a b : Tokens) → LeavesOpen t (a ++ b) �
 leaves_less t a b (inl e) = inl (no_first a b e)
 leaves_less t a b (inr d) = inr (d.0, b ++ d.1, d.2, subst (λ (l : Tokens). IsElement l d.2 []) (append_assoc a b d.1) d.3)
 
--- `t` is the word `array`, and `u` stands in its `"<" elem ">"`, after `mid`
+-- `t` is the word `array`, and `u` is in its `"<" elem ">"`, after `mid`
 abbrev StandsInside : Meaning × Place → Tokens → Meaning × Place → Type 0
 StandsInside t mid u = (t.0 ≡ reserved words.Array) × (tail : Tokens) × (of : Element) × IsElement (mid ++ u ∷ tail) of []
 
@@ -167,7 +167,7 @@ module _ (f mid : Tokens) (t : Meaning × Place) (deep : GoesTooDeep f t) where
   open_deep ts (TooDeep []) fault e leaves cut = fault
   open_deep ts (TooDeep (u ∷ rest)) fault e leaves cut = cut u rest refl fault.3
 
-  -- where the token after reports, it is not too deep
+  -- where the token after it decides, it is not too deep
   none_next : (g : Tokens) (u : Meaning × Place) (rest : Tokens) → g ≡ f ++ t ∷ mid → NoneKeeps f t mid (u ∷ rest) → GoesTooDeep g u → ⊥
   none_next g u rest e none more =
       let is : g ++ u ∷ more.0 ≡ f ++ t ∷ (mid ++ u ∷ more.0) = ap (λ (l : Tokens). l ++ u ∷ more.0) e ∙ append_assoc f (t ∷ mid) (u ∷ more.0) in

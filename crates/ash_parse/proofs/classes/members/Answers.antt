@@ -8,7 +8,7 @@ use Rattle.ash_parse.specs.ItemReader.{members_at, member_at}
 use Rattle.ash_parse.proofs.Loop.{goes_on as go_on, ends, is_done}
 use Rattle.ash_parse.proofs.StatementLoops.{goes_on-none}
 use Rattle.ash_parse.proofs.ItemShorter.{member_shrinks}
-use Rattle.ash_parse.proofs.items.members.Goals as goal
+use Rattle.ash_parse.proofs.classes.members.Goals as goal
 
 pub returns-in_err-next : goal.returns-in_err-next
 unfolding members_at

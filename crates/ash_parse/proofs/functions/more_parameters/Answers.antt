@@ -9,7 +9,7 @@ use Rattle.ash_parse.specs.ItemReader.{more_parameters_at, next_parameter_at}
 use Rattle.ash_parse.proofs.Loop.{goes_on as go_on, ends, is_done}
 use Rattle.ash_parse.proofs.ExpressionLoops.{no_sign_left}
 use Rattle.ash_parse.proofs.ItemShorter.{next_parameter_shrinks}
-use Rattle.ash_parse.proofs.items.more_parameters.Goals as goal
+use Rattle.ash_parse.proofs.functions.more_parameters.Goals as goal
 
 pub returns-in_err-next : goal.returns-in_err-next
 unfolding more_parameters_at

@@ -10,7 +10,7 @@ use Rattle.ash_parse.specs.Readers.{put, next_is_sign}
 use Rattle.ash_parse.specs.StatementReader.{next_decl_with, more_decls_with}
 use Rattle.ash_parse.proofs.ExpressionLoops.{no_sign_left}
 use Rattle.ash_parse.proofs.StatementLoops.{next_decl_shrinks}
-use Rattle.ash_parse.proofs.statements.more_decls.Goals as goal
+use Rattle.ash_parse.proofs.variables.more_decls.Goals as goal
 
 pub returns-in_err-next : goal.returns-in_err-next
 unfolding more_decls_with

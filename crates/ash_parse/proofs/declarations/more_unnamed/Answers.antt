@@ -9,7 +9,7 @@ use Rattle.ash_parse.specs.ItemReader.{more_unnamed_at, next_unnamed_at}
 use Rattle.ash_parse.proofs.Loop.{goes_on as go_on, ends, is_done}
 use Rattle.ash_parse.proofs.ExpressionLoops.{no_sign_left}
 use Rattle.ash_parse.proofs.ItemShorter.{next_unnamed_shrinks}
-use Rattle.ash_parse.proofs.items.more_unnamed.Goals as goal
+use Rattle.ash_parse.proofs.declarations.more_unnamed.Goals as goal
 
 pub returns-in_err-next : goal.returns-in_err-next
 unfolding more_unnamed_at

@@ -8,7 +8,7 @@ use Rattle.ash_parse.specs.ItemReader.{interface_methods_at, interface_method_at
 use Rattle.ash_parse.proofs.Loop.{goes_on as go_on, ends, is_done}
 use Rattle.ash_parse.proofs.StatementLoops.{goes_on-none}
 use Rattle.ash_parse.proofs.ItemShorter.{interface_method_shrinks}
-use Rattle.ash_parse.proofs.items.interface_methods.Goals as goal
+use Rattle.ash_parse.proofs.interfaces.interface_methods.Goals as goal
 
 pub returns-in_err-next : goal.returns-in_err-next
 unfolding interface_methods_at

@@ -9,7 +9,7 @@ use Rattle.ash_parse.specs.ItemReader.{more_interfaces_at, next_interface_at}
 use Rattle.ash_parse.proofs.Loop.{goes_on as go_on, ends, is_done}
 use Rattle.ash_parse.proofs.ExpressionLoops.{no_sign_left}
 use Rattle.ash_parse.proofs.ItemShorter.{next_interface_shrinks}
-use Rattle.ash_parse.proofs.items.more_interfaces.Goals as goal
+use Rattle.ash_parse.proofs.classes.more_interfaces.Goals as goal
 
 pub returns-in_err-next : goal.returns-in_err-next
 unfolding more_interfaces_at
