@@ -1,5 +1,5 @@
 use Rattle.std.proofs.Common.{◌≡◌, ℕ, Vec, Global, ap, ◌∙◌, rules}
-use Rattle.ash_disk.proofs.Kept.{write_more, sync_more, torn_more, synced_more}
+use Rattle.ash_disk.proofs.CallLaws.{write_more, sync_more, torn_more, synced_more}
 use Rattle.ash_disk.proofs.crash.image_of_part.Goals as goal
 use Rattle.ash_disk.proofs.crash.image_of_part.Goals.{in-Write+in_ok-tear-in-Write+in_ok-overwrite-in-Write, in-Sync+in_ok-image-in-Sync}
 

@@ -1,6 +1,6 @@
 use Rattle.std.proofs.Common.{◌≡◌, ◌∙◌, [], ◌∷◌, ◌++◌, List, ap, rules}
-use Rattle.ash_disk.specs.declared.registration.Registration.{Call}
-use Rattle.ash_disk.specs.declared.registration.Registration.TheVariants.{Write}
+use Rattle.ash_disk.specs.declared.call.Call.{Call}
+use Rattle.ash_disk.specs.declared.call.Call.TheVariants.{Write}
 use Rattle.ash_disk.proofs.memory.keep_write.Goals as goal
 
 pub returns-clause-kept : goal.returns-clause-kept

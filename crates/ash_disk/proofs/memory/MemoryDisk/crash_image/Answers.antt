@@ -1,4 +1,4 @@
-use Rattle.ash_disk.proofs.Kept.{synced_left, read_left}
+use Rattle.ash_disk.proofs.CallLaws.{synced_left, read_left}
 use Rattle.ash_disk.proofs.memory.MemoryDisk.crash_image.Goals as goal
 
 pub returns-in-Nothing-clause-allowed : goal.returns-in-Nothing-clause-allowed

@@ -1,4 +1,4 @@
-use Rattle.ash_disk.proofs.Kept.{during_write}
+use Rattle.ash_disk.proofs.CallLaws.{during_write}
 use Rattle.ash_disk.proofs.memory.MemoryDiskDisk.write_at.Goals as goal
 
 pub returns-clause-moments : goal.returns-clause-moments

@@ -1,12 +1,12 @@
--- How a disk in memory goes on when it keeps one call more.
+-- What one call more changes of what a disk in memory holds, and of what a crash may leave of it.
 use Rattle.std.proofs.Common.{◌≡◌, inl, inr, ℕ, ◌+◌, ◌≤◌, ◌<◌, Bool, true, false, cond, List, [], ◌∷◌, ◌++◌, length, get_or, reverse, take, refl, sym, ◌∙◌, ap, subst, arith, length-append, Vec, Global, Result, Ok, Err, OnOk, OnErr, IfOk}
 use Rattle.std.proofs.lemmas.List.{take_all, take_more, take-append-le, reverse-append}
 use Rattle.std.proofs.lemmas.Bool.{cases_lt}
 use Rattle.ash_disk.specs.Image.{after_write, Torn, TornFrom, torn_not}
 use Rattle.ash_disk.specs.Calls.{file_after, synced_after, MayLeave, file_may_stay}
 use Rattle.ash_disk.specs.Moments.{During}
-use Rattle.ash_disk.specs.declared.registration.Registration.{Call}
-use Rattle.ash_disk.specs.declared.registration.Registration.TheVariants.{Write, Sync}
+use Rattle.ash_disk.specs.declared.call.Call.{Call}
+use Rattle.ash_disk.specs.declared.call.Call.TheVariants.{Write, Sync}
 use Rattle.ash_disk.proofs.MomentLaws.{at_start}
 
 -- what a crash after the first calls may leave
