@@ -8,8 +8,8 @@ use Rattle.ash_journal.specs.Opening.{IsCreatedOrClosed}
 use Rattle.ash_journal.specs.Writes.{IsIdle, WhileCreated}
 use Rattle.ash_journal.proofs.LayoutLaws.{same_file, solid_mark, file_mark, mark_closed, mark_open, solid_no_records}
 use Rattle.ash_journal.proofs.LayoutLaws.{solid-push}
-use Rattle.ash_journal.proofs.SettleLaws.{Property, by_invariant, mark_less, older_by_mark, open_or_closed, open_reopened}
-use Rattle.ash_journal.proofs.SettleLaws.{open_shut, reopened_twice}
+use Rattle.ash_journal.proofs.SettleLaws.{Property, by_invariant, mark_less, older_by_mark, open_or_closed}
+use Rattle.ash_journal.proofs.SettleLaws.{open_reopened, open_shut, reopened_twice}
 use Rattle.ash_journal.proofs.ReopenLaws.{end_settles, rest_settles}
 
 -- ---- a new generation in the other file

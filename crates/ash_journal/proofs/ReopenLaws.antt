@@ -15,8 +15,8 @@ Rests P x w a b = (a ≡ w) × SettleOn P x b
 
 -- A file of the same generation at rest in place of the first: they settle on what they did, and what the new file
 -- represents.
-pub rest_settles : (P Q : Property) (g : ℕ) (image image' : List ℕ) (bodies bodies' : List (List ℕ)) (x w rest y : List ℕ)
-    → IsFile g image bodies x → w ≡ solid g image' bodies' ++ 0 ∷ rest → FieldsFit g image' bodies'
+pub rest_settles : (P Q : Property) (g : ℕ) (image image' : List ℕ) (bodies bodies' : List (List ℕ))
+    (x w rest y : List ℕ) → IsFile g image bodies x → w ≡ solid g image' bodies' ++ 0 ∷ rest → FieldsFit g image' bodies'
     → (P (image, bodies) → Q (image', bodies')) → Implies P Q → SettleOn P x y → SettleOn Q w y
 rest_settles P Q g image image' bodies bodies' x w rest y file is fits among more settle =
     by_invariant Q (Rests P x w) represents preserved w y (refl, settle)
@@ -130,8 +130,8 @@ Turns P Q x u a b = Rests P x u a b ⊎ SettleOn Q a b
 
 -- A file in place of the first that differs from it from the gate after its last open record on, and has no 1 there:
 -- they settle so, where they do with 1 there.
-pub end_settles : (P Q : Property) (g : ℕ) (image : List ℕ) (bodies : List (List ℕ)) (x : List ℕ) (c : ℕ) (rest y : List ℕ)
-    → IsFile g image bodies x → c ≢ 1 → Implies P Q
+pub end_settles : (P Q : Property) (g : ℕ) (image : List ℕ) (bodies : List (List ℕ)) (x : List ℕ) (c : ℕ)
+    (rest y : List ℕ) → IsFile g image bodies x → c ≢ 1 → Implies P Q
     → ((v : List ℕ) → SettleOn P x v → IsOlder g v → SettleOn Q (solid g image bodies ++ 1 ∷ rest) v) → SettleOn P x y
     → SettleOn Q (solid g image bodies ++ c ∷ rest) y
 end_settles P Q g image bodies x c rest y file shut more good settle =
@@ -207,7 +207,8 @@ follower_settles P g h x u y x_marked marked y_marked less settle =
         omega (arith, above, is, less)
 
     represents : (a b : List ℕ) → Follows P h x u a b → RepresentOne P a b
-    represents a b holds = subst (λ (l : List ℕ). RepresentOne P l b) (sym holds.0.0) (from (represent_now P x b holds.0.1))
+    represents a b holds =
+        subst (λ (l : List ℕ). RepresentOne P l b) (sym holds.0.0) (from (represent_now P x b holds.0.1))
       where
         from : RepresentOne P x b → RepresentOne P u b
         from (pair, among, inl is_current) =

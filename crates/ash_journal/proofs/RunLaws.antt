@@ -9,7 +9,8 @@ use Rattle.ash_disk.proofs.MomentLaws.{at_start, every_moment}
 use Rattle.ash_journal.specs.Current.{Contents, Either, Represent, SettleOn, SettleFurther}
 use Rattle.ash_journal.specs.Runs.{Run, Extends, Nothing}
 use Rattle.ash_journal.specs.OtherState.{first_of, second_of}
-use Rattle.ash_journal.proofs.SettleLaws.{Property, settle_turned, further, further_same, further_turned, represent_once}
+use Rattle.ash_journal.proofs.SettleLaws.{Property, settle_turned, further, further_same, further_turned}
+use Rattle.ash_journal.proofs.SettleLaws.{represent_once}
 
 -- what is left now is left at the last moment before a later one
 left_now : (leaves : ℕ → List ℕ → Type 0) (now s : ℕ) (x : List ℕ) → now ≤ s → leaves now x → leaves (min s now) x
