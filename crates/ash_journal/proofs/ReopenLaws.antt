@@ -16,7 +16,8 @@ Rests P x w a b = (a ≡ w) × SettleOn P x b
 -- A file of the same generation at rest in place of the first: they settle on what they did, and what the new file
 -- represents.
 pub rest_settles : (P Q : Property) (g : ℕ) (image image' : List ℕ) (bodies bodies' : List (List ℕ))
-    (x w rest y : List ℕ) → IsFile g image bodies x → w ≡ solid g image' bodies' ++ 0 ∷ rest → FieldsFit g image' bodies'
+    (x w rest y : List ℕ) → IsFile g image bodies x → w ≡ solid g image' bodies' ++ 0 ∷ rest
+    → FieldsFit g image' bodies'
     → (P (image, bodies) → Q (image', bodies')) → Implies P Q → SettleOn P x y → SettleOn Q w y
 rest_settles P Q g image image' bodies bodies' x w rest y file is fits among more settle =
     by_invariant Q (Rests P x w) represents preserved w y (refl, settle)
