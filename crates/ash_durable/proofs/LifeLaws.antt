@@ -2,23 +2,9 @@
 use Rattle.std.proofs.Common.{◌≡◌, inl, inr, ℕ, List, [], ◌∷◌, ◌++◌, Result, Ok, Err, refl, sym, ◌∙◌, ap, subst, arith}
 use Rattle.std.specs.Bool.{IsTrue}
 use Rattle.ash_disk.specs.Device.{Device}
-<<<<<<< HEAD
 use Rattle.ash_journal.specs.Current.{Contents, Represent}
-use Rattle.ash_journal.proofs.SettleLaws.{stand_now, represent_once}
+use Rattle.ash_journal.proofs.SettleLaws.{represent_now, represent_once}
 use Rattle.ash_meaning.specs.State.{State, empty}
-=======
-use Rattle.ash_disk.specs.Moments.{LeftSince}
-use Rattle.ash_journal.specs.declared.journal.Journal.{Journal}
-use Rattle.ash_journal.specs.Current.{Contents, Represent, SettleOn}
-use Rattle.ash_journal.specs.Layout.{IsOpen}
-use Rattle.ash_journal.proofs.LayoutLaws.{open_closed}
-use Rattle.ash_journal.proofs.SettleLaws.{settle_turned, represent_now, represent_once}
-use Rattle.ash_subset.specs.Meaning.{End}
-use Rattle.ash_meaning.specs.Refusals as refusals
-use Rattle.ash_meaning.specs.State.{State, Request, Seq, Reply, Answered, Refused, empty}
-use Rattle.ash_meaning.specs.Step.{Demand, Initialize, Run, Remove, Read, Count, Rewrite, Steps, task_of}
-use Rattle.ash_meaning.specs.Step.{unless_refused}
->>>>>>> 985b83997a2fc300b716e2b522b7f97288e663d3
 use Rattle.ash_registry.specs.Calls.{Registration}
 use Rattle.ash_durable.specs.Hosting.{Hosted, first, second}
 use Rattle.ash_durable.specs.States.{AreHonest, SettleSince, SettleNow, IsOne, IsEither, IsStateOf, HaveState}
