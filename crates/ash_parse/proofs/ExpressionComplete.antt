@@ -1,4 +1,4 @@
--- What is in the grammar of expressions is read, or reading is cut where a token stands too deep.
+-- What is in the grammar of expressions is read, or reading is cut where a token is too deep.
 use Rattle.std.proofs.Common.{◌≡◌, ℕ, zero, suc, ◌+◌, ◌<◌, ◌≤◌, ◌==◌, List, [], ◌∷◌, length, Bool, true, false, Some, None, Ok, refl, arith}
 use Rattle.std.proofs.lemmas.Bool.Decides.{nat_tests}
 use Rattle.ash_lex.specs.Tokens.{Meaning, name, sign, reserved}
@@ -27,7 +27,7 @@ use Rattle.ash_parse.proofs.Rereading.{no_some, no_true, Reads, whole, cut, as_r
 abbrev pub Stops : ℕ → Tokens → Type 0
 Stops n left = (next_is_sign signs.OpenParenthesis left ≡ false) × (is_suffix left ≡ false) × ((k : ℕ) → k < n → is_link k left ≡ false)
 
--- what stands after a whole expression
+-- what is after a whole expression
 unfoldable pub ends_expr : Meaning → Bool
 ends_expr (sign signs.CloseParenthesis) = true
 ends_expr (sign signs.CloseBracket) = true
@@ -110,13 +110,13 @@ unfolding next_is_sign
 close_ends [] h = absurd (no_true h)
 close_ends ((m, p) ∷ ts) h = close_ends_at m h
 
--- what stands after one of several arguments
+-- what is after one of several arguments
 pub more_end : {free depth : ℕ} {from left : Tokens} {es : List Expr} → AreMoreExprs free depth from es left → Closes left → Ends from
 unfolding ends_expr
 more_end (no_more_exprs {left = left}) s = (close_ends left s).0
 more_end (more_exprs a b) s = refl
 
--- what stands after an operand, before suffixes or operators
+-- what is after an operand, before suffixes or operators
 suffixes_open : {free depth : ℕ} {from left : Tokens} {more : List Suffix} → AreSuffixes free depth from more left → next_is_sign signs.OpenParenthesis left ≡ false → next_is_sign signs.OpenParenthesis from ≡ false
 unfolding next_is_sign is_sign same_sign
 suffixes_open no_suffixes s = s
@@ -205,7 +205,7 @@ unfolding next_is_sign
 begins_no_close [] h = refl
 begins_no_close ((m, p) ∷ ts) h = begins_no_close_at m h
 
--- a primary stands alone, with no operator before it
+-- a primary is an operand by itself, with no operator before it
 primary_alone : {free depth : ℕ} {from left : Tokens} {e : Expr} (below : Below) → IsPrimary free depth from e left → unary_with below from ≡ postfix_with below from
 unfolding unary_with unary_operator
 primary_alone below numeral = refl
@@ -321,7 +321,7 @@ question_stops : (p : Place) (ts : Tokens) → Stops LEVELS ((sign signs.Questio
 unfolding is_sign same_sign begins_suffix binary_operator
 question_stops p ts = plain_stops LEVELS (sign signs.Question) p ts refl refl refl
 
--- what begins here stands too deep, so that the limit is not asked of it
+-- what begins here is too deep, so that the limit is not asked of it
 pub past : (free n depth : ℕ) → (free < n → suc depth ≤ DEPTH) → depth + 0 ≡ DEPTH → n ≤ free
 past free n depth w d = grind arith
 

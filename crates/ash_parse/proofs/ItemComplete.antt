@@ -1,4 +1,4 @@
--- What is in the grammar of modules and of registered declarations is read, or reading is cut where a token stands too
+-- What is in the grammar of modules and of registered declarations is read, or reading is cut where a token is too
 -- deep, so that tokens have one tree.
 use Rattle.std.proofs.Common.{◌≡◌, ℕ, List, [], ◌∷◌, length, true, false, ◌≤◌, ◌⊎◌, Option, Some, Ok, Err, refl, sym, ap, subst, ◌∙◌, arith}
 use Rattle.ash_lex.specs.Tokens.{name, sign}

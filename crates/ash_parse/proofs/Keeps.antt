@@ -36,7 +36,7 @@ Beyond t more n = (seen rest : Tokens) → LeavesOpen t seen → more ≡ seen +
 -- What two answers have to do with each other, where the tokens that were read differ only in what is after `t`. They are
 -- one answer, but that where `more` is left after `t` in the first, `other` is in the second; or both took `t`. Or the
 -- first took what decides that a declaration of variables begins, which it doesn't with the tokens of the second; or it
--- stops at a token that stands too deep, with which a declaration begins in the second.
+-- stops at a token that is too deep, with which a declaration begins in the second.
 pub data Agree {A : Type 0} (t : Meaning × Place) (more other : Tokens) : ParseResult A → ParseResult A → Type 0 where
   reads : (x : A) (prefix : Tokens) → Agree t more other (Ok (x, prefix ++ t ∷ more)) (Ok (x, prefix ++ t ∷ other))
   stops : (prefix : Tokens) → Agree t more other (Err (Unexpected (prefix ++ t ∷ more))) (Err (Unexpected (prefix ++ t ∷ other)))
@@ -45,12 +45,12 @@ pub data Agree {A : Type 0} (t : Meaning × Place) (more other : Tokens) : Parse
   chosen : {one two : ParseResult A} (n : ℕ) → Fewer n one → Beyond t more n → Agree t more other one two
   opens : {two : ParseResult A} (prefix : Tokens) → is_vars (prefix ++ t ∷ more) ≡ false → is_vars (prefix ++ t ∷ other) ≡ true → Agree t more other (Err (TooDeep (prefix ++ t ∷ more))) two
 
--- after `t`, the word `array`, all but the last `n` of these tokens stand before the end of an `"<" elem ">"`
+-- after `t`, the word `array`, all but the last `n` of these tokens are before the end of an `"<" elem ">"`
 pub record Inside (t : Meaning × Place) (more : Tokens) (n : ℕ) : Type 0 where
   pub is_word : t.0 ≡ reserved words.Array
   pub ends_later : (x : Element) (rest : Tokens) → element_at more ≡ Ok (x, rest) → length rest < n
 
--- reading neither ended where the last `n` of `more` begin, after `t`, nor stopped there at a token that stands too deep
+-- reading neither ended where the last `n` of `more` begin, after `t`, nor stopped there at a token that is too deep
 pub data Clear {A : Type 0} (t : Meaning × Place) (more : Tokens) (n : ℕ) : ParseResult A → Type 0 where
   ends_before : (x : A) (prefix : Tokens) → Clear t more n (Ok (x, prefix ++ t ∷ more))
   cut_before : (prefix : Tokens) → Clear t more n (Err (TooDeep (prefix ++ t ∷ more)))
@@ -404,7 +404,7 @@ longer : (t : Meaning × Place) (prefix more : Tokens) → length more < length 
 longer t [] more = omega arith
 longer t (a ∷ prefix) more = let e : length more < length (prefix ++ t ∷ more) = longer t prefix more in omega arith
 
--- what stands before the same end is the same
+-- what is before the same end is the same
 same_prefix : (f g r : Tokens) → f ++ r ≡ g ++ r → f ≡ g
 same_prefix [] [] r h = refl
 same_prefix [] (b ∷ g) r h = let e : length r ≡ length (b ∷ g ++ r) = ap length h in let k = length-append g r in absurd (omega arith)
@@ -425,7 +425,7 @@ stops_alike {one} t more other (chosen n l b) h =
     absurd (omega arith)
 stops_alike t more other (opens prefix h k) e = absurd (deep_no_unexpected (prefix ++ t ∷ more) (t ∷ more) e)
 
--- where a token stands too deep, after which `u` comes after what leaves open what it begins
+-- where a token is too deep, after which `u` comes after what leaves open what it begins
 pub deep_alike : {A : Type 0} {one two : ParseResult A} (seen : Tokens) (t : Meaning × Place) (more other : Tokens) → Agree t more other one two → (is_vars (seen ++ t ∷ more) ≡ false → is_vars (seen ++ t ∷ other) ≡ true → ⊥) → one ≡ Err (TooDeep (seen ++ t ∷ more)) → two ≡ Err (TooDeep (seen ++ t ∷ other))
 deep_alike seen t more other (reads x prefix) same h = absurd (ok_no_err (x, prefix ++ t ∷ more) (TooDeep (seen ++ t ∷ more)) h)
 deep_alike seen t more other (stops prefix) same h = absurd (unexpected_no_deep (prefix ++ t ∷ more) (seen ++ t ∷ more) h)

@@ -1,4 +1,4 @@
--- What is in the grammar of statements is read, or reading is cut where a token stands too deep.
+-- What is in the grammar of statements is read, or reading is cut where a token is too deep.
 use Rattle.std.proofs.Common.{◌≡◌, ℕ, zero, suc, ◌+◌, ◌<◌, ◌≤◌, List, [], ◌∷◌, length, Bool, true, false, not, Option, Some, None, Ok, refl, ap, arith}
 use Rattle.ash_lex.specs.Tokens.{Meaning, number, sign, reserved}
 use Rattle.ash_lex.specs.declared.signs.Sign.TheVariants as signs
@@ -70,7 +70,7 @@ leads_on stmt_tokens.Continue b h = (refl, refl, refl)
 leads_on stmt_tokens.Return b h = (refl, refl, refl)
 leads_on stmt_tokens.Other b h = (refl, refl, refl)
 
--- no `else` stands here
+-- no `else` is next
 abbrev pub NoElse : Tokens → Type 0
 NoElse ts = next_is (λ m. is_else (stmt_token m)) ts ≡ false
 
