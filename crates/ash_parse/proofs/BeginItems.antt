@@ -23,7 +23,8 @@ use Rattle.ash_parse.proofs.StatementSound.{nested_sound}
 use Rattle.ash_parse.proofs.BeginLaws.{left_at, GoesOn, Stopped, Law, Filled, Explained, Then, After, Grows, Ending, then, law_as, done, fill_here, stops_here, after, fill_after, either, explain_either, sign_then, name_then, put_law, all_of, nowhere, some_name}
 use Rattle.ash_parse.proofs.BeginExpressions.{begin_whole, begin_part}
 use Rattle.ash_parse.proofs.BeginTypes.{begin_type}
-use Rattle.ash_parse.proofs.BeginStatements.{begin_declared, begin_block, begin_nested}
+use Rattle.ash_parse.proofs.BeginStatements.{begin_declared, begin_block}
+use Rattle.ash_parse.proofs.BeginNested.{begin_nested}
 
 fill_result : Filled (λ free. IsResultType)
 fill_result = fill_after _ (reserved words.Void, nowhere) (fill_here _ None (λ free left. void))

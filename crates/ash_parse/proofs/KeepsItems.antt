@@ -15,7 +15,8 @@ use Rattle.ash_parse.specs.Faults.{whole_declaration_at}
 use Rattle.ash_parse.specs.FirstFault.{LeavesOpen}
 use Rattle.ash_parse.proofs.ItemShorter.{member_shrinks, next_interface_shrinks, interface_method_shrinks, entry_shrinks, next_unnamed_shrinks, strip_shorter}
 use Rattle.ash_parse.proofs.Rereading.{no_true}
-use Rattle.ash_parse.proofs.Keeps.{not_deep_beyond, not_cut_inside, differs_on, differs_off, no_cross, stops_alike, deep_alike, Past, Agree, reads, past, Inside, Clear, ends_before, Lawful, ok_lawful, bind_past, bind_lawful, put_lawful, Steady, sign_steady, Crosses, choice_lawful, if_lawful, IsNoArray, sign_no_array, Led, led_after, led_from, stop_lawful, led_if, led_lawful, expect_lawful, name_lawful, loop_lawful}
+use Rattle.ash_parse.proofs.Keeps.{differs_on, differs_off, no_cross, Past, Agree, reads, past, Inside, Clear, ends_before, Lawful, ok_lawful, bind_past, bind_lawful, put_lawful, Steady, sign_steady, Crosses, choice_lawful, if_lawful, IsNoArray, sign_no_array, Led, led_after, led_from, stop_lawful, led_if, led_lawful, expect_lawful, name_lawful, loop_lawful}
+use Rattle.ash_parse.proofs.SameFaults.{not_deep_beyond, not_cut_inside, stops_alike, deep_alike}
 use Rattle.ash_parse.proofs.Choices.{inside_element}
 use Rattle.ash_parse.proofs.BeginLaws.{left_at}
 use Rattle.ash_parse.proofs.KeepsFunctions.{result_lawful, parameters_lawful, body_lawful, either, either_lawful, either_takes}

@@ -21,7 +21,8 @@ use Rattle.ash_parse.proofs.Readings.{expect_again, next_is_sign-again}
 use Rattle.ash_parse.proofs.StatementSound.{Closes}
 use Rattle.ash_parse.proofs.StatementShorter.{vars_shorter, nested_shorter, stmts_shorter}
 use Rattle.ash_parse.proofs.Rereading.{no_true, Reads, whole, cut, as_read, then_reads, ReadsAll, none_again, one_again}
-use Rattle.ash_parse.proofs.ExpressionComplete.{ends_expr, Ends, past, assign_begins, inner_begins, bracketed_again, inner_read, exprs_read, assign_read}
+use Rattle.ash_parse.proofs.ExpressionComplete.{past, bracketed_again, inner_read, exprs_read, assign_read}
+use Rattle.ash_parse.proofs.ExpressionBounds.{ends_expr, Ends, assign_begins, inner_begins}
 use Rattle.ash_parse.proofs.VarsComplete.{ends_follow, assign_no_vars, inner_no_vars, vars_vars, vars_begin, declared_read}
 
 begins_leads : (m : Meaning) → begins m ≡ true → (stmt_token m ≡ stmt_tokens.Other) × (is_sign signs.Semicolon m ≡ false)

@@ -23,7 +23,8 @@ use Rattle.ash_parse.proofs.Readings.{expect_again, next_is_sign-again, name_aga
 use Rattle.ash_parse.proofs.Elements.{element_read, element_passed}
 use Rattle.ash_parse.proofs.StatementShorter.{decl_shorter}
 use Rattle.ash_parse.proofs.Rereading.{no_some, no_true, Reads, whole, as_read, then_reads, put_reads, ReadsAll, none_again, one_again}
-use Rattle.ash_parse.proofs.ExpressionComplete.{ends_expr, Ends, primitive_begins, args_read, assign_read}
+use Rattle.ash_parse.proofs.ExpressionComplete.{args_read, assign_read}
+use Rattle.ash_parse.proofs.ExpressionBounds.{ends_expr, Ends, primitive_begins}
 
 -- what they begin with is no type: neither a name nor a handle follows
 abbrev pub Follows : Tokens → Type 0
