@@ -92,6 +92,13 @@ fn indexes_casts_and_new_arrays(rt: HostRuntime) -> Result<(), Fail> {
                 value: Expr { @28, Name(\"c\") } } } } }, links: [Link { operator: Is, \
                 operand: Expr { @35, Null } }] } }",
         ),
+    ];
+    check_values(&rt, rt.alloc(), rows)
+}
+
+#[test]
+fn indexes_casts_and_new_arrays_in_one_another(rt: HostRuntime) -> Result<(), Fail> {
+    let rows = &[
         // any assignment is an index
         (
             "int a = b[c ? 1 : 2][d = 3]--;",

@@ -65,6 +65,13 @@ fn interfaces_and_arrays(rt: HostRuntime) -> Result<(), Fail> {
                 parameters: [Parameter { of: Type { @13, Array(Element { @19, Primitive(Int) }) }, \
                 @24, name: \"a\" }], body: [] })",
         ),
+    ];
+    check_items(&rt, rt.alloc(), rows)
+}
+
+#[test]
+fn members_with_arrays(rt: HostRuntime) -> Result<(), Fail> {
+    let rows = &[
         // methods of interfaces, one of them without any
         (
             "interface I { void m(int a, I@ b); array<A@>@ n(array<bool> c); } interface J { }",

@@ -122,7 +122,11 @@ pub(crate) fn property_fault(
 }
 
 /// The fault of a factory's registration.
-pub(crate) fn factory_fault(registry: &mut Registry, of: &str, decl: &str) -> Option<RegistryFault> {
+pub(crate) fn factory_fault(
+    registry: &mut Registry,
+    of: &str,
+    decl: &str,
+) -> Option<RegistryFault> {
     registry.factory(of, decl).err()
 }
 

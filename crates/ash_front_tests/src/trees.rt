@@ -77,7 +77,11 @@ fn check_body(rt: &impl Abort, alloc: Global, source: &str, body: &str) -> Resul
 }
 
 /// Each row has a source, and the value of its variable.
-pub(crate) fn check_values(rt: &impl Abort, alloc: Global, rows: &[(&str, &str)]) -> Result<(), Fail> {
+pub(crate) fn check_values(
+    rt: &impl Abort,
+    alloc: Global,
+    rows: &[(&str, &str)],
+) -> Result<(), Fail> {
     for (source, value) in rows {
         check_value(rt, alloc, source, value)?;
     }
@@ -85,7 +89,11 @@ pub(crate) fn check_values(rt: &impl Abort, alloc: Global, rows: &[(&str, &str)]
 }
 
 /// Each row has a source, and the body of its function.
-pub(crate) fn check_bodies(rt: &impl Abort, alloc: Global, rows: &[(&str, &str)]) -> Result<(), Fail> {
+pub(crate) fn check_bodies(
+    rt: &impl Abort,
+    alloc: Global,
+    rows: &[(&str, &str)],
+) -> Result<(), Fail> {
     for (source, body) in rows {
         check_body(rt, alloc, source, body)?;
     }
@@ -93,7 +101,11 @@ pub(crate) fn check_bodies(rt: &impl Abort, alloc: Global, rows: &[(&str, &str)]
 }
 
 /// Each row has a source, and its items.
-pub(crate) fn check_items(rt: &impl Abort, alloc: Global, rows: &[(&str, &str)]) -> Result<(), Fail> {
+pub(crate) fn check_items(
+    rt: &impl Abort,
+    alloc: Global,
+    rows: &[(&str, &str)],
+) -> Result<(), Fail> {
     for (source, items) in rows {
         check(rt, alloc, source, items)?;
     }

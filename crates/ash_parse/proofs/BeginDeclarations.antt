@@ -1,4 +1,4 @@
--- What stands before the place where the reading of a registered declaration stops begins one.
+-- What is before the place where the reading of a registered declaration stops begins one.
 use Rattle.std.proofs.Common.{◌≡◌, ℕ, List, [], ◌∷◌, ◌++◌, cond, Option, Some, None, Ok, Err, refl, subst, length}
 use Rattle.std.proofs.lemmas.List.{append-nil}
 use Rattle.ash_lex.specs.Tokens.{name, sign}
@@ -106,7 +106,7 @@ begin_whole_declaration ts =
     (stops_here (Then Whole Whole d) r (fill_here _ d (λ free left before w. w)))
     (done _ d r (λ free left before w. w)))
 
--- what stands before the place where reading stops begins a declaration
+-- what is before the place where reading stops begins a declaration
 pub begun_declaration : (all rest : Tokens) → whole_declaration_at all ≡ Err (Unexpected rest) → (prefix : Tokens) × (all ≡ prefix ++ rest) × ((tail : Tokens) × (declared : Declaration) × Declares (prefix ++ tail) declared)
 begun_declaration all rest e =
     let s : Stopped all (Unexpected rest) Whole = stops_with (whole_declaration_at all) (Unexpected rest) all Whole e (begin_whole_declaration all).explained in

@@ -1,4 +1,4 @@
--- What stands before the place where the reading of an expression stops begins one.
+-- What is before the place where the reading of an expression stops begins one.
 use Rattle.std.proofs.Common.{◌≡◌, ℕ, zero, suc, ◌+◌, ◌≤◌, List, [], ◌∷◌, true, false, cond, Option, Some, None, is_some, Ok, Err, refl, sym, ap, subst, length, arith}
 use Rattle.ash_lex.specs.Tokens.{Meaning, name, number, sign, reserved, unsupported}
 use Rattle.ash_lex.specs.declared.signs.Sign.TheVariants as signs
@@ -180,7 +180,7 @@ module _ (depth : ℕ) (below : Below) (whole : (ts : Tokens) → Law (below tru
       (λ es s. sign_then _ signs.CloseParenthesis _ s
       (λ q t. done _ es t (λ free left before d. args d))))
 
-  -- what stands between brackets, with the ")"
+  -- what is between brackets, with the ")"
   Closed : ℕ → Tokens → Expr → Tokens → Type 0
   Closed free from e left = (q : Place) × IsInner free depth from e ((sign signs.CloseParenthesis, q) ∷ left)
 

@@ -1,5 +1,5 @@
--- What stands before the place where the reading of a module stops begins a module; and where a token stands too deep, so
--- does what stands before it with the token.
+-- What is before the place where the reading of a module stops begins a module; and where a token is too deep, so
+-- does what is before it with the token.
 use Rattle.std.proofs.Common.{◌≡◌, ℕ, suc, ◌+◌, List, [], ◌∷◌, ◌++◌, Bool, true, false, cond, Some, None, Ok, Err, refl, sym, ap, subst, ◌∙◌, append_assoc, length, arith}
 use Rattle.std.proofs.lemmas.List.{append-nil}
 use Rattle.ash_lex.specs.Tokens.{Meaning, name, sign, reserved}
@@ -23,7 +23,8 @@ use Rattle.ash_parse.proofs.StatementSound.{nested_sound}
 use Rattle.ash_parse.proofs.BeginLaws.{left_at, GoesOn, Stopped, Law, Filled, Explained, Then, After, Grows, Ending, then, law_as, done, fill_here, stops_here, after, fill_after, either, explain_either, sign_then, name_then, put_law, all_of, nowhere, some_name}
 use Rattle.ash_parse.proofs.BeginExpressions.{begin_whole, begin_part}
 use Rattle.ash_parse.proofs.BeginTypes.{begin_type}
-use Rattle.ash_parse.proofs.BeginStatements.{begin_declared, begin_block, begin_nested}
+use Rattle.ash_parse.proofs.BeginStatements.{begin_declared, begin_block}
+use Rattle.ash_parse.proofs.BeginNested.{begin_nested}
 
 fill_result : Filled (λ free. IsResultType)
 fill_result = fill_after _ (reserved words.Void, nowhere) (fill_here _ None (λ free left. void))
@@ -247,7 +248,7 @@ begin_entries ts = all_of is_left entry_at Leads (λ free left d. d) (λ s b. (b
 pub stops_with : {A : Type 0} (o : ParseResult A) (h : Halt) (ts : Tokens) (P : ℕ → Tokens → A → Tokens → Type 0) → o ≡ Err h → Explained o ts P → Stopped ts h P
 stops_with o h ts P e x = subst (λ r. Explained r ts P) e x
 
--- where reading stops, the tokens before begin a module, which goes on with the token that stands too deep, if one does
+-- where reading stops, the tokens before begin a module, which goes on with the token that is too deep, if one does
 pub record StopsModule (all : Tokens) (h : Halt) : Type 0 where
   pub prefix : Tokens
   pub is_all : all ≡ prefix ++ left_at h
@@ -274,11 +275,11 @@ stops_module all h e =
       derived = subst (λ (l : Tokens). Derives (length r.tail) l r.tree) (sym (append_assoc s.semicolons r.prefix r.tail)) (s.is (length r.tail) (r.prefix ++ r.tail) r.tree w);
     }
 
--- what stands before the place where reading stops begins a module within the depth
+-- what is before the place where reading stops begins a module within the depth
 pub begun : (ts rest : Tokens) → module_at ts ≡ Err (Unexpected rest) → (prefix : Tokens) × (ts ≡ prefix ++ rest) × ((tail : Tokens) × (items : List Item) × Derives (length tail) (prefix ++ tail) items)
 begun ts rest e = let s = stops_module ts (Unexpected rest) e in (s.prefix, s.is_all, (s.tail, s.items, s.derived))
 
--- where a token stands too deep, a module goes on with it that has only this token and those after too deep, and there it
+-- where a token is too deep, a module goes on with it that has only this token and those after too deep, and there it
 -- begins no declaration of variables
 pub begun_deep : (ts rest : Tokens) (t : Meaning × Place) → module_at ts ≡ Err (TooDeep (t ∷ rest)) → (prefix : Tokens) × (tail : Tokens) × (items : List Item) × (ts ≡ prefix ++ t ∷ rest) × (is_vars (t ∷ tail) ≡ false) × Derives (suc (length tail)) (prefix ++ t ∷ tail) items
 begun_deep ts rest t e =
@@ -287,6 +288,6 @@ begun_deep ts rest t e =
     let no_vars : is_vars ((t ∷ tail) ++ []) ≡ false = subst (λ (l : Tokens). is_vars (l ++ []) ≡ false) s.goes_on.1 (s.goes_on.2 []) in
     (s.prefix, tail, s.items, s.is_all, subst (λ (l : Tokens). is_vars l ≡ false) (append-nil (t ∷ tail)) no_vars, subst (λ (l : Tokens). Derives (length l) (s.prefix ++ l) s.items) s.goes_on.1 s.derived)
 
--- what stands too deep is a token
+-- what is too deep is a token
 pub some_token_deep : (ts : Tokens) → module_at ts ≡ Err (TooDeep []) → ⊥
 some_token_deep ts e = (stops_module ts (TooDeep []) e).goes_on

@@ -1,4 +1,4 @@
--- What is read of tokens can be read before other tokens too; and where reading stops, what stands before the stop
+-- What is read of tokens can be read before other tokens too; and where reading stops, what is before the stop
 -- begins a phrase. The laws say so of a reading that is made of others.
 use Rattle.std.proofs.Common.{◌≡◌, ℕ, zero, suc, ◌+◌, ◌≤◌, List, [], ◌∷◌, ◌++◌, length, Bool, true, false, cond, Ok, Err, refl, sym, ap, subst, ◌∙◌, append_assoc, length-append, arith}
 use Rattle.ash_lex.specs.Tokens.{Meaning, name, number, sign, reserved, unsupported}
@@ -15,7 +15,7 @@ abbrev pub left_at : Halt → Tokens
 left_at (Unexpected rest) = rest
 left_at (TooDeep rest) = rest
 
--- what a phrase goes on with from the fault on: where a token stands too deep, with this token, and, whatever is after, with
+-- what a phrase goes on with from the fault on: where a token is too deep, with this token, and, whatever is after, with
 -- no declaration of variables
 abbrev pub GoesOn : Halt → Tokens → Type 0
 GoesOn (Unexpected rest) tail = Unit {0}
@@ -80,7 +80,7 @@ module _ {A B : Type 0} (P : ℕ → Tokens → A → Tokens → Type 0) (Q : �
     is = λ left. subst (λ (l : Tokens). Q (length e.tail + length left) l e.tree left) (sym (append_assoc t.taken e.prefix (e.tail ++ left))) (e.is left (t.taken ++ (e.prefix ++ (e.tail ++ left))) (t.is (length e.tail + length left) (e.prefix ++ (e.tail ++ left))));
   }
 
-  -- where the first stops, any second stands after it
+  -- where the first stops, any second may follow it
   first : (h : Halt) (ts : Tokens) → (s : Stopped ts h P) → Filled (Then P Q s.tree) → Stopped ts h Q
   first h ts s f = record {
     prefix = s.prefix;
@@ -154,7 +154,7 @@ pub record FilledBy {A : Type 0} (t : Meaning × Place) (P : ℕ → Tokens → 
   pub is : (free : ℕ) (left : Tokens) → length (t ∷ (text ++ left)) ≤ free → P free (t ∷ (text ++ left)) tree left
   pub no_vars : (after : Tokens) → is_vars (t ∷ (text ++ after)) ≡ false
 
--- a reading that stops at a token that stands too deep
+-- a reading that stops at a token that is too deep
 pub too_deep_at : {A : Type 0} (Q : ℕ → Tokens → A → Tokens → Type 0) (t : Meaning × Place) (ts : Tokens) → FilledBy t Q → Stopped (t ∷ ts) (TooDeep (t ∷ ts)) Q
 too_deep_at Q t ts f = record { prefix = []; all = refl; tail = t ∷ f.text; goes_on = (f.text, refl, f.no_vars); tree = f.tree; is = λ left. let n : length (f.text ++ left) ≡ length f.text + length left = length-append f.text left in f.is (length (t ∷ f.text) + length left) left (omega arith) }
 
@@ -170,7 +170,7 @@ module _ {A : Type 0} (Q : ℕ → Tokens → A → Tokens → Type 0) (t : Mean
   pub after : (o : ParseResult A) (ts : Tokens) → Law o ts (After t Q) → Law o (t ∷ ts) Q
   after o ts l = record { explained = explain_after o ts l.explained; filled = fill_after l.filled }
 
--- where a made-up token stands
+-- where a made-up token is
 abbrev pub nowhere : Place
 nowhere = record { at = 0; line = 1 }
 

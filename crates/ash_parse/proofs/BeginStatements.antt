@@ -1,30 +1,27 @@
--- What stands before the place where the reading of a type, of variables or of a statement stops begins one.
-use Rattle.std.proofs.Common.{◌≡◌, ℕ, zero, suc, ◌+◌, ◌≤◌, List, [], ◌∷◌, ◌++◌, Bool, true, false, cond, Some, None, Ok, Err, refl, sym, ap, subst, append_assoc, length, arith}
+-- What is before the place where the reading of a type, of variables or of a statement stops begins one.
+use Rattle.std.proofs.Common.{◌≡◌, ℕ, ◌+◌, ◌≤◌, List, [], ◌∷◌, ◌++◌, Bool, true, false, cond, Some, None, Ok, Err, refl, sym, ap, subst, length}
 use Rattle.ash_lex.specs.Tokens.{Meaning, name, number, sign, reserved, unsupported}
 use Rattle.ash_lex.specs.declared.signs.Sign.TheVariants as signs
 use Rattle.ash_lex.specs.declared.words.ReservedWord.TheVariants as words
 use Rattle.ash_tree.specs.declared.tree.places.Place.{Place}
 use Rattle.ash_tree.specs.declared.tree.statements.Label.{Label}
 use Rattle.ash_tree.specs.declared.tree.statements.Label.TheVariants as labels
-use Rattle.ash_tree.specs.Tree.{Named, Expr, Name, Initializer, Default, Value, Arguments, Decl, Stmt, Empty, Declare, Evaluate, Block, If, IfElse, While, DoWhile, For, Switch, Break, Continue, Return, Case, labelled, place_of, place_of_type, stmts, cases}
+use Rattle.ash_tree.specs.Tree.{Named, Expr, Initializer, Default, Value, Arguments, Decl, Stmt, Empty, Declare, Evaluate, Block, If, IfElse, While, DoWhile, For, Switch, Break, Continue, Return, Case, labelled, place_of, place_of_type, stmts, cases}
 use Rattle.ash_tree.specs.Tokens.{Tokens}
-use Rattle.ash_tree.specs.Operators.{primitive}
-use Rattle.ash_tree.specs.Expressions.{IsInner, AreExprs, no_exprs, IsArgs, IsAssign, named, postfix, no_suffixes}
+use Rattle.ash_tree.specs.Expressions.{IsInner, AreExprs, IsArgs, IsAssign}
 use Rattle.ash_tree.specs.Types.{IsType}
-use Rattle.ash_tree.specs.Statements.{IsDecl, bare, valued, made, AreMoreDecls, no_more_decls, more_decls, IsVars, vars, IsFirst, no_first, first_vars, first_expr, IsTest, no_test, test, IsResult, no_result, value, IsLabel, case, case_minus, default, is_open, IsNested, nested, AreLocals, no_locals, local_vars, local_stmt, IsBlock, block, IsStmt, inner_block, empty, evaluate, if_only, if_else, while, do_while, for, switch, break, continue, return, AreCases, no_cases, more_cases, AreStmts, no_stmts, more_stmts}
+use Rattle.ash_tree.specs.Statements.{IsDecl, bare, valued, made, AreMoreDecls, no_more_decls, more_decls, IsVars, vars, IsFirst, no_first, first_vars, first_expr, IsTest, no_test, test, IsResult, no_result, value, IsLabel, case, case_minus, default, is_open, IsNested, AreLocals, no_locals, local_vars, local_stmt, IsBlock, block, IsStmt, inner_block, empty, evaluate, if_only, if_else, while, do_while, for, switch, break, continue, return, AreCases, no_cases, more_cases, AreStmts, no_stmts, more_stmts}
 use Rattle.ash_parse.specs.declared.stmt_tokens.StmtToken.{StmtToken}
 use Rattle.ash_parse.specs.declared.stmt_tokens.StmtToken.TheVariants as stmt_tokens
-use Rattle.ash_parse.specs.Readers.{ParseResult, Unexpected, TooDeep, ◌>>=◌, next_is_sign, expect_at}
-use Rattle.ash_parse.specs.ExpressionReader.{Below, begins, arguments_with, bracketed_with, exprs_with, assign_with, below_at}
-use Rattle.ash_parse.specs.TypeReader.{is_array}
-use Rattle.ash_parse.specs.StatementReader.{Nested, is_name, type_at, is_vars, initializer_with, decl_with, next_decl_with, more_decls_with, decls_with, vars_with, vars_statement_with, first_with, test_with, return_value_with, stmt_token, begins_by, begins_stmt, stmt_limit_at, goes_on, case_goes_on, evaluate_with, is_else, else_with, if_with, while_with, is_while, while_at, do_with, for_with, number_at, case_value_at, label_by, label_at, stmts_with, case_with, cases_with, switch_with, local_with, locals_with, block_with, stmt_by, stmt_with, nested_at}
+use Rattle.ash_parse.specs.Readers.{ParseResult, Unexpected, ◌>>=◌, next_is_sign, expect_at}
+use Rattle.ash_parse.specs.ExpressionReader.{Below, arguments_with, bracketed_with, exprs_with, assign_with}
+use Rattle.ash_parse.specs.StatementReader.{Nested, type_at, is_vars, initializer_with, decl_with, next_decl_with, more_decls_with, decls_with, vars_with, vars_statement_with, first_with, test_with, return_value_with, stmt_token, goes_on, case_goes_on, evaluate_with, is_else, else_with, if_with, while_with, is_while, while_at, do_with, for_with, number_at, case_value_at, label_by, label_at, stmts_with, case_with, cases_with, switch_with, local_with, locals_with, block_with, stmt_by, stmt_with}
 use Rattle.ash_parse.proofs.Readings.{expect_again}
-use Rattle.ash_parse.proofs.Rereading.{no_true}
 use Rattle.ash_parse.proofs.ExpressionSound.{IsPart}
-use Rattle.ash_parse.proofs.StatementSound.{Closes, Leads, leads_to, while_leads, else_leads, nested_sound}
-use Rattle.ash_parse.proofs.BeginLaws.{Law, Filled, FilledBy, Explained, Then, After, Grows, Ending, then, explain_then, fill_then, law_as, done, done_at, fill_here, stopped_at, stops_here, too_deep_at, after, fill_after, explain_after, either, explain_either, sign_then, name_then, ending, put_law, all_of, nowhere, some_name}
+use Rattle.ash_parse.proofs.StatementSound.{Closes, Leads, leads_to, while_leads, else_leads}
+use Rattle.ash_parse.proofs.BeginLaws.{Law, Filled, Explained, Then, After, Grows, Ending, then, explain_then, fill_then, law_as, done, done_at, fill_here, stopped_at, stops_here, after, fill_after, explain_after, either, explain_either, sign_then, name_then, ending, put_law, all_of, nowhere}
 use Rattle.ash_parse.proofs.BeginTypes.{begin_type}
-use Rattle.ash_parse.proofs.BeginExpressions.{IsBracketed, bracketed, inner_alone, begins_assign, begin_exprs, begin_args, begin_bracketed, begin_assign, begin_whole, begin_part}
+use Rattle.ash_parse.proofs.BeginExpressions.{IsBracketed, bracketed, begin_exprs, begin_args, begin_bracketed, begin_assign}
 
 -- decl { "," decl }
 data AreDecls : ℕ → ℕ → Tokens → List Decl → Tokens → Type 0 where
@@ -335,85 +332,3 @@ module _ (depth : ℕ) (below : Below) (deeper : Nested) (whole : (ts : Tokens) 
   unfolding stmt_with Led
   begin_stmt [] = stops_here (λ free. IsStmt free depth) [] (fill_stmt depth)
   begin_stmt ((m, p) ∷ ts) = begin_stmt_by (stmt_token m) m p ts (leads_to m)
-
--- a statement that is empty, and a name in brackets
-abbrev semicolon_text : Tokens
-semicolon_text = (sign signs.Semicolon, nowhere) ∷ []
-
-abbrev name_text : Tokens → Tokens
-name_text more = (sign signs.OpenParenthesis, nowhere) ∷ (name some_name, nowhere) ∷ (sign signs.CloseParenthesis, nowhere) ∷ more
-
-name_inside : {free depth : ℕ} (left : Tokens) → length ((name some_name, nowhere) ∷ left) ≤ free → IsInner free depth ((name some_name, nowhere) ∷ left) (Name nowhere some_name) left
-name_inside left big = inner_alone big (postfix named no_suffixes)
-
-empty_nested : {free depth : ℕ} (left : Tokens) → length ((sign signs.Semicolon, nowhere) ∷ left) ≤ free → IsNested free depth ((sign signs.Semicolon, nowhere) ∷ left) (Empty nowhere) left
-empty_nested left big = nested (λ deep. absurd (omega arith)) empty
-
--- a token that leads a statement begins one
-Begun : ℕ → Place → Meaning → Type 0
-Begun depth p m = FilledBy (m, p) (λ free. IsStmt free depth)
-
-leads_stmt : (depth : ℕ) (k : StmtToken) (m : Meaning) (p : Place) → Leads k m → begins_by k (begins m) ≡ true → Begun depth p m
-unfolding Begun is_vars is_name is_array primitive
-leads_stmt depth stmt_tokens.Block m p d b = subst (Begun depth p) (sym d) (record { text = (sign signs.CloseBrace, nowhere) ∷ []; tree = Block p (stmts []); is = λ free left big. inner_block (block no_locals); no_vars = λ after. refl })
-leads_stmt depth stmt_tokens.Empty m p d b = subst (Begun depth p) (sym d) (record { text = []; tree = Empty p; is = λ free left big. empty; no_vars = λ after. refl })
-leads_stmt depth stmt_tokens.If m p d b = subst (Begun depth p) (sym d) (record { text = name_text semicolon_text; tree = If p (Name nowhere some_name) (Empty nowhere); is = λ free left big. if_only (name_inside _ (omega arith)) (empty_nested left (omega arith)); no_vars = λ after. refl })
-leads_stmt depth stmt_tokens.While m p d b = subst (Begun depth p) (sym d) (record { text = name_text semicolon_text; tree = While p (Name nowhere some_name) (Empty nowhere); is = λ free left big. while (name_inside _ (omega arith)) (empty_nested left (omega arith)); no_vars = λ after. refl })
-leads_stmt depth stmt_tokens.Do m p d b = subst (Begun depth p) (sym d) (record {
-  text = (sign signs.Semicolon, nowhere) ∷ (reserved words.While, nowhere) ∷ name_text semicolon_text;
-  tree = DoWhile p (Empty nowhere) (Name nowhere some_name);
-  is = λ free left big. do_while (empty_nested _ (omega arith)) (name_inside _ (omega arith));
-  no_vars = λ after. refl;
-})
-leads_stmt depth stmt_tokens.For m p d b = subst (Begun depth p) (sym d) (record {
-  text = (sign signs.OpenParenthesis, nowhere) ∷ (sign signs.Semicolon, nowhere) ∷ (sign signs.Semicolon, nowhere) ∷ (sign signs.CloseParenthesis, nowhere) ∷ semicolon_text;
-  tree = For p (Empty nowhere) None [] (Empty nowhere);
-  is = λ free left big. for no_first no_test no_exprs (empty_nested left (omega arith));
-  no_vars = λ after. refl;
-})
-leads_stmt depth stmt_tokens.Switch m p d b = subst (Begun depth p) (sym d) (record {
-  text = name_text ((sign signs.OpenBrace, nowhere) ∷ (sign signs.CloseBrace, nowhere) ∷ []);
-  tree = Switch p (Name nowhere some_name) (cases []);
-  is = λ free left big. switch (name_inside _ (omega arith)) no_cases;
-  no_vars = λ after. refl;
-})
-leads_stmt depth stmt_tokens.Break m p d b = subst (Begun depth p) (sym d) (record { text = semicolon_text; tree = Break p; is = λ free left big. break; no_vars = λ after. refl })
-leads_stmt depth stmt_tokens.Continue m p d b = subst (Begun depth p) (sym d) (record { text = semicolon_text; tree = Continue p; is = λ free left big. continue; no_vars = λ after. refl })
-leads_stmt depth stmt_tokens.Return m p d b = subst (Begun depth p) (sym d) (record { text = semicolon_text; tree = Return p None; is = λ free left big. return no_result; no_vars = λ after. refl })
-leads_stmt depth stmt_tokens.Other m p d b =
-    let f = begins_assign depth m p b in
-    record {
-      text = f.text ++ semicolon_text;
-      tree = Evaluate (place_of f.tree) f.tree;
-      is = λ free left big.
-          let same : (f.text ++ semicolon_text) ++ left ≡ f.text ++ ((sign signs.Semicolon, nowhere) ∷ left) = append_assoc f.text semicolon_text left in
-          let k : length ((f.text ++ semicolon_text) ++ left) ≡ length (f.text ++ ((sign signs.Semicolon, nowhere) ∷ left)) = ap (λ (l : Tokens). length l) same in
-          subst (λ (l : Tokens). IsStmt free depth ((m, p) ∷ l) (Evaluate (place_of f.tree) f.tree) left) (sym same) (evaluate (f.is free ((sign signs.Semicolon, nowhere) ∷ left) (omega arith)));
-      no_vars = λ after. subst (λ (l : Tokens). is_vars ((m, p) ∷ l) ≡ false) (sym (append_assoc f.text semicolon_text after)) (f.no_vars ((sign signs.Semicolon, nowhere) ∷ after));
-    }
-leads_stmt depth stmt_tokens.Else m p d b = absurd (no_true b)
-leads_stmt depth stmt_tokens.End m p d b = absurd (no_true b)
-leads_stmt depth stmt_tokens.Case m p d b = absurd (no_true b)
-leads_stmt depth stmt_tokens.Default m p d b = absurd (no_true b)
-
-begins_nested : (depth : ℕ) (m : Meaning) (p : Place) → begins_stmt m ≡ true → FilledBy (m, p) (λ free. IsNested free depth)
-unfolding begins_stmt Begun
-begins_nested depth m p b = let f = leads_stmt (suc depth) (stmt_token m) m p (leads_to m) b in record { text = f.text; tree = f.tree; is = λ free left big. nested (λ deep. absurd (omega arith)) (f.is free left big); no_vars = f.no_vars }
-
-fill_nested : (depth : ℕ) → Filled (λ free. IsNested free depth)
-fill_nested depth = record { text = semicolon_text; tree = Empty nowhere; is = λ free left big. empty_nested left big }
-
-stmt_limit : (depth : ℕ) (ts : Tokens) → Law (stmt_limit_at ts) ts (λ free. IsNested free depth)
-unfolding stmt_limit_at
-stmt_limit depth [] = stops_here _ [] (fill_nested depth)
-stmt_limit depth ((m, p) ∷ ts) = record {
-  explained = explain_either (begins_stmt m) (Err (TooDeep ((m, p) ∷ ts))) (Err (Unexpected ((m, p) ∷ ts))) ((m, p) ∷ ts) (λ free. IsNested free depth) (λ b. too_deep_at _ (m, p) ts (begins_nested depth m p b)) (λ b. stopped_at _ ((m, p) ∷ ts) (fill_nested depth));
-  filled = fill_nested depth;
-}
-
-pub begin_nested : (room depth : ℕ) → depth + room ≡ 64 → (ts : Tokens) → Law (nested_at room ts) ts (λ free. IsNested free depth)
-unfolding nested_at
-begin_nested zero depth d ts = stmt_limit depth ts
-begin_nested (suc room) depth d ts =
-    law_as (λ free. IsStmt free (suc depth)) _ (λ free from x left s. nested (λ some. omega arith) s) (stmt_with (below_at room) (nested_at room) ts) ts
-    (begin_stmt (suc depth) (below_at room) (nested_at room) (begin_whole room (suc depth) (omega arith)) (begin_part room (suc depth) (omega arith)) (begin_nested room (suc depth) (omega arith)) (λ s x rest h. (nested_sound room (suc depth) (omega arith) s x rest h).1) ts)

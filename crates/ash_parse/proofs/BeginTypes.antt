@@ -1,4 +1,4 @@
--- What stands before the place where the reading of a type stops begins one.
+-- What is before the place where the reading of a type stops begins one.
 use Rattle.std.proofs.Common.{◌≡◌, ℕ, List, [], ◌∷◌, Option, Some, None, Ok, refl, sym, subst}
 use Rattle.ash_lex.specs.Tokens.{Meaning, name, sign, reserved}
 use Rattle.ash_lex.specs.declared.signs.Sign.TheVariants as signs

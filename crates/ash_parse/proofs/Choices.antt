@@ -264,7 +264,7 @@ first_beyond None (name text) p more e v seen rest leaves is = by_open leaves
 first_beyond None (reserved words.Array) p more e v seen rest leaves is = open_after p more seen rest leaves is
 first_beyond None m p more e v seen rest leaves is = absurd (no_true (subst (λ (k : Option Primitive). cond (is_some k) (next_is_name more) false ≡ true) e v))
 
--- an element that is taken is no more than what stands before `more`
+-- an element that is taken is no more than what is before `more`
 taken_left : (n : ℕ) (o : ParseResult Element) → Past n o → length (or_none (left_of o)) ≤ n
 taken_left n (Ok x) h = h
 taken_left n (Err e) h = omega arith

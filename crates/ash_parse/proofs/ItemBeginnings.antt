@@ -19,12 +19,12 @@ use Rattle.ash_parse.specs.TypeReader.{is_array}
 use Rattle.ash_parse.specs.StatementReader.{is_name, next_is_name, is_vars, goes_on, stmt_token}
 use Rattle.ash_parse.specs.ItemReader.{is_void, is_class, without_first, opens_body, names_function, handle_names_function, is_function, is_constructor, is_left, is_interface}
 use Rattle.ash_parse.proofs.Rereading.{no_some, no_true}
-use Rattle.ash_parse.proofs.ExpressionComplete.{Closes, begins_no_close, inner_begins, more_end}
+use Rattle.ash_parse.proofs.ExpressionBounds.{Closes, begins_no_close, inner_begins, more_end}
 use Rattle.ash_parse.proofs.Elements.{element_passed}
 use Rattle.ash_parse.proofs.VarsComplete.{Next, Done, ends_follow, inner_no_vars, type_begins, type_vars, decl_begins, decls_next, next_ends, ends_decl}
 use Rattle.ash_parse.proofs.StatementComplete.{starts_no_semicolon, starts_further}
 
--- neither a class, an interface nor a ";" stands here, and an item or a member does
+-- neither a class, an interface nor a ";" is next, and an item or a member is
 abbrev pub Beginnings : Tokens → Type 0
 Beginnings ts = (next_is is_class ts ≡ false) × (next_is_sign signs.Semicolon ts ≡ false) × (is_left ts ≡ true) × (goes_on ts ≡ true) × (next_is is_interface ts ≡ false)
 

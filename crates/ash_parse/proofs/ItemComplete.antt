@@ -1,4 +1,4 @@
--- What is in the grammar of modules and of registered declarations is read, or reading is cut where a token stands too
+-- What is in the grammar of modules and of registered declarations is read, or reading is cut where a token is too
 -- deep, so that tokens have one tree.
 use Rattle.std.proofs.Common.{◌≡◌, ℕ, List, [], ◌∷◌, length, true, false, ◌≤◌, ◌⊎◌, Option, Some, Ok, Err, refl, sym, ap, subst, ◌∙◌, arith}
 use Rattle.ash_lex.specs.Tokens.{name, sign}
@@ -22,7 +22,7 @@ use Rattle.ash_parse.specs.Unique.{HasOneModule, HasOneDeclaration}
 use Rattle.ash_parse.proofs.Readings.{ok_is, expect_again, next_is_sign-again, name_again}
 use Rattle.ash_parse.proofs.ItemShorter.{parameter_shorter, member_shorter, interface_method_shorter, item_shorter, unnamed_shorter, strip_shorter, strip-done, no_more_left}
 use Rattle.ash_parse.proofs.Rereading.{no_true, Reads, whole, as_read, then_reads, is_cut, is_whole, ReadsAll, none_again, one_again}
-use Rattle.ash_parse.proofs.ExpressionComplete.{Closes, begins_no_close, close_ends}
+use Rattle.ash_parse.proofs.ExpressionBounds.{Closes, begins_no_close, close_ends}
 use Rattle.ash_parse.proofs.VarsComplete.{Follows, ends_follow, type_read, type_begins, declared_read}
 use Rattle.ash_parse.proofs.StatementComplete.{brace_rests, block_read}
 use Rattle.ash_parse.proofs.ItemBeginnings.{begins_no_void, function_heads, vars_heads, member_goes, interface_method_goes, item_heads, function_function, vars_no_function, function_no_constructor, vars_no_constructor, constructor_constructor}

@@ -35,7 +35,7 @@ unfolding is_interface
 interface_is (reserved words.Interface) h = refl
 interface_is _ h = cc
 
--- the name that is expected stands where a phrase ends
+-- the name that is expected is where a phrase ends
 pub names_in : (ts : Tokens) (x : List ℕ × Place) (rest : Tokens) (Q : Tokens → Type 0) → name_at ts ≡ Ok (x, rest) → Q ts → Q ((name x.0, x.1) ∷ rest)
 names_in ts x rest Q h = name_sound ts x rest (λ r. Q r → Q ((name x.0, x.1) ∷ rest)) h (λ d. d)
 
@@ -198,7 +198,7 @@ item_sound ((m, p) ∷ ts) x rest h =
     at_pair (λ y l. IsItem 0 u y l) (AnInterface (i.0).0) (i.0).1 x rest i.2 (an_interface (subst (λ w. IsInterface ((w, p) ∷ ts) (i.0).0 (i.0).1) (sym (interface_is m c)) (interface_sound p ts (i.0).0 (i.0).1 i.1))))
     (λ c l. other_item_sound u x rest l))
 
--- what stands after each ";" is a module where the whole is
+-- what is after each ";" is a module where the whole is
 strip_sound : (ts : Tokens) (xs : List Item) → Derives 0 (strip ts) xs → Derives 0 ts xs
 unfolding strip
 strip_sound [] xs d = d

@@ -66,7 +66,7 @@ closes xs = bind_lawful _ (expect_lawful signs.CloseParenthesis) λ z. ok_lawful
 closed_lawful : {A : Type 0} {some : Tokens → ParseResult (List A)} → Lawful some → Lawful (closed some)
 closed_lawful {some} law = bind_lawful {read = λ s. cond (next_is_sign signs.CloseParenthesis s) (Ok ([], s)) (some s)} (λ xs. expect_at signs.CloseParenthesis xs.1 >>= λ z. Ok (xs.0, z.1)) (if_lawful (next_is_sign signs.CloseParenthesis) (sign_steady signs.CloseParenthesis) (ok_lawful []) law) closes
 
--- these tokens begin what stands after the "(" of parameters, and so many are after it at the most
+-- these tokens begin what is after the "(" of parameters, and so many are after it at the most
 Opened : ℕ → Tokens → Type 0
 Opened n [] = ⊥
 Opened n ((m, p) ∷ s) = Passed n ((m, p) ∷ s) ⊎ ((is_sign signs.CloseParenthesis m ≡ true) × (length s ≤ n))

@@ -18,7 +18,8 @@ use Rattle.ash_parse.proofs.Elements.{element_passed}
 use Rattle.ash_parse.proofs.BeginLaws.{Explained}
 use Rattle.ash_parse.proofs.BeginTypes.{begin_element}
 use Rattle.ash_parse.proofs.NeverDeep.{IsUncut, element_uncut}
-use Rattle.ash_parse.proofs.Keeps.{IsNoArray, sign_steady, stops_alike}
+use Rattle.ash_parse.proofs.Keeps.{IsNoArray, sign_steady}
+use Rattle.ash_parse.proofs.SameFaults.{stops_alike}
 use Rattle.ash_parse.proofs.Choices.{name_steady, element_lawful, left_of, passed_is_read}
 
 -- of the tokens after `t`, `seen` leave open what it begins, and the first of those after them decides

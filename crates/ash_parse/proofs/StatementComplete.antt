@@ -1,4 +1,4 @@
--- What is in the grammar of statements is read, or reading is cut where a token stands too deep.
+-- What is in the grammar of statements is read, or reading is cut where a token is too deep.
 use Rattle.std.proofs.Common.{◌≡◌, ℕ, zero, suc, ◌+◌, ◌<◌, ◌≤◌, List, [], ◌∷◌, length, Bool, true, false, not, Option, Some, None, Ok, refl, ap, arith}
 use Rattle.ash_lex.specs.Tokens.{Meaning, number, sign, reserved}
 use Rattle.ash_lex.specs.declared.signs.Sign.TheVariants as signs
@@ -21,7 +21,8 @@ use Rattle.ash_parse.proofs.Readings.{expect_again, next_is_sign-again}
 use Rattle.ash_parse.proofs.StatementSound.{Closes}
 use Rattle.ash_parse.proofs.StatementShorter.{vars_shorter, nested_shorter, stmts_shorter}
 use Rattle.ash_parse.proofs.Rereading.{no_true, Reads, whole, cut, as_read, then_reads, ReadsAll, none_again, one_again}
-use Rattle.ash_parse.proofs.ExpressionComplete.{ends_expr, Ends, past, assign_begins, inner_begins, bracketed_again, inner_read, exprs_read, assign_read}
+use Rattle.ash_parse.proofs.ExpressionComplete.{past, bracketed_again, inner_read, exprs_read, assign_read}
+use Rattle.ash_parse.proofs.ExpressionBounds.{ends_expr, Ends, assign_begins, inner_begins}
 use Rattle.ash_parse.proofs.VarsComplete.{ends_follow, assign_no_vars, inner_no_vars, vars_vars, vars_begin, declared_read}
 
 begins_leads : (m : Meaning) → begins m ≡ true → (stmt_token m ≡ stmt_tokens.Other) × (is_sign signs.Semicolon m ≡ false)
@@ -70,7 +71,7 @@ leads_on stmt_tokens.Continue b h = (refl, refl, refl)
 leads_on stmt_tokens.Return b h = (refl, refl, refl)
 leads_on stmt_tokens.Other b h = (refl, refl, refl)
 
--- no `else` stands here
+-- no `else` is next
 abbrev pub NoElse : Tokens → Type 0
 NoElse ts = next_is (λ m. is_else (stmt_token m)) ts ≡ false
 

@@ -1,4 +1,4 @@
--- What is in the grammar of types and of declarations of variables is read, or reading is cut where a token stands too
+-- What is in the grammar of types and of declarations of variables is read, or reading is cut where a token is too
 -- deep, and no expression begins as they do.
 use Rattle.std.proofs.Common.{◌≡◌, ℕ, ◌+◌, List, [], ◌∷◌, length, Bool, true, false, Some, None, Ok, refl, arith}
 use Rattle.ash_lex.specs.Tokens.{Meaning, name, sign, reserved}
@@ -23,7 +23,8 @@ use Rattle.ash_parse.proofs.Readings.{expect_again, next_is_sign-again, name_aga
 use Rattle.ash_parse.proofs.Elements.{element_read, element_passed}
 use Rattle.ash_parse.proofs.StatementShorter.{decl_shorter}
 use Rattle.ash_parse.proofs.Rereading.{no_some, no_true, Reads, whole, as_read, then_reads, put_reads, ReadsAll, none_again, one_again}
-use Rattle.ash_parse.proofs.ExpressionComplete.{ends_expr, Ends, primitive_begins, args_read, assign_read}
+use Rattle.ash_parse.proofs.ExpressionComplete.{args_read, assign_read}
+use Rattle.ash_parse.proofs.ExpressionBounds.{ends_expr, Ends, primitive_begins}
 
 -- what they begin with is no type: neither a name nor a handle follows
 abbrev pub Follows : Tokens → Type 0
@@ -152,7 +153,7 @@ vars_vars (vars t d ds) = type_vars t (decl_begins d).0
 pub vars_begin : {free depth : ℕ} {from left : Tokens} {v : Vars} → IsVars free depth from v left → next_is begins from ≡ true
 vars_begin (vars t d ds) = type_begins t
 
--- what stands after one of several variables
+-- what is after one of several variables
 unfoldable pub ends_decl : Meaning → Bool
 ends_decl (sign signs.Comma) = true
 ends_decl (sign signs.Semicolon) = true

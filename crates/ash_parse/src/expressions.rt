@@ -95,7 +95,12 @@ struct FirstBranch {
 /// `assign ":" assign`, after the `?`
 #[cycle(expressions)]
 #[tactic(auto, unfolding(crate::specs::ExpressionReader::branches_with, crate::specs::ExpressionReader::other_branch_with), using(ash_tree::proofs::Rows::place_is))]
-fn branches<'a>(alloc: Global, room: u32, condition: Expr, tokens: &'a [Token]) -> ParseResult<'a, Expr>
+fn branches<'a>(
+    alloc: Global,
+    room: u32,
+    condition: Expr,
+    tokens: &'a [Token],
+) -> ParseResult<'a, Expr>
     requires { room ≤ MAX_DEPTH }
     ensures { ParsesAs expr_of result
         (reader.branches_with (reader.below_at room) (expr_of condition) (tokens_of tokens.now)) }

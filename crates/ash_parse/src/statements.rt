@@ -335,7 +335,12 @@ fn switch_statement<'a>(
 
 /// `"}"`, after the cases of a `switch`
 #[tactic(auto, unfolding(crate::specs::StatementReader::switch_end_with))]
-fn switch_end(place: Place, value: Expr, cases: Vec<Case>, tokens: &[Token]) -> ParseResult<'_, Stmt>
+fn switch_end(
+    place: Place,
+    value: Expr,
+    cases: Vec<Case>,
+    tokens: &[Token],
+) -> ParseResult<'_, Stmt>
     ensures { ParsesAs stmt_of result
         (reader.switch_end_with place (expr_of value) (map case_of cases.items)
         (tokens_of tokens.now)) }

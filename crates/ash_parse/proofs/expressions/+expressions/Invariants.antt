@@ -7,7 +7,7 @@ use Rattle.ash_parse.proofs.Loop.{with_prefix}
 use Rattle.ash_parse.proofs.Climbing.{rises}
 use Rattle.ash_parse.proofs.expressions.+expressions.Given as goal
 
--- a phrase stands above those that it is made of, and below what is one deeper
+-- the measure of a phrase is above those of its parts, and of whatever is one deeper
 abbrev pub decreases-nested_assign : goal.decreases-nested_assign
 decreases-nested_assign l = l.room * 64
 
