@@ -11,7 +11,7 @@ use Rattle.ash_typing.specs.declared.types.Ty.{Ty}
 use Rattle.ash_typing.specs.Types.{var_type, result_type}
 use Rattle.ash_typing.specs.Environment.{Environment, ModuleDeclarations, inside, type_declared}
 use Rattle.ash_typing.specs.ModuleDeclarations.{object_named, ty_named, result_named, declared, variables, parameter_ty}
-use Rattle.ash_typing.specs.ModuleDeclarations.{function_head, signature_head, interface_head, class_head}
+use Rattle.ash_typing.specs.ModuleDeclarations.{function_declaration, signature_declaration, interface_declaration, class_declaration}
 use Rattle.ash_typing.specs.ModuleDeclarations.{interface_place}
 use Rattle.ash_typing.specs.ModuleDeclarations.{with_place, listed_in, names_in, declarations, ty_in, result_in}
 use Rattle.ash_typing.specs.ModuleDeclarations.{all_variables}
@@ -67,7 +67,7 @@ same_parameters agree (p ∷ ps) = ap₂ (λ of rest. var_type of ∷ rest) (agr
 
 same_function : {env : Environment} {calls : List host.Registration} {named : ModuleDeclarations} → NamesAgree env calls named
     → (f : written.Function) (t : modules.Function) → IsFunction env f t
-    → signatures.signature_of t ≡ signature_of (function_head calls named f)
+    → signatures.signature_of t ≡ signature_of (function_declaration calls named f)
 same_function agree f t is = λ i. record {
   name = is.routine.name i;
   result = (is.routine.result ∙ ap result_type (same_result agree f.result)) i;
@@ -76,7 +76,7 @@ same_function agree f t is = λ i. record {
 
 same_signature : {env : Environment} {calls : List host.Registration} {named : ModuleDeclarations} → NamesAgree env calls named
     → (m : written.InterfaceMethod) (t : modules.Signature) → IsSignature env m t
-    → t ≡ signature_of (signature_head calls named m)
+    → t ≡ signature_of (signature_declaration calls named m)
 same_signature agree m t is = λ i. record {
   name = is.name i;
   result = (is.result ∙ ap result_type (same_result agree m.result)) i;
@@ -85,11 +85,11 @@ same_signature agree m t is = λ i. record {
 
 same_methods : {env : Environment} {calls : List host.Registration} {named : ModuleDeclarations} → NamesAgree env calls named
     → (fs : List written.Function) (ts : List modules.Function) → AllZip (IsFunction env) fs ts
-    → map signatures.signature_of ts ≡ map signature_of (map (function_head calls named) fs)
+    → map signatures.signature_of ts ≡ map signature_of (map (function_declaration calls named) fs)
 same_methods {env} {calls} {named} agree fs ts h =
     zip_same (IsFunction env) signatures.signature_of
-    (λ f. signature_of (function_head calls named f)) (same_function agree) fs ts h
-    ∙ sym (map-map signature_of (function_head calls named) fs)
+    (λ f. signature_of (function_declaration calls named f)) (same_function agree) fs ts h
+    ∙ sym (map-map signature_of (function_declaration calls named) fs)
 
 -- variables
 
@@ -143,7 +143,7 @@ same_listed {env} {calls} {named} agree place (n ∷ ns) (i ∷ is) h =
 
 same_class : {env : Environment} {calls : List host.Registration} {named : ModuleDeclarations} → NamesAgree env calls named
     → (place : ℕ) (c : written.Class) (t : modules.Class) → IsClass env place c t
-    → signatures.signature_of_class t ≡ signature_of_class (class_head calls named c)
+    → signatures.signature_of_class t ≡ signature_of_class (class_declaration calls named c)
 same_class {env} {calls} {named} agree place c t is =
     let inner = within_class agree place in
     let interfaces = same_listed agree place c.interfaces t.interfaces is.interfaces in
@@ -156,12 +156,12 @@ same_class {env} {calls} {named} agree place c t is =
 
 same_interface : {env : Environment} {calls : List host.Registration} {named : ModuleDeclarations} → NamesAgree env calls named
     → (i : written.Interface) (classes : ℕ) (t : modules.Interface) → IsInterface env i classes t
-    → signatures.methods_of_interface t ≡ signatures_of_interface (interface_head calls named i)
+    → signatures.methods_of_interface t ≡ signatures_of_interface (interface_declaration calls named i)
 same_interface {env} {calls} {named} agree i classes t is =
     sym (map-itself t.methods)
     ∙ zip_same (IsSignature env) (λ m. m)
-    (λ m. signature_of (signature_head calls named m)) (same_signature agree) i.methods t.methods is.methods
-    ∙ sym (map-map signature_of (signature_head calls named) i.methods)
+    (λ m. signature_of (signature_declaration calls named m)) (same_signature agree) i.methods t.methods is.methods
+    ∙ sym (map-map signature_of (signature_declaration calls named) i.methods)
   where
     map-itself : (ms : List modules.Signature) → map (λ (m : modules.Signature). m) ms ≡ ms
     map-itself [] = refl
@@ -169,7 +169,7 @@ same_interface {env} {calls} {named} agree i classes t is =
 
 same_interfaces : {env : Environment} {calls : List host.Registration} {named : ModuleDeclarations} → NamesAgree env calls named
     → (is : List written.Interface) (ns : List ℕ) (ts : List modules.Interface) → AreInterfaces env is ns ts
-    → map signatures.methods_of_interface ts ≡ map signatures_of_interface (map (interface_head calls named) is)
+    → map signatures.methods_of_interface ts ≡ map signatures_of_interface (map (interface_declaration calls named) is)
 same_interfaces agree [] [] [] h = refl
 same_interfaces agree [] [] (t ∷ ts) h = absurd h
 same_interfaces agree [] (n ∷ ns) ts h = absurd h
@@ -180,7 +180,7 @@ same_interfaces agree (i ∷ is) (n ∷ ns) (t ∷ ts) h =
 
 same_classes : {env : Environment} {calls : List host.Registration} {named : ModuleDeclarations} → NamesAgree env calls named
     → (place : ℕ) (cs : List written.Class) (ts : List modules.Class) → AreClasses env place cs ts
-    → map signatures.signature_of_class ts ≡ map signature_of_class (map (class_head calls named) cs)
+    → map signatures.signature_of_class ts ≡ map signature_of_class (map (class_declaration calls named) cs)
 same_classes agree place [] [] h = refl
 same_classes agree place [] (t ∷ ts) h = absurd h
 same_classes agree place (c ∷ cs) [] h = absurd h
