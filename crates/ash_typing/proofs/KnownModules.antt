@@ -270,7 +270,8 @@ result_known : (calls : List host.Registration) (named : ModuleDeclarations) (of
 result_known calls named None h = refl
 result_known calls named (Some of) h = variable_is_result (ty_named calls named of) h
 
-head_known : (calls : List host.Registration) (named : ModuleDeclarations) (f : written.Function) → KnownFunction (ty_named calls named) f
+head_known : (calls : List host.Registration) (named : ModuleDeclarations) (f : written.Function)
+    → KnownFunction (ty_named calls named) f
     → IsKnownFunction (function_declaration calls named f)
 head_known calls named f h =
     record { result = result_known calls named f.result h.0; parameters = types_known calls named f.parameters h.1 }
@@ -389,7 +390,8 @@ same_type calls is (written.Handle p name) = ap handle_ty (same_object calls is 
 same_type calls is (written.Array p of) = ap object_ty (same_array calls is of)
 same_type calls is (written.ArrayHandle p of) = ap handle_ty (same_array calls is of)
 
-pub module_known : (calls : List host.Registration) (is : List written.Item) → KnownItems (ty_in (environment calls is)) is
+pub module_known : (calls : List host.Registration) (is : List written.Item)
+    → KnownItems (ty_in (environment calls is)) is
     → IsKnown (environment calls is)
 unfolding declarations
 module_known calls is h =

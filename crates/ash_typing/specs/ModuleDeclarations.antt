@@ -122,7 +122,10 @@ signature_declaration calls named m = record {
 }
 
 abbrev pub interface_declaration : List host.Registration → ModuleDeclarations → written.Interface → Interface
-interface_declaration calls named i = record { name = i.name; methods = map (signature_declaration calls named) i.methods }
+interface_declaration calls named i = record {
+  name = i.name;
+  methods = map (signature_declaration calls named) i.methods;
+}
 
 -- `constructed_by calls named cs` is what the construction of an object takes: nothing where no constructor is written.
 abbrev pub constructed_by : List host.Registration → ModuleDeclarations → List written.Constructor → List Ty
