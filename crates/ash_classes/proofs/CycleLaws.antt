@@ -59,7 +59,8 @@ same_round R from to xs ys h k =
     let e : length xs ≡ length ys = omega (arith, h.shortest ys k.way, k.shortest xs h.way) in
     same_order xs ys e (h.foremost ys k.way (sym e)) (k.foremost xs h.way e)
 
-pub only_cycle : (R : ℕ → ℕ → Type 0) (first : ℕ) (others : List ℕ) → IsReportedCycle R first others → (a : ℕ) (bs : List ℕ)
+pub only_cycle : (R : ℕ → ℕ → Type 0) (first : ℕ) (others : List ℕ) → IsReportedCycle R first others
+    → (a : ℕ) (bs : List ℕ)
     → IsReportedCycle R a bs → (a ≡ first) × (bs ≡ others)
 only_cycle R first others h a bs k =
     let e : a ≡ first = omega (arith, h.earliest a (bs, k.round.way), k.earliest first (others, h.round.way)) in

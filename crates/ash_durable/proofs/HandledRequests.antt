@@ -179,11 +179,11 @@ module _ {D : Type 0} (device : Device D) (budget : ℕ) (request : Request) (st
       settles_added device request state old (seen_host None state journal) room after new
       (λ held. committed.moments state after (running_seen after journal) registered_same held)
 
-  replies_stored : (given : Answer) (new : Hosted D)
-      → CommitsAnswer device state.seq answer (seen_host None after journal) (Ok given) new
-      → Steps budget request state (answered given) after
-      → Replies device budget request (Some state) old (answered given) new
-  replies_stored given new committed (inl stepped) =
+  replies_stored : (returned : Answer) (new : Hosted D)
+      → CommitsAnswer device state.seq answer (seen_host None after journal) (Ok returned) new
+      → Steps budget request state (answered returned) after
+      → Replies device budget request (Some state) old (answered returned) new
+  replies_stored returned new committed (inl stepped) =
       let outcome = committed.outcome after (running_seen after journal) in
       inl (record {
         between = seen_host None state journal;
@@ -193,10 +193,10 @@ module _ {D : Type 0} (device : Device D) (budget : ℕ) (request : Request) (st
         running = outcome.0;
         added = λ _. outcome.1;
         untouched = λ not. absurd (not tt);
-        settles = settles_stored (Ok given) new committed;
+        settles = settles_stored (Ok returned) new committed;
       })
-  replies_stored given new committed (inr out) =
-      let h : answered given ≡ Refused refusals.NoMemory = out.reply_is in absurd (cc)
+  replies_stored returned new committed (inr out) =
+      let h : answered returned ≡ Refused refusals.NoMemory = out.reply_is in absurd (cc)
 
   replies_lost : (refusal : code.Refusal) (new : Hosted D)
       → CommitsAnswer device state.seq answer (seen_host None after journal) (Err refusal) new
@@ -218,10 +218,10 @@ module _ {D : Type 0} (device : Device D) (budget : ℕ) (request : Request) (st
   replies_lost refusal new committed (inr out) =
       let h : answered answer ≡ Refused refusals.NoMemory = out.reply_is in absurd (cc)
 
-  saved_stored : (given : Answer) (new : Hosted D)
-      → CommitsAnswer device state.seq answer (seen_host None after journal) (Ok given) new → IsSaved device old
+  saved_stored : (returned : Answer) (new : Hosted D)
+      → CommitsAnswer device state.seq answer (seen_host None after journal) (Ok returned) new → IsSaved device old
       → IsSaved device new
-  saved_stored given new committed = λ was honest other runs.
+  saved_stored returned new committed = λ was honest other runs.
       let outcome = committed.outcome after (running_seen after journal) in
       let honest_then : IsHonest device (seen_host None state journal) =
       honest_before device (seen_host None after journal)
@@ -231,23 +231,23 @@ module _ {D : Type 0} (device : Device D) (budget : ℕ) (request : Request) (st
       subst (λ (s : State). HoldsState device s new.journal) (runs_in new after other outcome.0 runs)
       (committed.holds state after (running_seen after journal) registered_same held)
 
-  handles_stored : (given : Answer) (new : Hosted D)
-      → CommitsAnswer device state.seq answer (seen_host None after journal) (Ok given) new
-      → Handles device budget request old (answered given) new
-  handles_stored given new committed =
-      let same : answer ≡ given = sym (committed.answer_same given refl) in
+  handles_stored : (returned : Answer) (new : Hosted D)
+      → CommitsAnswer device state.seq answer (seen_host None after journal) (Ok returned) new
+      → Handles device budget request old (answered returned) new
+  handles_stored returned new committed =
+      let same : answer ≡ returned = sym (committed.answer_same returned refl) in
       record {
-        replies = subst (λ (known : Option State). Replies device budget request known old (answered given) new)
-            (sym room.began.state_is) (replies_stored given new committed
+        replies = subst (λ (known : Option State). Replies device budget request known old (answered returned) new)
+            (sym room.began.state_is) (replies_stored returned new committed
             (subst (λ (a : Answer). Steps budget request state (answered a) after) same steps));
-        saved = saved_stored given new committed;
+        saved = saved_stored returned new committed;
         failures = counts_then ⊥ ⊥ (device.failures (first old)) (device.failures (second old))
             (device.failures (first (seen_host None state journal)))
             (device.failures (second (seen_host None state journal))) (device.failures (first new))
             (device.failures (second new)) (λ no. no) room.disks.failures committed.disks.failures;
         honesty_first = committed.disks.honesty_first ∙ room.disks.honesty_first;
         honesty_second = committed.disks.honesty_second ∙ room.disks.honesty_second;
-        registered = commits_registered (Ok given) new committed;
+        registered = commits_registered (Ok returned) new committed;
       }
 
   handles_lost : (refusal : code.Refusal) (new : Hosted D)
@@ -277,8 +277,8 @@ handles_either : {D : Type 0} (device : Device D) (budget : ℕ) (request : Requ
     → Steps budget request state (answered answer) after
     → CommitsAnswer device state.seq answer (seen_host None after journal) result new
     → Handles device budget request old (answer_of result) new
-handles_either device budget request state after journal old answer (Ok given) new room steps committed =
-    handles_stored device budget request state after journal old answer room steps given new committed
+handles_either device budget request state after journal old answer (Ok returned) new room steps committed =
+    handles_stored device budget request state after journal old answer room steps returned new committed
 handles_either device budget request state after journal old answer (Err refusal) new room steps committed =
     handles_lost device budget request state after journal old answer room steps refusal new committed
 

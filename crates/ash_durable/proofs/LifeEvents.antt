@@ -45,7 +45,7 @@ module _ {D : Type 0} (device : Device D) (registered : List Registration) where
           cc in subst (λ (s : State). IsRunning s host) one running;
       led = λ other runs. subst (LeadTo events (empty registered)) (runs_once host state other running runs) led;
       saved = saved;
-      alone = λ other runs. held device host other honest saved runs;
+      settles = λ other runs. held device host other honest saved runs;
     };
   }
 
@@ -61,7 +61,7 @@ module _ {D : Type 0} (device : Device D) (registered : List Registration) where
       running = λ state is. absurd (never state is);
       led = λ state runs. absurd (never state runs.state_is);
       saved = saved;
-      alone = λ state runs. absurd (never state runs.state_is);
+      settles = λ state runs. absurd (never state runs.state_is);
     };
   }
     where

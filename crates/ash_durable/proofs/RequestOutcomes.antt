@@ -68,16 +68,16 @@ lead_by (newest ∷ later) event earlier start state led =
 
 -- ---- what a request comes to
 
--- What becomes of a host that ran in a state, by what came of a request: it runs in the state that the request led to; it
--- is as it was; or it has stopped.
+-- What becomes of a host that ran in a state, by what came of a request: it runs in the state that the request led to;
+-- it is as it was; or it has stopped.
 abbrev pub Ending : {D : Type 0} → ℕ → Request → State → State → Hosted D → Reply → Hosted D → Type 0
 Ending budget request state after old reply new =
     (IsRunning after new × Steps budget request state reply after)
     ⊎ (((IsAnswer reply → ⊥) × (new ≡ old))
     ⊎ ((new.state ≡ None) × IsFailure reply))
 
--- What a request of a host comes to that ran in a state: a state that it may lead to, on which or on the one before it the
--- files settled at every moment.
+-- What a request of a host comes to that ran in a state: a state that it may lead to, on which or on the one before it
+-- the files settled at every moment.
 pub record Outcome {D : Type 0} (device : Device D) (budget : ℕ) (request : Request) (state : State) (old : Hosted D)
     (reply : Reply) (new : Hosted D) : Type 0 where
   pub after : State

@@ -121,7 +121,7 @@ pub(crate) fn accepts(class: OperatorClass, of: Ty) -> bool
 
 /// What an operand of an unknown type is taken for.
 pub(crate) fn assumed_type(class: OperatorClass, other: Ty, of: Ty) -> Ty
-    ensures { result ≡ types.assumed class other of }
+    ensures { result ≡ types.assumed_type class other of }
 {
     match (class, other, of) {
         (OperatorClass::Equality, Ty::Bool, Ty::Unknown) => Ty::Bool,
@@ -171,7 +171,7 @@ fn are_comparable(one: Ty, other: Ty) -> bool
 
 /// What an operator does with operands of these types, where it takes them.
 pub(crate) fn common_operands(class: OperatorClass, one: Ty, other: Ty) -> Option<Operands>
-    ensures { result ≡ types.meets class one other }
+    ensures { result ≡ types.common_operands class one other }
 {
     match (class, one, other) {
         (
@@ -196,7 +196,7 @@ pub(crate) fn common_operands(class: OperatorClass, one: Ty, other: Ty) -> Optio
 
 /// The type of an operator's result.
 pub(crate) fn operator_result(class: OperatorClass, operands: Operands) -> Ty
-    ensures { result ≡ types.outcome class operands }
+    ensures { result ≡ types.operator_result class operands }
 {
     match (class, operands) {
         (OperatorClass::Arithmetic | OperatorClass::Shift, Operands::Integers(int_type)) => {

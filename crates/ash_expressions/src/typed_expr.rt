@@ -122,7 +122,7 @@ pub(crate) fn handle_type(at: usize, of: Ty) -> CheckResult<Ty>
 fn adapt_number(other: Form, of: Ty, typed: &mut TypedExpr)
     ensures { typed_of typed.new
         ≡ typing.placed typed.old.at
-        (terms.taking other of typed.old.form (typing.term_of (typed_of typed.old))) }
+        (terms.adapted_number other of typed.old.form (typing.term_of (typed_of typed.old))) }
 {
     match (other, of, typed.form) {
         (Form::Number(_), _, Form::Number(_)) => {}

@@ -41,7 +41,7 @@ fn integer_type_of(shape: Shape) -> IntType
 
 /// The integer type that operands of two integer types are converted to.
 pub(crate) fn common_integer_type(one: IntType, other: IntType) -> IntType
-    ensures { result ≡ types.meeting one other }
+    ensures { result ≡ types.common_integer_type one other }
 {
     integer_type_of(Shape {
         is_signed: is_signed(one) || is_signed(other),

@@ -223,7 +223,7 @@ unassigned : (script : Script) (env : Environment) (p : place.Place) (e : writte
     → Unassigned script env.declarations.classes t u (operator_of op)
 unassigned script env p e op v t u r q w = record {
   unfit = λ o b. mismatches.assigned r q w o b;
-  unmet = λ by o at b. mismatches.updated r q w o b;
+  not_unified = λ by o at b. mismatches.updated r q w o b;
   uncounted = λ by o b. mismatches.updated_place r q o b;
 }
 

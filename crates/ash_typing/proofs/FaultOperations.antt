@@ -24,7 +24,7 @@ use Rattle.ash_typed.specs.declared.tree.operations.Step.{Step}
 use Rattle.ash_typed.specs.declared.tree.operations.Step.TheVariants as steps
 use Rattle.ash_typed.specs.Tree.{Null, Place}
 use Rattle.ash_typing.specs.TypingResult.{TypingResult, broken}
-use Rattle.ash_typing.specs.Types.{common, takes, assumed, meets, operator_class_of, binary_of, ty_of}
+use Rattle.ash_typing.specs.Types.{common, takes, assumed_type, common_operands, operator_class_of, binary_of, ty_of}
 use Rattle.ash_typing.specs.Coercions.{fits}
 use Rattle.ash_typing.specs.Environment.{Environment, Class, Known, Callee, variable_in, callee_in}
 use Rattle.ash_typing.specs.Terms.{assignable, operator_of, is_stored}
@@ -53,7 +53,8 @@ ListAt script count r = Answers script (λ (ts : List Typed). AllAt script.token
 
 -- what an operand has to be
 
-pub coerced_for_assignment_in : (script : Script) (classes : List Class) (of : Ty) (t : Typed) → HasStart script.tokens t.at
+pub coerced_for_assignment_in : (script : Script) (classes : List Class) (of : Ty) (t : Typed)
+    → HasStart script.tokens t.at
     → (fits classes of t.ty ≡ false → Mismatch script t.at) → Fine script (coerced_for_assignment classes of t)
 unfolding coerced_for_assignment
 coerced_for_assignment_in script classes of t h w = either (fits classes of t.ty) (λ b. fine tt) (λ b. mismatch h (w b))
@@ -84,32 +85,33 @@ adapted_in : (script : Tokens) (s : OperatorClass) (a : Form) (of : Ty) (t : Typ
 unfolding adapted
 adapted_in script s a of t h = h
 
-met_as_in : (script : Script) (s : OperatorClass) (a b : Typed) (o : Option Operands) → HasStart script.tokens a.at
+unified_as_in : (script : Script) (s : OperatorClass) (a b : Typed) (o : Option Operands) → HasStart script.tokens a.at
     → HasStart script.tokens b.at → ((at : ℕ) → unified_as s a b o ≡ broken rules.TypeMismatch at → Mismatch script at)
     → Answers script (λ (m : UnifiedOperands). HasStart script.tokens m.left.at) (unified_as s a b o)
-met_as_in script s a b (Some o) h k w = fine h
-met_as_in script s a b None h k w =
+unified_as_in script s a b (Some o) h k w = fine h
+unified_as_in script s a b None h k w =
     mismatch (choose_start script.tokens (takes s a.ty) b.at a.at k h) (w (if takes s a.ty then b.at else a.at) refl)
 
 -- an operator does not take two operands
-abbrev pub Unmet : Script → BinaryOp → Typed → Typed → Type 0
-Unmet script op a b = (at : ℕ) → unify_operands op a b ≡ broken rules.TypeMismatch at → Mismatch script at
+abbrev pub NotUnified : Script → BinaryOp → Typed → Typed → Type 0
+NotUnified script op a b = (at : ℕ) → unify_operands op a b ≡ broken rules.TypeMismatch at → Mismatch script at
 
-met_in : (script : Script) (op : BinaryOp) (a b : Typed) → HasStart script.tokens a.at → HasStart script.tokens b.at
-    → Unmet script op a b → Answers script (λ (m : UnifiedOperands). HasStart script.tokens m.left.at) (unify_operands op a b)
+unified_in : (script : Script) (op : BinaryOp) (a b : Typed) → HasStart script.tokens a.at → HasStart script.tokens b.at
+    → NotUnified script op a b
+    → Answers script (λ (m : UnifiedOperands). HasStart script.tokens m.left.at) (unify_operands op a b)
 unfolding unify_operands
-met_in script op a b h k w =
+unified_in script op a b h k w =
     let s = operator_class_of op in
     let x = adapted s b.form b.ty a in
     let y = adapted s a.form a.ty b in
-    met_as_in script s x y (meets s (assumed s y.ty x.ty) (assumed s x.ty y.ty))
+    unified_as_in script s x y (common_operands s (assumed_type s y.ty x.ty) (assumed_type s x.ty y.ty))
     (adapted_in script.tokens s b.form b.ty a h) (adapted_in script.tokens s a.form a.ty b k) w
 
 pub operate_in : (script : Script) (op : BinaryOp) (a b : Typed) → HasStart script.tokens a.at
     → HasStart script.tokens b.at
-    → Unmet script op a b → At script (operate op a b)
+    → NotUnified script op a b → At script (operate op a b)
 unfolding operate
-operate_in script op a b h k w = bind (met_in script op a b h k w) (λ m left. fine left)
+operate_in script op a b h k w = bind (unified_in script op a b h k w) (λ m left. fine left)
 
 -- operators before an operand
 
@@ -170,23 +172,24 @@ choice_in script c a b h k l y z =
 -- what is assigned to a typed place does not fit
 pub record Unassigned (script : Script) (classes : List Class) (t v : Typed) (c : Option Calculator) : Type 0 where
   pub unfit : c ≡ None → fits classes t.ty v.ty ≡ false → Mismatch script v.at
-  pub unmet : (by : Calculator) → c ≡ Some by → Unmet script (binary_of by) (term_at t.at t.ty Null) v
+  pub not_unified : (by : Calculator) → c ≡ Some by → NotUnified script (binary_of by) (term_at t.at t.ty Null) v
   pub uncounted : (by : Calculator) → c ≡ Some by → may_be_integer t.ty ≡ false → Mismatch script t.at
 
 updated_in : (script : Script) (at : ℕ) (of : Ty) (p : Place) (c : Calculator) (v : Typed) → HasStart script.tokens at
-    → HasStart script.tokens v.at → Unmet script (binary_of c) (term_at at of Null) v
+    → HasStart script.tokens v.at → NotUnified script (binary_of c) (term_at at of Null) v
     → (may_be_integer of ≡ false → Mismatch script at) → At script (updated at of p c v)
 updated_in script at of p c v h k y z =
-    bind (met_in script (binary_of c) (term_at at of Null) v h k y) (λ m left.
+    bind (unified_in script (binary_of c) (term_at at of Null) v h k y) (λ m left.
     bind (integer_in script at of h z) (λ int_type u. fine h))
 
 stored_in : (script : Script) (classes : List Class) (t : Typed) (p : Place) (c : Option Calculator) (v : Typed)
     → HasStart script.tokens t.at → HasStart script.tokens v.at → Unassigned script classes t v c
     → At script (stored classes t.at t.ty p c v)
 unfolding stored
-stored_in script classes t p None v h k z = bind (coerced_for_assignment_in script classes t.ty v k (z.unfit refl)) (λ e u. fine h)
+stored_in script classes t p None v h k z =
+    bind (coerced_for_assignment_in script classes t.ty v k (z.unfit refl)) (λ e u. fine h)
 stored_in script classes t p (Some c) v h k z =
-    updated_in script t.at t.ty p c v h k (z.unmet c refl) (z.uncounted c refl)
+    updated_in script t.at t.ty p c v h k (z.not_unified c refl) (z.uncounted c refl)
 
 assigned_to_in : (script : Script) (classes : List Class) (t : Typed) (op : AssignOp) (v : Typed) (p : Option Place)
     → HasStart script.tokens t.at → HasStart script.tokens v.at → assignable t.form t.tree ≡ p

@@ -69,13 +69,15 @@ unfolding if_else_typed
 if_else_in script line condition inner other h k l z =
     bind_by h (λ c a at. bind k (λ s u. bind l (λ t w. bind (condition_in script c at (z c a)) (λ yes v. fine tt))))
 
-while_in : (script : Script) (line : ℕ) (condition : TypingResult Typed) (body : TypingResult Stmt) → At script condition
+while_in : (script : Script) (line : ℕ) (condition : TypingResult Typed) (body : TypingResult Stmt)
+    → At script condition
     → Fine script body → Unconditional script condition → Fine script (while_typed line condition body)
 unfolding while_typed
 while_in script line condition body h k z =
     bind_by h (λ c a at. bind k (λ s u. bind (condition_in script c at (z c a)) (λ yes v. fine tt)))
 
-do_while_in : (script : Script) (line : ℕ) (body : TypingResult Stmt) (condition : TypingResult Typed) → Fine script body
+do_while_in : (script : Script) (line : ℕ) (body : TypingResult Stmt) (condition : TypingResult Typed)
+    → Fine script body
     → At script condition → Unconditional script condition → Fine script (do_while_typed line body condition)
 unfolding do_while_typed
 do_while_in script line body condition k h z =
@@ -153,7 +155,8 @@ AtLabel script scope int_type before p l ss cs =
 
 constant_in : (script : Script) (scope : Scope) (int_type : Option IntType) (before : List Label) (p : place.Place)
     (l : Label) (ss : written.Stmts) (cs : written.Cases) (m : Meaning) → HasToken script.tokens m p.at
-    → begins_constant m ≡ true → AtLabel script scope int_type before p l ss cs → Fine script (constant_typed int_type before p.at l)
+    → begins_constant m ≡ true → AtLabel script scope int_type before p l ss cs
+    → Fine script (constant_typed int_type before p.at l)
 unfolding constant_typed
 constant_in script scope int_type before p l ss cs m h k r =
     either (is_within int_type l)

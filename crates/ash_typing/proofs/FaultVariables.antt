@@ -152,7 +152,8 @@ unfolding ty_named
 written_at script env (written.Prim p k) h = primitive_written script k p.at
 written_at script env (written.Object p text) h = object_written script (type_named env text) p.at (text, h)
 written_at script env (written.Handle p text) h = handle_written script (type_named env text) p.at
-written_at script env (written.Array p of) h = array_written script (element_named env.registered env.declarations of) p.at h.0
+written_at script env (written.Array p of) h =
+    array_written script (element_named env.registered env.declarations of) p.at h.0
 written_at script env (written.ArrayHandle p of) h =
     handle_written script (array_named env.registered env.declarations of) p.at
 

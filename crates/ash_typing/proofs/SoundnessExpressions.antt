@@ -33,7 +33,7 @@ use Rattle.ash_typing.specs.declared.forms.Callable.TheVariants as callables
 use Rattle.ash_typing.specs.declared.forms.Form.{Form}
 use Rattle.ash_typing.specs.declared.forms.Form.TheVariants as form
 use Rattle.ash_typing.specs.declared.forms.OperatorClass.TheVariants as operator_class
-use Rattle.ash_typing.specs.Types.{signed, object_of, result_type, operator_class_of, binary_of, meets, outcome}
+use Rattle.ash_typing.specs.Types.{signed, object_of, result_type, operator_class_of, binary_of, common_operands, operator_result}
 use Rattle.ash_typing.specs.Types.{ty_of_element}
 use Rattle.ash_typing.specs.Types.{var_type}
 use Rattle.ash_typing.specs.Environment.{Environment, Known, Callee, Invoked, variable_in, callee_in, member_in}
@@ -51,7 +51,7 @@ use Rattle.ash_typing.specs.Typing.{operated, no_suffixes, suffixed, field, meth
 use Rattle.ash_typing.specs.Typing.{decrement_after}
 use Rattle.ash_typing.specs.Soundness.{seen_in}
 use Rattle.ash_typing.proofs.TypingKnown.{at_some, known_type, variable_is_known, element_known, adapted_known}
-use Rattle.ash_typing.proofs.TypingKnown.{outcome_known, variable_known, callee_known, member_known, method_known}
+use Rattle.ash_typing.proofs.TypingKnown.{operator_result_known, variable_known, callee_known, member_known, method_known}
 use Rattle.ash_typing.proofs.TypingCallees.{variable_value, result_value}
 use Rattle.ash_typing.proofs.TypingTypes.{value_type_of_object}
 use Rattle.ash_typing.proofs.SoundnessLookUps.{IsPlaceOf, IsSoundMethod, variable_sound, member_sound, element_type}
@@ -183,32 +183,32 @@ cast_is env o to_interface h = operations.to_interface h
 -- updates
 
 arithmetic_right : (env : Environment) (a b : Ty) (f : Form) (y : Expr) (j : IntType) → GivesType env y b
-    → meets operator_class.Arithmetic a b ≡ Some (operands.Integers j)
+    → common_operands operator_class.Arithmetic a b ≡ Some (operands.Integers j)
     → GivesType env (converted (conversion (ty.Integer j) b) y) (ty.Integer j)
 arithmetic_right env (ty.Integer m) (ty.Integer n) f y j h e = integer_sound env n j y h
 arithmetic_right env _ _ f y j h e = absurd (none-some (operands.Integers j) e)
 
 shift_right : (env : Environment) (a b : Ty) (y : Expr) (o : Operands) → GivesType env y b
-    → meets operator_class.Shift a b ≡ Some o → (k : IntType) × GivesType env y (ty.Integer k)
+    → common_operands operator_class.Shift a b ≡ Some o → (k : IntType) × GivesType env y (ty.Integer k)
 shift_right env (ty.Integer m) (ty.Integer n) y o h e = (n, h)
 shift_right env _ _ y o h e = absurd (none-some o e)
 
 by_arithmetic : (env : Environment) (c : Calculator) (a : Ty) (u : Term) (j k : IntType) (at : Place)
     → sound.HasPlace (seen_in env) at (vars.Integer k) → GivesType env u.tree u.ty
-    → meets operator_class.Arithmetic a u.ty ≡ Some (operands.Integers j)
+    → common_operands operator_class.Arithmetic a u.ty ≡ Some (operands.Integers j)
     → GivesType env (Update at k (record { operator = c; of = j }) (converted_to (ty.Integer j) u)) (ty.Integer k)
 by_arithmetic env c a u j k at p h e = sound.update p (arithmetic_right env a u.ty u.form u.tree j h e)
 
 by_shift : (env : Environment) (c : Calculator) (a : Ty) (u : Term) (j k : IntType) (at : Place) → operations.IsShift c
     → sound.HasPlace (seen_in env) at (vars.Integer k) → GivesType env u.tree u.ty
-    → meets operator_class.Shift a u.ty ≡ Some (operands.Integers j)
+    → common_operands operator_class.Shift a u.ty ≡ Some (operands.Integers j)
     → GivesType env (Update at k (record { operator = c; of = j }) u.tree) (ty.Integer k)
 by_shift env c a u j k at s p h e =
     sound.update_by_shift s p (shift_right env a u.ty u.tree (operands.Integers j) h e).1
 
 updated_sound : (env : Environment) (c : Calculator) (a : Ty) (u : Term) (j k : IntType) (at : Place)
     → sound.HasPlace (seen_in env) at (vars.Integer k) → GivesType env u.tree u.ty
-    → meets (operator_class_of (binary_of c)) a u.ty ≡ Some (operands.Integers j)
+    → common_operands (operator_class_of (binary_of c)) a u.ty ≡ Some (operands.Integers j)
     → GivesType env
     (Update at k (record { operator = c; of = j }) (right_by (operator_class_of (binary_of c)) (operands.Integers j) u))
     (ty.Integer k)
@@ -371,8 +371,8 @@ mutual
       let s = operator_class_of op in
       let left = adapted_to s u t in
       let right = adapted_to s t u in
-      links_sound rest known (outcome_known s o)
-      (plain env (outcome s o) (applied op o (left_of op o t u) (right_of op o t u))
+      links_sound rest known (operator_result_known s o)
+      (plain env (operator_result s o) (applied op o (left_of op o t u) (right_of op o t u))
       (operated_sound env op o left right (adapted_known s u t k) (adapted_known s t u (known_type e known))
       (adapted_sound env s u t h.gives) (adapted_sound env s t u (term_sound e known).gives) m))
 

@@ -196,15 +196,18 @@ before_within count (written.AFunction f ∷ is) = before_within count is
 before_within count (written.AGlobal v ∷ is) = before_within count is
 
 -- interfaces are in the order of the source
-pub interfaces_in_order : (env : Environment) (least count : ℕ) (is : List written.Item) (ts : List modules.Interface) → least ≤ count → AreInterfaces env (interfaces_of is) (classes_before count is) ts → AreInOrder least ts
+pub interfaces_in_order : (env : Environment) (least count : ℕ) (is : List written.Item) (ts : List modules.Interface)
+    → least ≤ count → AreInterfaces env (interfaces_of is) (classes_before count is) ts → AreInOrder least ts
 interfaces_in_order env least count [] [] few h = tt
 interfaces_in_order env least count [] (t ∷ ts) few h = absurd h
 interfaces_in_order env least count (written.AnInterface i ∷ is) [] few h = absurd h
 interfaces_in_order env least count (written.AnInterface i ∷ is) (t ∷ ts) few h =
     let same : count ≡ t.classes_before = sym h.0.before in
     (subst (λ n. least ≤ n) same few, subst (λ n. AreInOrder n ts) same (interfaces_in_order env count count is ts (omega arith) h.1))
-interfaces_in_order env least count (written.AClass c ∷ is) ts few h = interfaces_in_order env least (count + 1) is ts (omega arith) h
-interfaces_in_order env least count (written.AFunction f ∷ is) ts few h = interfaces_in_order env least count is ts few h
+interfaces_in_order env least count (written.AClass c ∷ is) ts few h =
+    interfaces_in_order env least (count + 1) is ts (omega arith) h
+interfaces_in_order env least count (written.AFunction f ∷ is) ts few h =
+    interfaces_in_order env least count is ts few h
 interfaces_in_order env least count (written.AGlobal v ∷ is) ts few h = interfaces_in_order env least count is ts few h
 
 -- variables

@@ -177,7 +177,8 @@ this_is classes (Some i) = go (slice_get classes i) refl
 abbrev IsSoundMember : Environment → ObjectType → Member × Ty → Type 0
 IsSoundMember env o found = operations.IsMember (seen_in env).signatures o found.0 (var_type found.1)
 
-field_sound : (env : Environment) (class : ℕ) (c : Class) (text : List ℕ) → slice_get env.declarations.classes class ≡ Some c
+field_sound : (env : Environment) (class : ℕ) (c : Class) (text : List ℕ)
+    → slice_get env.declarations.classes class ≡ Some c
     → IfSome (field_in class c text) (IsSoundMember env (OfClass class))
 field_sound env class c text h =
     if_map (IsSoundMember env (OfClass class))

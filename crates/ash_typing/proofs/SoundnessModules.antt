@@ -41,7 +41,8 @@ globals_length env (v ∷ vs) (t ∷ ts) h =
     ∙ zip_length (IsDeclared env (ty_in env v.of)) v.decls t.values h.0.values) (globals_length env vs ts h.1)
     ∙ sym (count_names v (variable_names vs))
 
-pub module_sound : (calls : List host.Registration) (is : List written.Item) (m : modules.Module) → ItemsDeclareInBlocks is
+pub module_sound : (calls : List host.Registration) (is : List written.Item) (m : modules.Module)
+    → ItemsDeclareInBlocks is
     → IsTyped calls is m → sound.IsSound (offered calls) m
 module_sound calls is m nest typed =
     let env = environment calls is in

@@ -145,7 +145,8 @@ IsCalledWith env callee parameters =
 abbrev pub IsSoundCallee : Environment → Callee → Type 0
 IsSoundCallee env callee = IfSome callee.parameters (IsCalledWith env callee)
 
-pub class_takes : (env : Environment) (class : ℕ) (c : Class) → IsKnown env → slice_get env.declarations.classes class ≡ Some c
+pub class_takes : (env : Environment) (class : ℕ) (c : Class) → IsKnown env
+    → slice_get env.declarations.classes class ≡ Some c
     → operations.IsTarget (seen_in env).signatures (targets.Class class) (map var_type c.parameters)
     (result_type (ty.Handle (OfClass class))) × AllByRecursion IsVariableType c.parameters
 class_takes env class c known e = (
@@ -340,7 +341,8 @@ object_element s (OfArray of) h = tt
 pub element_sound : (calls : List host.Registration) (declarations : ModuleDeclarations) (of : written.Element)
     → IfSome (element_named calls declarations of) (IsElement (signatures_in calls declarations))
 unfolding element_named
-element_sound calls declarations (written.PrimElement p primitive) = primitive_element (signatures_in calls declarations) primitive
+element_sound calls declarations (written.PrimElement p primitive) =
+    primitive_element (signatures_in calls declarations) primitive
 element_sound calls declarations (written.HandleElement p name) =
     if_then (IsObjectType (signatures_in calls declarations)) (IsElement (signatures_in calls declarations)) element_by
     (object_named calls declarations name) (object_element (signatures_in calls declarations)) (object_sound calls declarations name)

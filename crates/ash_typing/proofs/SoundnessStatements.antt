@@ -1,4 +1,4 @@
--- What the rules of typing type is a sound statement, where variables are declared in blocks and in declarations of loops
+-- What the rules of typing type is a sound statement, where variables are declared in blocks and in heads of loops
 -- alone.
 use Rattle.std.specs.List.{AllByRecursion, list_any}
 use Rattle.std.proofs.lemmas.Bool.{eqb-true, eq-eqb, leb-true}
@@ -202,7 +202,7 @@ no_rows (more_cases l ss rest) h = absurd (cc)
 
 -- a statement, by itself and with what follows it in its block
 record IsSoundStmt (scope : Scope) (s : written.Stmt) (t : Stmt) : Type 0 where
-  alone : IsNoDeclaration s → sound_statements.IsStmt (seen_at scope) t
+  by_itself : IsNoDeclaration s → sound_statements.IsStmt (seen_at scope) t
   followed : (ts : Stmts) → sound_statements.AreStmts (seen_at (after scope s)) ts
       → sound_statements.AreStmts (seen_at scope) (stmt t ts)
   known : IsKnownScope (after scope s)
@@ -210,7 +210,7 @@ record IsSoundStmt (scope : Scope) (s : written.Stmt) (t : Stmt) : Type 0 where
 plain : (scope : Scope) (s : written.Stmt) (t : Stmt) → after scope s ≡ scope → IsKnownScope scope
     → sound_statements.IsStmt (seen_at scope) t → IsSoundStmt scope s t
 plain scope s t e known h = record {
-  alone = λ n. h;
+  by_itself = λ n. h;
   followed = λ ts more.
       sound_statements.more_stmts h (subst (λ next. sound_statements.AreStmts (seen_at next) ts) e more);
   known = subst IsKnownScope (sym e) known;
@@ -231,7 +231,7 @@ mutual
   stmt_sound {scope} (empty {p = p}) known nest =
       plain scope (written.Empty p) (Empty p.line) refl known sound_statements.empty
   stmt_sound {scope} (declare {p = p} {v = v} {values = values} is are) known nest = record {
-    alone = λ n. absurd n;
+    by_itself = λ n. absurd n;
     followed = λ ts more.
         sound_statements.declare
         (variables_sound are known is (variable_is_known (ty_in scope.env v.of) is)
@@ -247,28 +247,28 @@ mutual
       (sound_statements.block (stmts_sound h (block_known scope known) nest))
   stmt_sound {scope} (if_only {p = p} {c = c} {s = s} {tree = tree} {t = t} h i) known nest =
       plain scope (written.If p c s) (If p.line tree t no_branch) refl known
-      (sound_statements.if_only (condition_sound h known.env) ((stmt_sound i known nest.1).alone nest.0))
+      (sound_statements.if_only (condition_sound h known.env) ((stmt_sound i known nest.1).by_itself nest.0))
   stmt_sound {scope} (if_else {p = p} {c = c} {s = s} {r = r} {tree = tree} {t = t} {u = u} h i j) known nest =
       plain scope (written.IfElse p c s r) (If p.line tree t (branch u)) refl known
-      (sound_statements.if_else (condition_sound h known.env) ((stmt_sound i known nest.1).alone nest.0)
-      ((stmt_sound j known nest.3).alone nest.2))
+      (sound_statements.if_else (condition_sound h known.env) ((stmt_sound i known nest.1).by_itself nest.0)
+      ((stmt_sound j known nest.3).by_itself nest.2))
   stmt_sound {scope} (while_loop {p = p} {c = c} {s = s} {tree = tree} {t = t} h i) known nest =
       plain scope (written.While p c s) (Repeat p.line (repeated First (Some tree) [] t)) refl known
       (sound_statements.repeat
       (sound_statements.loop (condition_sound h known.env) tt
-      ((stmt_sound i (loop_known scope known) nest.1).alone nest.0)))
+      ((stmt_sound i (loop_known scope known) nest.1).by_itself nest.0)))
   stmt_sound {scope} (do_loop {p = p} {c = c} {s = s} {tree = tree} {t = t} i h) known nest =
       plain scope (written.DoWhile p s c) (Repeat p.line (repeated Last (Some tree) [] t)) refl known
       (sound_statements.repeat
       (sound_statements.loop (condition_sound h known.env) tt
-      ((stmt_sound i (loop_known scope known) nest.1).alone nest.0)))
+      ((stmt_sound i (loop_known scope known) nest.1).by_itself nest.0)))
   stmt_sound {scope}
       (for_loop {p = p} {f = f} {s = s} {c = c} {es = es} {h = g} {t = t} {tree = tree} {ts = ts} i m all body) known
       nest =
       let head = head_sound i (block_known scope known) in
       let inside =
       sound_statements.loop {test = First} (maybe_sound m head.known.env) (steps_sound all head.known.env)
-      ((stmt_sound body (loop_known (after (block_of scope) f) head.known) nest.1).alone nest.0) in
+      ((stmt_sound body (loop_known (after (block_of scope) f) head.known) nest.1).by_itself nest.0) in
       plain scope (written.For p f c es s) (For p.line g (repeated First tree (map tree_of_term ts) t)) refl known
       (sound_statements.for head.head
       (subst (λ next. sound_statements.IsLoop next (repeated First tree (map tree_of_term ts) t)) head.seen inside))
@@ -309,6 +309,6 @@ mutual
   labelled_sound no_more_stmts known nest = sound_statements.none_labelled
   labelled_sound {scope} (more_stmts {s = s} {ts = ts} h rest) known nest =
       let first = stmt_sound h known nest.1 in
-      sound_statements.and_labelled (first.alone nest.0)
+      sound_statements.and_labelled (first.by_itself nest.0)
       (subst (λ next. sound_statements.AreLabelled (seen_at next) ts) (same_after scope s nest.0)
       (labelled_sound rest first.known nest.2))

@@ -27,11 +27,11 @@ use Rattle.ash_typing.specs.declared.forms.OperatorClass.TheVariants as operator
 use Rattle.ash_typing.specs.declared.forms.Form.{Form}
 use Rattle.ash_typing.specs.declared.forms.Form.TheVariants as form
 use Rattle.ash_typing.specs.Types.{is_same_integer_type, is_same_element, is_same_object, holds}
-use Rattle.ash_typing.specs.Types.{number_type, meeting, common}
-use Rattle.ash_typing.specs.Types.{gives_object, agrees, operator_class_of, meets, outcome, var_type, value_type}
+use Rattle.ash_typing.specs.Types.{number_type, common_integer_type, common}
+use Rattle.ash_typing.specs.Types.{gives_object, agrees, operator_class_of, common_operands, operator_result, var_type, value_type}
 use Rattle.ash_typing.specs.Environment.{Environment, Class}
 use Rattle.ash_typing.specs.Coercions.{has_interface, lists, is_of, fits}
-use Rattle.ash_typing.specs.Terms.{conversion, operand_type, applied, Term, converted_to, taking, adapted_to, right_by}
+use Rattle.ash_typing.specs.Terms.{conversion, operand_type, applied, Term, converted_to, adapted_number, adapted_to, right_by}
 use Rattle.ash_typing.specs.Typing.{is_known, IsKnownType}
 use Rattle.ash_typing.specs.Soundness.{signature_of_class, seen_in}
 use Rattle.ash_typing.proofs.TypingTypes.{equal_integer_types}
@@ -113,7 +113,7 @@ taken_sound env k n t true e h = sound.number (within k n e)
 taken_sound env k n t false e h = h
 
 taking_sound : (env : Environment) (a : Form) (of : Ty) (b : Form) (t : Term) → GivesType env t.tree t.ty
-    → GivesType env (taking a of b t).tree (taking a of b t).ty
+    → GivesType env (adapted_number a of b t).tree (adapted_number a of b t).ty
 taking_sound env (form.Number m) of (form.Number n) t h = h
 taking_sound env a (ty.Integer k) (form.Number n) t h = taken_sound env k n t (holds k n) refl h
 taking_sound env a of b t h = h
@@ -130,7 +130,8 @@ AreOperands env operator_class.Arithmetic (operands.Integers k) a b =
     GivesType env a (ty.Integer k) × GivesType env b (ty.Integer k)
 AreOperands env operator_class.Shift (operands.Integers k) a b =
     GivesType env a (ty.Integer k) × ((j : IntType) × GivesType env b (ty.Integer j))
-AreOperands env operator_class.Order (operands.Integers k) a b = GivesType env a (ty.Integer k) × GivesType env b (ty.Integer k)
+AreOperands env operator_class.Order (operands.Integers k) a b =
+    GivesType env a (ty.Integer k) × GivesType env b (ty.Integer k)
 AreOperands env operator_class.Equality (operands.Integers k) a b =
     GivesType env a (ty.Integer k) × GivesType env b (ty.Integer k)
 AreOperands env operator_class.Equality operands.Bools a b = GivesType env a ty.Bool × GivesType env b ty.Bool
@@ -141,48 +142,53 @@ AreOperands env operator_class.Identity operands.Handles a b =
 AreOperands env _ _ _ _ = ⊥
 
 -- what becomes of two terms
-abbrev AreMet : Environment → OperatorClass → Operands → Ty → Ty → Form → Expr → Expr → Type 0
-AreMet env s o a b f x y =
+abbrev AreSoundOperands : Environment → OperatorClass → Operands → Ty → Ty → Form → Expr → Expr → Type 0
+AreSoundOperands env s o a b f x y =
     AreOperands env s o (converted (conversion (operand_type o) a) x)
     (right_by s o (record { ty = b; form = f; tree = y }))
 
 arithmetic_sound : (env : Environment) (a b : Ty) (f : Form) (x y : Expr) (o : Operands) → GivesType env x a
-    → GivesType env y b → meets operator_class.Arithmetic a b ≡ Some o → AreMet env operator_class.Arithmetic o a b f x y
+    → GivesType env y b → common_operands operator_class.Arithmetic a b ≡ Some o
+    → AreSoundOperands env operator_class.Arithmetic o a b f x y
 arithmetic_sound env (ty.Integer j) (ty.Integer k) f x y o h i e =
-    subst (λ o. AreMet env operator_class.Arithmetic o (ty.Integer j) (ty.Integer k) f x y)
-    (same_Some (operands.Integers (meeting j k)) o e)
-    (integer_sound env j (meeting j k) x h, integer_sound env k (meeting j k) y i)
+    subst (λ o. AreSoundOperands env operator_class.Arithmetic o (ty.Integer j) (ty.Integer k) f x y)
+    (same_Some (operands.Integers (common_integer_type j k)) o e)
+    (integer_sound env j (common_integer_type j k) x h, integer_sound env k (common_integer_type j k) y i)
 arithmetic_sound env _ _ f x y o h i e = absurd (none-some o e)
 
 shift_sound : (env : Environment) (a b : Ty) (f : Form) (x y : Expr) (o : Operands) → GivesType env x a
-    → GivesType env y b → meets operator_class.Shift a b ≡ Some o → AreMet env operator_class.Shift o a b f x y
+    → GivesType env y b → common_operands operator_class.Shift a b ≡ Some o
+    → AreSoundOperands env operator_class.Shift o a b f x y
 shift_sound env (ty.Integer j) (ty.Integer k) f x y o h i e =
-    subst (λ o. AreMet env operator_class.Shift o (ty.Integer j) (ty.Integer k) f x y) (same_Some (operands.Integers j) o e)
+    subst (λ o. AreSoundOperands env operator_class.Shift o (ty.Integer j) (ty.Integer k) f x y) (same_Some (operands.Integers j) o e)
     (integer_sound env j j x h, (k, i))
 shift_sound env _ _ f x y o h i e = absurd (none-some o e)
 
 order_sound : (env : Environment) (a b : Ty) (f : Form) (x y : Expr) (o : Operands) → GivesType env x a
-    → GivesType env y b → meets operator_class.Order a b ≡ Some o → AreMet env operator_class.Order o a b f x y
+    → GivesType env y b → common_operands operator_class.Order a b ≡ Some o
+    → AreSoundOperands env operator_class.Order o a b f x y
 order_sound env (ty.Integer j) (ty.Integer k) f x y o h i e =
-    subst (λ o. AreMet env operator_class.Order o (ty.Integer j) (ty.Integer k) f x y)
-    (same_Some (operands.Integers (meeting j k)) o e)
-    (integer_sound env j (meeting j k) x h, integer_sound env k (meeting j k) y i)
+    subst (λ o. AreSoundOperands env operator_class.Order o (ty.Integer j) (ty.Integer k) f x y)
+    (same_Some (operands.Integers (common_integer_type j k)) o e)
+    (integer_sound env j (common_integer_type j k) x h, integer_sound env k (common_integer_type j k) y i)
 order_sound env _ _ f x y o h i e = absurd (none-some o e)
 
 equality_sound : (env : Environment) (a b : Ty) (f : Form) (x y : Expr) (o : Operands) → GivesType env x a
-    → GivesType env y b → meets operator_class.Equality a b ≡ Some o → AreMet env operator_class.Equality o a b f x y
+    → GivesType env y b → common_operands operator_class.Equality a b ≡ Some o
+    → AreSoundOperands env operator_class.Equality o a b f x y
 equality_sound env (ty.Integer j) (ty.Integer k) f x y o h i e =
-    subst (λ o. AreMet env operator_class.Equality o (ty.Integer j) (ty.Integer k) f x y)
-    (same_Some (operands.Integers (meeting j k)) o e)
-    (integer_sound env j (meeting j k) x h, integer_sound env k (meeting j k) y i)
+    subst (λ o. AreSoundOperands env operator_class.Equality o (ty.Integer j) (ty.Integer k) f x y)
+    (same_Some (operands.Integers (common_integer_type j k)) o e)
+    (integer_sound env j (common_integer_type j k) x h, integer_sound env k (common_integer_type j k) y i)
 equality_sound env ty.Bool ty.Bool f x y o h i e =
-    subst (λ o. AreMet env operator_class.Equality o ty.Bool ty.Bool f x y) (same_Some operands.Bools o e) (h, i)
+    subst (λ o. AreSoundOperands env operator_class.Equality o ty.Bool ty.Bool f x y) (same_Some operands.Bools o e) (h, i)
 equality_sound env _ _ f x y o h i e = absurd (none-some o e)
 
 logic_sound : (env : Environment) (a b : Ty) (f : Form) (x y : Expr) (o : Operands) → GivesType env x a
-    → GivesType env y b → meets operator_class.Logic a b ≡ Some o → AreMet env operator_class.Logic o a b f x y
+    → GivesType env y b → common_operands operator_class.Logic a b ≡ Some o
+    → AreSoundOperands env operator_class.Logic o a b f x y
 logic_sound env ty.Bool ty.Bool f x y o h i e =
-    subst (λ o. AreMet env operator_class.Logic o ty.Bool ty.Bool f x y) (same_Some operands.Bools o e) (h, i)
+    subst (λ o. AreSoundOperands env operator_class.Logic o ty.Bool ty.Bool f x y) (same_Some operands.Bools o e) (h, i)
 logic_sound env _ _ f x y o h i e = absurd (none-some o e)
 
 -- an object or null
@@ -222,25 +228,28 @@ identity_if true o e = (refl, same_Some operands.Handles o e)
 identity_if false o e = absurd (none-some o e)
 
 identity_sound : (env : Environment) (a b : Ty) (f : Form) (x y : Expr) (o : Operands) → is_known a ≡ true
-    → is_known b ≡ true → GivesType env x a → GivesType env y b → meets operator_class.Identity a b ≡ Some o
-    → AreMet env operator_class.Identity o a b f x y
+    → is_known b ≡ true → GivesType env x a → GivesType env y b → common_operands operator_class.Identity a b ≡ Some o
+    → AreSoundOperands env operator_class.Identity o a b f x y
 identity_sound env a b f x y o k l h i e =
     let c = identity_if (agrees a b) o e in
     let r = agreeing a b k l c.0 in
-    subst (λ o. AreMet env operator_class.Identity o a b f x y) c.1
+    subst (λ o. AreSoundOperands env operator_class.Identity o a b f x y) c.1
     (value_type a, value_type b, h, reference_operand a r.0, i, reference_operand b r.1)
 
-met_sound : (env : Environment) (s : OperatorClass) (a b : Ty) (f : Form) (x y : Expr) (o : Operands) → is_known a ≡ true
-    → is_known b ≡ true → GivesType env x a → GivesType env y b → meets s a b ≡ Some o → AreMet env s o a b f x y
-met_sound env operator_class.Arithmetic a b f x y o k l h i e = arithmetic_sound env a b f x y o h i e
-met_sound env operator_class.Shift a b f x y o k l h i e = shift_sound env a b f x y o h i e
-met_sound env operator_class.Order a b f x y o k l h i e = order_sound env a b f x y o h i e
-met_sound env operator_class.Equality a b f x y o k l h i e = equality_sound env a b f x y o h i e
-met_sound env operator_class.Identity a b f x y o k l h i e = identity_sound env a b f x y o k l h i e
-met_sound env operator_class.Logic a b f x y o k l h i e = logic_sound env a b f x y o h i e
+unified_sound : (env : Environment) (s : OperatorClass) (a b : Ty) (f : Form) (x y : Expr) (o : Operands)
+    → is_known a ≡ true
+    → is_known b ≡ true → GivesType env x a → GivesType env y b → common_operands s a b ≡ Some o
+    → AreSoundOperands env s o a b f x y
+unified_sound env operator_class.Arithmetic a b f x y o k l h i e = arithmetic_sound env a b f x y o h i e
+unified_sound env operator_class.Shift a b f x y o k l h i e = shift_sound env a b f x y o h i e
+unified_sound env operator_class.Order a b f x y o k l h i e = order_sound env a b f x y o h i e
+unified_sound env operator_class.Equality a b f x y o k l h i e = equality_sound env a b f x y o h i e
+unified_sound env operator_class.Identity a b f x y o k l h i e = identity_sound env a b f x y o k l h i e
+unified_sound env operator_class.Logic a b f x y o k l h i e = logic_sound env a b f x y o h i e
 
-applied_sound : (env : Environment) (op : BinaryOp) (o : Operands) (a b : Expr) → AreOperands env (operator_class_of op) o a b
-    → GivesType env (applied op o a b) (outcome (operator_class_of op) o)
+applied_sound : (env : Environment) (op : BinaryOp) (o : Operands) (a b : Expr)
+    → AreOperands env (operator_class_of op) o a b
+    → GivesType env (applied op o a b) (operator_result (operator_class_of op) o)
 applied_sound env binary.Multiply (operands.Integers k) a b h = sound.calculate h.0 h.1
 applied_sound env binary.Divide (operands.Integers k) a b h = sound.calculate h.0 h.1
 applied_sound env binary.Remainder (operands.Integers k) a b h = sound.calculate h.0 h.1
@@ -280,12 +289,12 @@ applied_sound env op o a b h = absurd h
 -- an operator between two operands that it takes
 pub operated_sound : (env : Environment) (op : BinaryOp) (o : Operands) (t u : Term) → is_known t.ty ≡ true
     → is_known u.ty ≡ true → GivesType env t.tree t.ty → GivesType env u.tree u.ty
-    → meets (operator_class_of op) t.ty u.ty ≡ Some o
+    → common_operands (operator_class_of op) t.ty u.ty ≡ Some o
     → GivesType env (applied op o (converted_to (operand_type o) t) (right_by (operator_class_of op) o u))
-    (outcome (operator_class_of op) o)
+    (operator_result (operator_class_of op) o)
 operated_sound env op o t u k l h i e =
     applied_sound env op o (converted_to (operand_type o) t) (right_by (operator_class_of op) o u)
-    (met_sound env (operator_class_of op) t.ty u.ty u.form t.tree u.tree o k l h i e)
+    (unified_sound env (operator_class_of op) t.ty u.ty u.form t.tree u.tree o k l h i e)
 
 -- branches
 
@@ -328,8 +337,8 @@ chosen_sound env c x y a ty.Unknown of k l h i j e = absurd (cc)
 chosen_sound env c x y ty.Bool ty.Bool of k l h i j e =
     subst (IsChosen env c ty.Bool ty.Bool x y) (same_Some ty.Bool of e) (sound.choose h i j)
 chosen_sound env c x y (ty.Integer m) (ty.Integer n) of k l h i j e =
-    subst (IsChosen env c (ty.Integer m) (ty.Integer n) x y) (same_Some (ty.Integer (meeting m n)) of e)
-    (sound.choose h (integer_sound env m (meeting m n) x i) (integer_sound env n (meeting m n) y j))
+    subst (IsChosen env c (ty.Integer m) (ty.Integer n) x y) (same_Some (ty.Integer (common_integer_type m n)) of e)
+    (sound.choose h (integer_sound env m (common_integer_type m n) x i) (integer_sound env n (common_integer_type m n) y j))
 chosen_sound env c x y ty.Null (ty.Object o) of k l h i j e =
     subst (IsChosen env c ty.Null (ty.Object o) x y) (same_Some (ty.Handle o) of e) (sound.null_or_choose h i j)
 chosen_sound env c x y ty.Null (ty.Handle o) of k l h i j e =

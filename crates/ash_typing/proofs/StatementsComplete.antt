@@ -123,7 +123,8 @@ if_is : (line : ℕ) (o : TypingResult Typed) (b : TypingResult Stmt) (c : Typed
 unfolding if_typed
 if_is line o b c s tree h i j k = rw (h, k, i, sym j) refl
 
-if_else_is : (line : ℕ) (o : TypingResult Typed) (b r : TypingResult Stmt) (c : Typed) (s t : Stmt) (tree : Expr) → o ≡ Ok c
+if_else_is : (line : ℕ) (o : TypingResult Typed) (b r : TypingResult Stmt) (c : Typed) (s t : Stmt) (tree : Expr)
+    → o ≡ Ok c
     → condition_is c ≡ Ok true → c.tree ≡ tree → b ≡ Ok s → r ≡ Ok t
     → if_else_typed line o b r ≡ Ok (If line tree s (branch t))
 unfolding if_else_typed
@@ -135,7 +136,8 @@ while_is : (line : ℕ) (o : TypingResult Typed) (b : TypingResult Stmt) (c : Ty
 unfolding while_typed
 while_is line o b c s tree h i j k = rw (h, k, i, sym j) refl
 
-do_while_is : (line : ℕ) (o : TypingResult Typed) (b : TypingResult Stmt) (c : Typed) (s : Stmt) (tree : Expr) → o ≡ Ok c
+do_while_is : (line : ℕ) (o : TypingResult Typed) (b : TypingResult Stmt) (c : Typed) (s : Stmt) (tree : Expr)
+    → o ≡ Ok c
     → condition_is c ≡ Ok true → c.tree ≡ tree → b ≡ Ok s
     → do_while_typed line b o ≡ Ok (Repeat line (repeated Last (Some tree) [] s))
 unfolding do_while_typed
@@ -175,10 +177,12 @@ unfolding returned
 returned_is classes of at a t h = rw (no_void classes of t.ty h) (coerced_for_assignment_is classes of a t h)
 
 value_is : (scope : Scope) (p : Place) (e : written.Expr) (t : Term)
-    → typed scope.env false e ≡ Ok (placed (first_at e) t) → fits scope.env.declarations.classes scope.result t.ty ≡ true
+    → typed scope.env false e ≡ Ok (placed (first_at e) t)
+    → fits scope.env.declarations.classes scope.result t.ty ≡ true
     → return_typed scope p (Some e) ≡ Ok (Return p.line (Some (converted_to scope.result t)))
 unfolding return_typed
-value_is scope p e t h fit = rw (h, returned_is scope.env.declarations.classes scope.result p.at (first_at e) t fit) refl
+value_is scope p e t h fit =
+    rw (h, returned_is scope.env.declarations.classes scope.result p.at (first_at e) t fit) refl
 
 -- labels
 

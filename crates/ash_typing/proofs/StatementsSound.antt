@@ -42,7 +42,8 @@ use Rattle.ash_typing.proofs.StatementPartsSound.{steps_sound}
 
 -- statements, taken apart
 
-if_parts : {P : Type 0} (line : ℕ) (o : TypingResult Typed) (b : TypingResult Stmt) (r : Stmt) → if_typed line o b ≡ Ok r
+if_parts : {P : Type 0} (line : ℕ) (o : TypingResult Typed) (b : TypingResult Stmt) (r : Stmt)
+    → if_typed line o b ≡ Ok r
     → ((c : Typed) (s : Stmt) (fit : Bool) → o ≡ Ok c → b ≡ Ok s → condition_is c ≡ Ok fit
     → If line c.tree s no_branch ≡ r → P) → P
 unfolding if_typed
@@ -64,7 +65,8 @@ if_else_parts line o b e r h k =
     let y = bind_ok (condition_is c.0) _ r t.2 in
     k c.0 s.0 t.0 y.0 c.1 s.1 t.1 y.1 (ok_is _ r y.2)
 
-while_parts : {P : Type 0} (line : ℕ) (o : TypingResult Typed) (b : TypingResult Stmt) (r : Stmt) → while_typed line o b ≡ Ok r
+while_parts : {P : Type 0} (line : ℕ) (o : TypingResult Typed) (b : TypingResult Stmt) (r : Stmt)
+    → while_typed line o b ≡ Ok r
     → ((c : Typed) (s : Stmt) (fit : Bool) → o ≡ Ok c → b ≡ Ok s → condition_is c ≡ Ok fit
     → Repeat line (repeated First (Some c.tree) [] s) ≡ r → P) → P
 unfolding while_typed
@@ -74,7 +76,8 @@ while_parts line o b r h k =
     let y = bind_ok (condition_is c.0) _ r s.2 in
     k c.0 s.0 y.0 c.1 s.1 y.1 (ok_is _ r y.2)
 
-do_parts : {P : Type 0} (line : ℕ) (b : TypingResult Stmt) (o : TypingResult Typed) (r : Stmt) → do_while_typed line b o ≡ Ok r
+do_parts : {P : Type 0} (line : ℕ) (b : TypingResult Stmt) (o : TypingResult Typed) (r : Stmt)
+    → do_while_typed line b o ≡ Ok r
     → ((s : Stmt) (c : Typed) (fit : Bool) → b ≡ Ok s → o ≡ Ok c → condition_is c ≡ Ok fit
     → Repeat line (repeated Last (Some c.tree) [] s) ≡ r → P) → P
 unfolding do_while_typed

@@ -83,10 +83,13 @@ pub passed_sound : (env : Environment) (at of : written.Named) (t : Ty) → pass
     → IsPassed (ty_in env of) × (t ≡ ty_in env of)
 unfolding ty_named
 passed_sound env at (written.Prim p k) t h = primitive_passed at k t h
-passed_sound env at (written.Object p name) t h = object_passed at (object_named env.registered env.declarations name) t h
-passed_sound env at (written.Handle p name) t h = handle_passed at (object_named env.registered env.declarations name) t h
+passed_sound env at (written.Object p name) t h =
+    object_passed at (object_named env.registered env.declarations name) t h
+passed_sound env at (written.Handle p name) t h =
+    handle_passed at (object_named env.registered env.declarations name) t h
 passed_sound env at (written.Array p of) t h = object_passed at (array_named env.registered env.declarations of) t h
-passed_sound env at (written.ArrayHandle p of) t h = handle_passed at (array_named env.registered env.declarations of) t h
+passed_sound env at (written.ArrayHandle p of) t h =
+    handle_passed at (array_named env.registered env.declarations of) t h
 
 -- parameters
 

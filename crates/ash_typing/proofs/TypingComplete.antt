@@ -26,7 +26,7 @@ use Rattle.ash_typed.specs.declared.tree.operations.Operands.TheVariants as oper
 use Rattle.ash_typed.specs.declared.tree.operations.Step.{Step}
 use Rattle.ash_typed.specs.declared.tree.operations.Step.TheVariants as steps
 use Rattle.ash_typing.specs.Types.{var_type, signed, common, object_of, ty_of, ty_of_element, operator_class_of}
-use Rattle.ash_typing.specs.Types.{outcome}
+use Rattle.ash_typing.specs.Types.{operator_result}
 use Rattle.ash_typing.specs.Types.{binary_of}
 use Rattle.ash_typed.specs.Tree.{Expr, Exprs, Null, Read, Invoke, Cast, Alter, Conditional, Assign, Update, Count, Call}
 use Rattle.ash_typed.specs.Tree.{Place, Held, Indexed, no_expr, expr}
@@ -44,9 +44,9 @@ use Rattle.ash_typing.specs.Typing.{no_arguments, argument, IsCastType, to_class
 use Rattle.ash_typing.specs.Typing.{this, name, call, brackets, to_integer, to_bool, new_array, cast, postfix, plus}
 use Rattle.ash_typing.specs.Typing.{minus, complement, not, increment, decrement, handle, handle_written, binary}
 use Rattle.ash_typing.specs.Typing.{conditional, assign, update, none_left, each, no_more, operated, no_suffixes}
-use Rattle.ash_typing.specs.Typing.{suffixed, field, method, index, increment_after, decrement_after, Meet, left_of}
+use Rattle.ash_typing.specs.Typing.{suffixed, field, method, index, increment_after, decrement_after, AreUnified, left_of}
 use Rattle.ash_typing.specs.Typing.{right_of}
-use Rattle.ash_typing.proofs.TypingWords.{same_integer_type, met_is}
+use Rattle.ash_typing.proofs.TypingWords.{same_integer_type, unified_is}
 use Rattle.ash_typing.specs.Terms.{operator_of, is_stored, applied, call_of, assignable, handle_form, array_parameters}
 use Rattle.ash_typing.specs.Terms.{Term, term, read_term, converted_to}
 
@@ -170,11 +170,11 @@ handle_written_is : (at b : ℕ) (t : Term)
 unfolding unary_at
 handle_written_is at b t = refl
 
-operate_is : (op : BinaryOp) (t u : Term) (o : Operands) (a b : ℕ) → Meet op t u o
+operate_is : (op : BinaryOp) (t u : Term) (o : Operands) (a b : ℕ) → AreUnified op t u o
     → operate op (placed a t) (placed b u)
-    ≡ Ok (placed a (term (outcome (operator_class_of op) o) (applied op o (left_of op o t u) (right_of op o t u))))
+    ≡ Ok (placed a (term (operator_result (operator_class_of op) o) (applied op o (left_of op o t u) (right_of op o t u))))
 unfolding operate
-operate_is op t u o a b h = rw (met_is op t u o a b h) refl
+operate_is op t u o a b h = rw (unified_is op t u o a b h) refl
 
 choice_is : (t x y : Term) (a b c : ℕ) (of : Ty) → t.ty ≡ ty.Bool → common x.ty y.ty ≡ Some of
     → choice (placed a t) (placed b x) (placed c y)
@@ -192,14 +192,14 @@ assign_is classes t u a b target p s h = rw (p, s, coerced_for_assignment_is cla
 update_is : (classes : List Class) (op : AssignOp) (c : Calculator) (t u : Term) (a b : ℕ) (target : Place)
     (j k : IntType)
     → operator_of op ≡ Some c → assignable t.form t.tree ≡ Some target → is_stored t.form t.ty ≡ true
-    → t.ty ≡ ty.Integer k → Meet (binary_of c) (term t.ty Null) u (operands.Integers j)
+    → t.ty ≡ ty.Integer k → AreUnified (binary_of c) (term t.ty Null) u (operands.Integers j)
     → assigned classes (placed a t) op (placed b u)
     ≡ Ok (placed a
     (term t.ty (Update target k (record { operator = c; of = j })
     (right_of (binary_of c) (operands.Integers j) (term t.ty Null) u))))
 unfolding assigned stored
 update_is classes op c t u a b target j k e p s i m =
-    rw (p, s, e, met_is (binary_of c) (term t.ty Null) u (operands.Integers j) a b m, i) refl
+    rw (p, s, e, unified_is (binary_of c) (term t.ty Null) u (operands.Integers j) a b m, i) refl
 
 updates : (op : AssignOp) (operator : Calculator) → operator_of op ≡ Some operator → is_assign op ≡ false
 updates assigns.Assign operator h = absurd (none-some operator h)

@@ -60,7 +60,8 @@ object_ok at _ h known e = absurd (no_fault _ h e)
 
 -- arguments
 
-pub coerced_for_assignment_ok : (classes : List Class) (of : Ty) (t : Typed) (e : Expr) → coerced_for_assignment classes of t ≡ Ok e
+pub coerced_for_assignment_ok : (classes : List Class) (of : Ty) (t : Typed) (e : Expr)
+    → coerced_for_assignment classes of t ≡ Ok e
     → (fits classes of t.ty ≡ true) × (converted_to of (term_of t) ≡ e)
 unfolding coerced_for_assignment
 coerced_for_assignment_ok classes of t e h = go (fits classes of t.ty) h

@@ -20,8 +20,8 @@ use Rattle.ash_typed.specs.Tree.{Expr, This, Read, Place, Stored, Held, place_in
 use Rattle.ash_typed.specs.TypeOf.{type_of, type_of_place, value, value_of_result, as_value, chosen_type}
 use Rattle.ash_typed.specs.declared.types.VarType.{VarType}
 use Rattle.ash_typed.specs.declared.types.VarType.TheVariants as vars
-use Rattle.ash_typing.specs.Types.{var_type, value_type, is_same_integer_type, gives_object, common, object_of, meeting}
-use Rattle.ash_typing.specs.Types.{operator_class_of, integers_in, meets, outcome}
+use Rattle.ash_typing.specs.Types.{var_type, value_type, is_same_integer_type, gives_object, common, object_of, common_integer_type}
+use Rattle.ash_typing.specs.Types.{operator_class_of, integers_in, common_operands, operator_result}
 use Rattle.ash_typing.specs.Environment.{Environment, Declared, Class, Known, first_from, last_named, declares}
 use Rattle.ash_typing.specs.Environment.{this_class, variable_in, callee_in, member_in, method_in, field_in, local_in}
 use Rattle.ash_typing.specs.Environment.{own_field_in, global_in}
@@ -89,23 +89,34 @@ assigned_type _ e at h = absurd (none-some at h)
 
 -- operators
 
-calculated_type : (s : OperatorClass) (o : Operands) → ((k : IntType) → outcome s (operands.Integers k) ≡ ty.Integer k)
-    → o ≡ operands.Integers (integers_in o) → value (vars.Integer (integers_in o)) ≡ value_type (outcome s o)
-calculated_type s o h e = ap value_type (sym (ap (outcome s) e ∙ h (integers_in o)))
+calculated_type : (s : OperatorClass) (o : Operands)
+    → ((k : IntType) → operator_result s (operands.Integers k) ≡ ty.Integer k)
+    → o ≡ operands.Integers (integers_in o) → value (vars.Integer (integers_in o)) ≡ value_type (operator_result s o)
+calculated_type s o h e = ap value_type (sym (ap (operator_result s) e ∙ h (integers_in o)))
 
-applied_type : (op : BinaryOp) (o : Operands) (a b : Expr) (x y : Ty) → meets (operator_class_of op) x y ≡ Some o
-    → type_of (applied op o a b) ≡ value_type (outcome (operator_class_of op) o)
-applied_type binary.Multiply o a b x y h = calculated_type operator_class.Arithmetic o (λ k. refl) (arithmetic_integers x y o h)
-applied_type binary.Divide o a b x y h = calculated_type operator_class.Arithmetic o (λ k. refl) (arithmetic_integers x y o h)
-applied_type binary.Remainder o a b x y h = calculated_type operator_class.Arithmetic o (λ k. refl) (arithmetic_integers x y o h)
-applied_type binary.Add o a b x y h = calculated_type operator_class.Arithmetic o (λ k. refl) (arithmetic_integers x y o h)
-applied_type binary.Subtract o a b x y h = calculated_type operator_class.Arithmetic o (λ k. refl) (arithmetic_integers x y o h)
+applied_type : (op : BinaryOp) (o : Operands) (a b : Expr) (x y : Ty)
+    → common_operands (operator_class_of op) x y ≡ Some o
+    → type_of (applied op o a b) ≡ value_type (operator_result (operator_class_of op) o)
+applied_type binary.Multiply o a b x y h =
+    calculated_type operator_class.Arithmetic o (λ k. refl) (arithmetic_integers x y o h)
+applied_type binary.Divide o a b x y h =
+    calculated_type operator_class.Arithmetic o (λ k. refl) (arithmetic_integers x y o h)
+applied_type binary.Remainder o a b x y h =
+    calculated_type operator_class.Arithmetic o (λ k. refl) (arithmetic_integers x y o h)
+applied_type binary.Add o a b x y h =
+    calculated_type operator_class.Arithmetic o (λ k. refl) (arithmetic_integers x y o h)
+applied_type binary.Subtract o a b x y h =
+    calculated_type operator_class.Arithmetic o (λ k. refl) (arithmetic_integers x y o h)
 applied_type binary.ShiftLeft o a b x y h = calculated_type operator_class.Shift o (λ k. refl) (shift_integers x y o h)
 applied_type binary.ShiftRight o a b x y h = calculated_type operator_class.Shift o (λ k. refl) (shift_integers x y o h)
-applied_type binary.ShiftRightArithmetic o a b x y h = calculated_type operator_class.Shift o (λ k. refl) (shift_integers x y o h)
-applied_type binary.BitAnd o a b x y h = calculated_type operator_class.Arithmetic o (λ k. refl) (arithmetic_integers x y o h)
-applied_type binary.BitXor o a b x y h = calculated_type operator_class.Arithmetic o (λ k. refl) (arithmetic_integers x y o h)
-applied_type binary.BitOr o a b x y h = calculated_type operator_class.Arithmetic o (λ k. refl) (arithmetic_integers x y o h)
+applied_type binary.ShiftRightArithmetic o a b x y h =
+    calculated_type operator_class.Shift o (λ k. refl) (shift_integers x y o h)
+applied_type binary.BitAnd o a b x y h =
+    calculated_type operator_class.Arithmetic o (λ k. refl) (arithmetic_integers x y o h)
+applied_type binary.BitXor o a b x y h =
+    calculated_type operator_class.Arithmetic o (λ k. refl) (arithmetic_integers x y o h)
+applied_type binary.BitOr o a b x y h =
+    calculated_type operator_class.Arithmetic o (λ k. refl) (arithmetic_integers x y o h)
 applied_type binary.Less o a b x y h = refl
 applied_type binary.LessOrEqual o a b x y h = refl
 applied_type binary.Greater o a b x y h = refl
@@ -143,8 +154,8 @@ chosen_is (ty.Handle o) b of s t h k i j c =
 chosen_is a ty.Unknown of s t h k i j c = absurd (cc)
 chosen_is ty.Bool ty.Bool of s t h k i j c = subst (Chosen ty.Bool ty.Bool s t) (same_Some ty.Bool of c) (rw i refl)
 chosen_is (ty.Integer m) (ty.Integer n) of s t h k i j c =
-    subst (Chosen (ty.Integer m) (ty.Integer n) s t) (same_Some (ty.Integer (meeting m n)) of c)
-    (rw (integer_converted (meeting m n) m s i) refl)
+    subst (Chosen (ty.Integer m) (ty.Integer n) s t) (same_Some (ty.Integer (common_integer_type m n)) of c)
+    (rw (integer_converted (common_integer_type m n) m s i) refl)
 chosen_is ty.Null (ty.Object o) of s t h k i j c =
     subst (Chosen ty.Null (ty.Object o) s t) (same_Some (ty.Handle o) of c) (rw (i, j) refl)
 chosen_is ty.Null (ty.Handle o) of s t h k i j c =

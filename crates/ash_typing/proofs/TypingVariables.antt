@@ -59,7 +59,8 @@ value_is classes at (ty.Object o) b t h f = cc
 value_is classes at of b t h f = stored_is classes of b t f
 
 one_is : (env : Environment) (of_at at : ℕ) (of : Ty) (b : ℕ) (t : Term) → object_of of ≡ None
-    → fits env.declarations.classes of t.ty ≡ true → begun_by env of_at at of (placed b t ∷ []) ≡ Ok (Some (converted_to of t))
+    → fits env.declarations.classes of t.ty ≡ true
+    → begun_by env of_at at of (placed b t ∷ []) ≡ Ok (Some (converted_to of t))
 unfolding begun_by begun_by_one
 one_is env of_at at (ty.Object o) b t h f = cc
 one_is env of_at at (ty.Handle o) b t h f = cc

@@ -33,7 +33,7 @@ use Rattle.ash_typed.specs.declared.tree.operations.Step.TheVariants as steps
 use Rattle.ash_typing.specs.TypingResult.{TypingResult, ◌>>=◌, broken}
 use Rattle.ash_typing.specs.Types.{var_type, signed, common, ty_of, ty_of_element, operator_class_of, binary_of}
 use Rattle.ash_typing.specs.Types.{integers_in}
-use Rattle.ash_typing.specs.Types.{takes, assumed, meets, outcome}
+use Rattle.ash_typing.specs.Types.{takes, assumed_type, common_operands, operator_result}
 use Rattle.ash_typed.specs.Tree.{Expr, Truth, Null, This, Read, Invoke, Cast, Alter, Conditional, Assign, Update, Count}
 use Rattle.ash_typed.specs.Tree.{Place, Held, Indexed, Exprs, no_expr, expr}
 use Rattle.ash_typing.specs.Coercions.{fits}
@@ -109,7 +109,7 @@ unified_as s a b (Some o) = Ok (record { left = a; operands = o; right = right_b
 unified_as s a b None = broken TypeMismatch (if takes s a.ty then b.at else a.at)
 
 abbrev pub unified_by : OperatorClass → Typed → Typed → TypingResult UnifiedOperands
-unified_by s a b = unified_as s a b (meets s (assumed s b.ty a.ty) (assumed s a.ty b.ty))
+unified_by s a b = unified_as s a b (common_operands s (assumed_type s b.ty a.ty) (assumed_type s a.ty b.ty))
 
 unfoldable pub unify_operands : BinaryOp → Typed → Typed → TypingResult UnifiedOperands
 unify_operands op a b =
@@ -118,7 +118,7 @@ unify_operands op a b =
 
 abbrev pub operated : BinaryOp → UnifiedOperands → Typed
 operated op m =
-    term_at m.left.at (outcome (operator_class_of op) m.operands)
+    term_at m.left.at (operator_result (operator_class_of op) m.operands)
     (applied op m.operands (coerced (operand_type m.operands) m.left) m.right)
 
 unfoldable pub operate : BinaryOp → Typed → Typed → TypingResult Typed

@@ -181,7 +181,7 @@ pub data Mismatches (calls : List Registration) (script : List written.Item) : �
       → typed env false b ≡ Ok y
       → common x.ty y.ty ≡ None
       → Mismatches calls script (if is_void x.ty then x.at else y.at)
-  -- what is assigned does not fit the place, or does not meet with it under the operator of `op=`
+  -- what is assigned does not fit the place, or the operator of `op=` takes no such operands
   assigned : {env : Environment} {p : Place} {op : AssignOp} {e v : written.Expr} {t u : Typed}
       → Occurs calls script (Expression env (written.Assign p e op v))
       → typed env (is_assign op) e ≡ Ok t

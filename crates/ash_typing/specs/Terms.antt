@@ -60,17 +60,17 @@ converted_to of t = converted (conversion of t.ty) t.tree
 -- operators between two operands
 
 -- A number alone takes the type of the other operand, where that holds it and the other is no number.
-abbrev pub taking : Form → Ty → Form → Term → Term
-taking (form.Number m) of (form.Number n) t = t
-taking _ (ty.Integer k) (form.Number n) t =
+abbrev pub adapted_number : Form → Ty → Form → Term → Term
+adapted_number (form.Number m) of (form.Number n) t = t
+adapted_number _ (ty.Integer k) (form.Number n) t =
     if holds k n then record { ty = ty.Integer k; form = form.Number n; tree = Number k n } else t
-taking _ _ _ t = t
+adapted_number _ _ _ t = t
 
 -- `adapted_by s form of t` is the operand of an operator whose other operand has this form and type: the two of a shift
 -- have a type each.
 abbrev pub adapted_by : OperatorClass → Form → Ty → Term → Term
 adapted_by operator_class.Shift form of t = t
-adapted_by _ form of t = taking form of t.form t
+adapted_by _ form of t = adapted_number form of t.form t
 
 -- `adapted_to s other t` is the operand of an operator whose other operand is this.
 abbrev pub adapted_to : OperatorClass → Term → Term → Term

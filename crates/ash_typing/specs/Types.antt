@@ -47,9 +47,10 @@ integer_type_of false false = Uint
 integer_type_of true true = Int64
 integer_type_of false true = Uint64
 
--- Two integer types meet at the greater width, signed where either is.
-abbrev pub meeting : IntType → IntType → IntType
-meeting j k = integer_type_of (is_signed j || is_signed k) (is_wide j || is_wide k)
+-- `common_integer_type j k` is the type to which operands of two integer types are converted: of the greater width, and
+-- signed where either is.
+abbrev pub common_integer_type : IntType → IntType → IntType
+common_integer_type j k = integer_type_of (is_signed j || is_signed k) (is_wide j || is_wide k)
 
 -- `signed k` is the signed type of the same width.
 abbrev pub signed : IntType → IntType
@@ -212,7 +213,7 @@ common_object o t = if gives_object o t then Some (ty.Handle o) else None
 abbrev pub common : Ty → Ty → Option Ty
 common ty.Bool ty.Bool = Some ty.Bool
 common ty.Bool ty.Unknown = Some ty.Bool
-common (ty.Integer j) (ty.Integer k) = Some (ty.Integer (meeting j k))
+common (ty.Integer j) (ty.Integer k) = Some (ty.Integer (common_integer_type j k))
 common (ty.Integer j) ty.Unknown = Some (ty.Integer j)
 common (ty.Object o) t = common_object o t
 common (ty.Handle o) t = common_object o t
@@ -308,27 +309,26 @@ takes operator_class.Identity ty.Null = true
 takes operator_class.Logic ty.Bool = true
 takes _ _ = false
 
--- `assumed s other of` is what an operand of an unknown type is taken for, where the other is of another type.
-abbrev pub assumed : OperatorClass → Ty → Ty → Ty
-assumed operator_class.Equality ty.Bool ty.Unknown = ty.Bool
-assumed operator_class.Identity _ ty.Unknown = ty.Null
-assumed operator_class.Logic _ ty.Unknown = ty.Bool
-assumed _ _ ty.Unknown = ty.Integer Int
-assumed _ _ t = t
+-- `assumed_type s other of` is what an operand of an unknown type is taken for, where the other is of another type.
+abbrev pub assumed_type : OperatorClass → Ty → Ty → Ty
+assumed_type operator_class.Equality ty.Bool ty.Unknown = ty.Bool
+assumed_type operator_class.Identity _ ty.Unknown = ty.Null
+assumed_type operator_class.Logic _ ty.Unknown = ty.Bool
+assumed_type _ _ ty.Unknown = ty.Integer Int
+assumed_type _ _ t = t
 
--- `meets s t u` is what an operator does with operands of these types, where it takes them: what both become, and what
--- comes out.
-abbrev pub meets : OperatorClass → Ty → Ty → Option Operands
-meets operator_class.Arithmetic (ty.Integer j) (ty.Integer k) = Some (operands.Integers (meeting j k))
-meets operator_class.Shift (ty.Integer j) (ty.Integer k) = Some (operands.Integers j)
-meets operator_class.Order (ty.Integer j) (ty.Integer k) = Some (operands.Integers (meeting j k))
-meets operator_class.Equality (ty.Integer j) (ty.Integer k) = Some (operands.Integers (meeting j k))
-meets operator_class.Equality ty.Bool ty.Bool = Some operands.Bools
-meets operator_class.Identity a b = if agrees a b then Some operands.Handles else None
-meets operator_class.Logic ty.Bool ty.Bool = Some operands.Bools
-meets _ _ _ = None
+-- `common_operands s t u` is what an operator takes operands of these types for, where it takes them: what both become.
+abbrev pub common_operands : OperatorClass → Ty → Ty → Option Operands
+common_operands operator_class.Arithmetic (ty.Integer j) (ty.Integer k) = Some (operands.Integers (common_integer_type j k))
+common_operands operator_class.Shift (ty.Integer j) (ty.Integer k) = Some (operands.Integers j)
+common_operands operator_class.Order (ty.Integer j) (ty.Integer k) = Some (operands.Integers (common_integer_type j k))
+common_operands operator_class.Equality (ty.Integer j) (ty.Integer k) = Some (operands.Integers (common_integer_type j k))
+common_operands operator_class.Equality ty.Bool ty.Bool = Some operands.Bools
+common_operands operator_class.Identity a b = if agrees a b then Some operands.Handles else None
+common_operands operator_class.Logic ty.Bool ty.Bool = Some operands.Bools
+common_operands _ _ _ = None
 
-abbrev pub outcome : OperatorClass → Operands → Ty
-outcome operator_class.Arithmetic (operands.Integers k) = ty.Integer k
-outcome operator_class.Shift (operands.Integers k) = ty.Integer k
-outcome _ _ = ty.Bool
+abbrev pub operator_result : OperatorClass → Operands → Ty
+operator_result operator_class.Arithmetic (operands.Integers k) = ty.Integer k
+operator_result operator_class.Shift (operands.Integers k) = ty.Integer k
+operator_result _ _ = ty.Bool

@@ -30,7 +30,7 @@ use Rattle.ash_typed.specs.declared.tree.operations.Operands.{Operands}
 use Rattle.ash_typed.specs.declared.tree.operations.Operands.TheVariants as operands
 use Rattle.ash_typed.specs.declared.tree.operations.Step.TheVariants as steps
 use Rattle.ash_typing.specs.Types.{is_variable, is_result, var_type, signed, common, object_of, ty_of, ty_of_element}
-use Rattle.ash_typing.specs.Types.{operator_class_of, binary_of, meets, outcome}
+use Rattle.ash_typing.specs.Types.{operator_class_of, binary_of, common_operands, operator_result}
 use Rattle.ash_typed.specs.Tree.{Expr, Truth, Null, This, Read, Invoke, Cast, Call, Alter, Conditional, Assign, Update}
 use Rattle.ash_typed.specs.Tree.{Count, Place, Held, Indexed, Exprs, no_expr, expr}
 use Rattle.ash_typing.specs.Coercions.{fits}
@@ -84,9 +84,9 @@ pub record IsKnown (env : Environment) : Type 0 where
 -- terms
 
 -- The operator takes the two terms, each adapted to the other, for these operands.
-abbrev pub Meet : BinaryOp → Term → Term → Operands → Type 0
-Meet op t u o =
-    meets (operator_class_of op) (adapted_to (operator_class_of op) u t).ty (adapted_to (operator_class_of op) t u).ty
+abbrev pub AreUnified : BinaryOp → Term → Term → Operands → Type 0
+AreUnified op t u o =
+    common_operands (operator_class_of op) (adapted_to (operator_class_of op) u t).ty (adapted_to (operator_class_of op) t u).ty
     ≡ Some o
 
 -- `left_of` is what becomes of the left operand.
@@ -236,7 +236,7 @@ mutual
         → is_stored t.form t.ty ≡ true
         → t.ty ≡ ty.Integer k
         → HasType env false v u
-        → Meet (binary_of c) (term t.ty Null) u (operands.Integers j)
+        → AreUnified (binary_of c) (term t.ty Null) u (operands.Integers j)
         → HasType env left (written.Assign p e op v)
         (term t.ty (Update at k (record { operator = c; of = j })
         (right_of (binary_of c) (operands.Integers j) (term t.ty Null) u)))
@@ -254,9 +254,9 @@ mutual
     no_more : {t : Term} → LinksHaveType env t written.no_link t
     operated : {op : BinaryOp} {e : written.Expr} {ls : written.Links} {t u v : Term} {o : Operands}
         → HasType env false e u
-        → Meet op t u o
+        → AreUnified op t u o
         → LinksHaveType env
-        (term (outcome (operator_class_of op) o) (applied op o (left_of op o t u) (right_of op o t u))) ls v
+        (term (operator_result (operator_class_of op) o) (applied op o (left_of op o t u) (right_of op o t u))) ls v
         → LinksHaveType env t (written.link op e ls) v
 
   -- Suffixes have the type of the term, with what is before the first.
