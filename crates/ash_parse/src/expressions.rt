@@ -14,8 +14,8 @@ use crate::cursor::{expect, is_sign, name, next_is_sign, place};
 use crate::data_types::{element, target};
 use crate::error::{ParseError, ParseResult};
 use crate::operators::{
-    MAX_LEVEL, assign_operator, begins_expression, begins_link, begins_suffix, next_level, operator,
-    primitive, unary_operator,
+    MAX_LEVEL, assign_operator, begins_expression, begins_link, begins_suffix, next_level,
+    operator, primitive, unary_operator,
 };
 use ash_lex::{ReservedWord, Sign, Token, TokenKind};
 use ash_tree::{Expr, ExprKind, Link, Place, Suffix, nodes};
