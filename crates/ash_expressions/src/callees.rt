@@ -10,7 +10,7 @@ use crate::lookup::first_function;
 use crate::parameters::Parameters;
 use crate::signatures::{ClassSignature, InterfaceSignature, Signatures};
 use crate::types::{result_type, ty_of};
-use ash_registrations::Call;
+use ash_registrations::Registration;
 use ash_tree::Primitive;
 use ash_typed::{Method, ObjectType, Target};
 use ash_typing::{Callable, Ty};
@@ -117,11 +117,11 @@ pub(crate) fn interface_method_callee<'a>(
 }
 
 /// A method of a registered type, as it is called.
-pub(crate) fn host_method_callee(call: &Call) -> Option<MethodCallee<'_>>
+pub(crate) fn host_method_callee(call: &Registration) -> Option<MethodCallee<'_>>
     ensures { option_map method_callee_of result ≡ environment.host_method (call_of call.now) }
 {
     match call {
-        Call::Method { id, operation, .. } => {
+        Registration::Method { id, operation, .. } => {
             let result = operation_result(operation.result);
             Some(MethodCallee {
                 method: Method::Host {
@@ -137,11 +137,11 @@ pub(crate) fn host_method_callee(call: &Call) -> Option<MethodCallee<'_>>
 }
 
 /// A function of a registered service, as it is called.
-pub(crate) fn service_callee(call: &Call) -> Option<Callee<'_>>
+pub(crate) fn service_callee(call: &Registration) -> Option<Callee<'_>>
     ensures { option_map callee_of result ≡ environment.service_function (call_of call.now) }
 {
     match call {
-        Call::Function {
+        Registration::Function {
             service,
             id,
             operation,
@@ -162,11 +162,11 @@ pub(crate) fn service_callee(call: &Call) -> Option<Callee<'_>>
 }
 
 /// The parameters of a factory.
-pub(crate) fn factory_parameters(call: &Call) -> Option<Parameters<'_>>
+pub(crate) fn factory_parameters(call: &Registration) -> Option<Parameters<'_>>
     ensures { option_map parameters_of result ≡ environment.factory_parameters (call_of call.now) }
 {
     match call {
-        Call::Factory { parameters, .. } => Some(Parameters::Host(parameters)),
+        Registration::Factory { parameters, .. } => Some(Parameters::Host(parameters)),
         _ => None,
     }
 }
