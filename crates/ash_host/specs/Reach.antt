@@ -37,7 +37,7 @@ pub record Cascaded {M : Type 0} (IsHeld : ℕ → Type 0) (old new : Objects M)
   pub unchanged : (number : ℕ) → Lives new number → object_at number new ≡ object_at number old
   pub not_held : (number : ℕ) → Lives old number → object_at number new ≡ None → ¬ IsHeld number
   pub not_referred :
-    (one other : ℕ) → Lives old other → object_at other new ≡ None → Lives new one → ¬ Refers old one other
+      (one other : ℕ) → Lives old other → object_at other new ≡ None → Lives new one → ¬ Refers old one other
   pub counted : (number : ℕ) → Lives new number → IsHeld number ⊎ ((one : ℕ) × Lives new one × Refers new one number)
   pub in_order : IsInOrder new
 

@@ -13,4 +13,4 @@ pub record Saves {B : Type 0} (host : Ghosts B) (object : B) (bytes : List ℕ) 
 abbrev pub RestoresSaved : {B : Type 0} → Ghosts B → B → Type 0
 RestoresSaved host fresh =
     (object : _) (bytes : List ℕ) → host.kind_of object ≡ host.kind_of fresh → Saves host object bytes
-        → host.refuses fresh bytes → ⊥
+    → host.refuses fresh bytes → ⊥

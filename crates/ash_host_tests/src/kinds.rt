@@ -85,7 +85,13 @@ fn make_call<B: HostObject>(alloc: Global, object: &mut B, ask: Ask) -> Result<S
 }
 
 // The text of a call, its answer and the state after it.
-fn call_text(alloc: Global, kind: u16, ask: Ask, answer: &str, state: &[u8]) -> Result<String, Fail> {
+fn call_text(
+    alloc: Global,
+    kind: u16,
+    ask: Ask,
+    answer: &str,
+    state: &[u8],
+) -> Result<String, Fail> {
     Ok(format!(in alloc; "kind {kind}, {ask:?}: {answer}, then {state:?}")?)
 }
 

@@ -88,7 +88,10 @@ pub fn has_reported_then(log: &Log, many: usize, wanted: &[(u16, Option<i32>)]) 
         return false;
     }
     let found = &found[many..];
-    found.len() == wanted.len() && wanted.iter().all(|report| is_among(found, report.0, report.1))
+    found.len() == wanted.len()
+        && wanted
+            .iter()
+            .all(|report| is_among(found, report.0, report.1))
 }
 
 /// Two services, with their states.

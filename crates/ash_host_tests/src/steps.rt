@@ -205,7 +205,12 @@ fn words(objects: &Table) -> [usize; 4] {
 }
 
 // Takes a step, and once more where memory was refused and all was left as it was.
-fn take_with_retry(alloc: Global, objects: &mut Table, step: Step, events: &mut Vec<Event>) -> bool {
+fn take_with_retry(
+    alloc: Global,
+    objects: &mut Table,
+    step: Step,
+    events: &mut Vec<Event>,
+) -> bool {
     let before = (counts(objects), words(objects), events.len());
     if let Ok(is_met) = take(alloc, objects, step, events) {
         return is_met;

@@ -17,8 +17,13 @@ pub sum-mapped : {A C : Type 0} (f : A → C) (measure : C → ℕ) (xs : List A
     ≡ sum_by (λ x. measure (f x)) xs
 sum-mapped f measure [] = refl
 sum-mapped f measure (x ∷ xs) =
-    omega (arith, sum_by-cons measure (f x) (map f xs), sum_by-cons
-    (λ y. measure (f y)) x xs, sum-mapped f measure xs)
+    omega (
+      arith,
+      sum_by-cons measure (f x) (map f xs),
+      sum_by-cons
+          (λ y. measure (f y)) x xs,
+      sum-mapped f measure xs,
+    )
 
 length-mapped : {A C : Type 0} (f : A → C) (xs : List A) → length (map f xs) ≡ length xs
 length-mapped f [] = refl

@@ -180,8 +180,13 @@ sum-flagged : (measure : ℕ × Bool → ℕ) (ns : List ℕ) → sum_by measure
     ≡ sum_by (λ n. measure (flagged n)) ns
 sum-flagged measure [] = refl
 sum-flagged measure (n ∷ ns) =
-    omega (arith, sum_by-cons measure (flagged n) (map flagged ns), sum_by-cons
-    (λ k. measure (flagged k)) n ns, sum-flagged measure ns)
+    omega (
+      arith,
+      sum_by-cons measure (flagged n) (map flagged ns),
+      sum_by-cons
+          (λ k. measure (flagged k)) n ns,
+      sum-flagged measure ns,
+    )
 
 numbers-flagged : (ns : List ℕ) → numbers (map flagged ns) ≡ ns
 unfolding flagged

@@ -103,11 +103,21 @@ module _ {B : Type 0} where
     in_order = in_order-change n unmarked l t.in_order;
     counted = record {
       covered =
-          λ m. omega (arith, sum_same-change (holding m) n unmarked (λ p. refl) l, counted_same n unmarked
-          (λ p. refl) m l, t.counted.covered m);
+          λ m. omega (
+            arith,
+            sum_same-change (holding m) n unmarked (λ p. refl) l,
+            counted_same n unmarked
+                (λ p. refl) m l,
+            t.counted.covered m,
+          );
       bounded =
-          λ m. omega (arith, sum_same-change (holding m) n unmarked (λ p. refl) l, counted_same n unmarked
-          (λ p. refl) m l, t.counted.bounded m);
+          λ m. omega (
+            arith,
+            sum_same-change (holding m) n unmarked (λ p. refl) l,
+            counted_same n unmarked
+                (λ p. refl) m l,
+            t.counted.bounded m,
+          );
       waiting = each-change (λ p. (p.item).count ≡ 0 → p.waiting ≡ true) n unmarked l (λ p is h. h) t.counted.waiting;
       short = each-change (λ p. length (words_of (p.item).body) ≤ 4096) n unmarked l (λ p is h. h) t.counted.short;
       few = omega (arith, length-change n unmarked l, t.counted.few);

@@ -40,8 +40,10 @@ module _ {B : Type 0} where
     pub not_held : (number : ℕ) → object_at number new.objects ≡ None → holds_of number old ≡ 0
     pub not_referred : (one other : ℕ) → object_at other new.objects ≡ None → Lives new.objects one
         → ¬ RefersTo old.objects one other
-    pub others : new ≡ record old { objects = new.objects;
-        gone = old.gone ++ gone_since old.settled (gone_from old.objects new.objects) }
+    pub others : new ≡ record old {
+      objects = new.objects;
+      gone = old.gone ++ gone_since old.settled (gone_from old.objects new.objects);
+    }
 
   -- ranks below a bound that fall from each object to those that it refers to
   pub record RanksFall (rank : ℕ → ℕ) (top : ℕ) (table : Table B) : Type 0 where

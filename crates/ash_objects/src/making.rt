@@ -134,8 +134,11 @@ impl<B: HostObject> Objects<B> {
         ensures made { IfOk result
             (λ number. IsSomeAnd (slot_of number self.new)
             (λ slot. self.new ≡ with_new_object slot
-            (Body.Array (record { element = element; elements = replicate length
-            (initial_of element) })) self.old)) }
+            (Body.Array (record {
+              element = element;
+              elements = replicate length
+                  (initial_of element);
+            })) self.old)) }
     {
         let number = self.next_number()?;
         if length > MAX_ELEMENTS {

@@ -98,8 +98,14 @@ module _ {A : Type 0} where
       go : (b : Bool) → sum_by g (values_of (change_at n f l)) ≡ sum_by g (values_of l)
           → sum_by g (cond b (f e.1) e.1 ∷ values_of (change_at n f l)) ≡ sum_by g (e.1 ∷ values_of l)
       go true later =
-          omega (arith, later, same e.1, sum_by-cons g (f e.1) (values_of (change_at n f l)), sum_by-cons g e.1
-          (values_of l))
+          omega (
+            arith,
+            later,
+            same e.1,
+            sum_by-cons g (f e.1) (values_of (change_at n f l)),
+            sum_by-cons g e.1
+                (values_of l),
+          )
       go false later =
           omega (arith, later, sum_by-cons g e.1 (values_of (change_at n f l)), sum_by-cons g e.1 (values_of l))
 

@@ -42,8 +42,12 @@ returns-in-NoMemory-clause-answered g c = λ number is.
       was = rw (← c.self.view_is) (box_view number l ∙ a.was);
       responds = a.responds;
       becomes =
-          rw (← c.self.view_is, a.becomes, view_box number l a.before a.after c.self.invariant.table.in_order
-          c.self.invariant.table.counted a.was) refl;
+          rw (
+            ← c.self.view_is,
+            a.becomes,
+            view_box number l a.before a.after c.self.invariant.table.in_order
+                c.self.invariant.table.counted a.was,
+          ) refl;
     }
 
 pub invariant_of-self-2 : goal.invariant_of-self-2
@@ -71,12 +75,20 @@ returns g c = record {
         was = rw (← c.self.view_is) (box_view number l ∙ a.was);
         responds = a.responds;
         becomes =
-            rw (← c.self.view_is, a.becomes, view_box number l a.before a.after c.self.invariant.table.in_order
-            c.self.invariant.table.counted a.was) refl;
+            rw (
+              ← c.self.view_is,
+              a.becomes,
+              view_box number l a.before a.after c.self.invariant.table.in_order
+                  c.self.invariant.table.counted a.was,
+            ) refl;
       };
   called =
-      λ number is. rw (c.push_reserved.ensures.items, c.reserve.ensures.items, c.number-number.ensures number is,
-      called_is (Object number) c.args.method c.invoke_in-answer.result c.in_default.not-NoMemory) refl;
+      λ number is. rw (
+        c.push_reserved.ensures.items,
+        c.reserve.ensures.items,
+        c.number-number.ensures number is,
+        called_is (Object number) c.args.method c.invoke_in-answer.result c.in_default.not-NoMemory,
+      ) refl;
   unchanged = tt;
   no_event = tt;
   no_room = tt;

@@ -41,6 +41,10 @@ returns g c = λ number is.
       was = rw (← c.self.view_is) (box_view number l ∙ a.was);
       responds = a.responds;
       becomes =
-          rw (← c.self.view_is, a.becomes, view_box number l a.before a.after c.self.invariant.table.in_order
-          c.self.invariant.table.counted a.was) refl;
+          rw (
+            ← c.self.view_is,
+            a.becomes,
+            view_box number l a.before a.after c.self.invariant.table.in_order
+                c.self.invariant.table.counted a.was,
+          ) refl;
     }
