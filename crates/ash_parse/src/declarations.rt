@@ -2,7 +2,7 @@
 //!
 //! Each function reads the phrase that is written above it.
 
-ghost use Rattle.std.specs.Prelude.{◌≡◌, map, string_bytes, option_map};
+ghost use Rattle.std.specs.Prelude.{map, string_bytes, option_map};
 ghost use Rattle.ash_tree.specs.Tokens.{tokens_of};
 ghost use Rattle.ash_tree.specs.Views.{type_of, declaration_of};
 ghost use Rattle.ash_parse.specs.Readers.{ParsesAs, put};

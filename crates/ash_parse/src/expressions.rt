@@ -3,8 +3,8 @@
 //! Each function reads the phrase that is written above it. `room` is how many phrases that count for the depth may
 //! still begin, one in the other.
 
-ghost use Rattle.std.specs.Prelude.{◌≡◌, ◌<◌, ◌≤◌, map, string_bytes, option_map, true, false, IfOk, Err};
-ghost use Rattle.ash_tree.specs.Tokens.{tokens_of, place_of_token};
+ghost use Rattle.std.specs.Prelude.{◌≡◌, ◌<◌, ◌≤◌, map, true, false, IfOk};
+ghost use Rattle.ash_tree.specs.Tokens.{tokens_of};
 ghost use Rattle.ash_tree.specs.Tree.{Conditional};
 ghost use Rattle.ash_tree.specs.Views.{expr_of, suffix_of, operation_of};
 ghost use Rattle.ash_parse.specs.Readers.{ParsesAs, Fails, put};

@@ -3,7 +3,7 @@
 //! Each function reads the phrase that is written above it. `room` is how many phrases that count for the depth may
 //! still begin, one in the other.
 
-ghost use Rattle.std.specs.Prelude.{◌≡◌, ◌≤◌, option_map, true, false};
+ghost use Rattle.std.specs.Prelude.{◌≤◌, option_map};
 ghost use Rattle.ash_tree.specs.Tokens.{tokens_of};
 ghost use Rattle.ash_tree.specs.Views.{expr_of, stmt_of};
 ghost use Rattle.ash_parse.specs.Readers.{ParsesAs};

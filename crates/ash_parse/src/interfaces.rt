@@ -2,7 +2,7 @@
 //!
 //! Each function reads the phrase that is written above it.
 
-ghost use Rattle.std.specs.Prelude.{◌≡◌, map};
+ghost use Rattle.std.specs.Prelude.{map};
 ghost use Rattle.ash_tree.specs.Tokens.{tokens_of};
 ghost use Rattle.ash_tree.specs.Views.{interface_method_of, interface_of};
 ghost use Rattle.ash_parse.specs.Readers.{ParsesAs};

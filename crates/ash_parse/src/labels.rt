@@ -2,7 +2,6 @@
 //!
 //! Each function reads the phrase that is written above it.
 
-ghost use Rattle.std.specs.Prelude.{◌≡◌};
 ghost use Rattle.ash_tree.specs.Tokens.{tokens_of};
 ghost use Rattle.ash_parse.specs.Readers.{ParsesAs};
 ghost use Rattle.ash_parse.specs.StatementReader as reader;

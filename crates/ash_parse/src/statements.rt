@@ -3,9 +3,8 @@
 //! Each function reads the phrase that is written above it. `room` is how many phrases that count for the depth may
 //! still begin, one in the other.
 
-ghost use Rattle.std.specs.Prelude.{◌≡◌, ◌<◌, ◌≤◌, map, string_bytes, option_map, true, false, IfOk};
-ghost use Rattle.ash_lex.specs.Tokens.{meaning_of};
-ghost use Rattle.ash_tree.specs.Tokens.{tokens_of, place_of_token};
+ghost use Rattle.std.specs.Prelude.{◌≡◌, ◌≤◌, map, option_map, IfOk};
+ghost use Rattle.ash_tree.specs.Tokens.{tokens_of};
 ghost use Rattle.ash_tree.specs.Tree.{If, IfElse};
 ghost use Rattle.ash_tree.specs.Views.{expr_of, stmt_at, stmt_of, case_of};
 ghost use Rattle.ash_parse.specs.Readers.{ParsesAs};
@@ -298,19 +297,12 @@ fn for_statement<'a>(
     let (steps, rest) = expressions(alloc, room, rest)?;
     let (_, rest) = expect(Sign::CloseParenthesis, rest)?;
     let (body, rest) = nested(alloc, room, rest)?;
-    Ok((
-        nodes::for_loop(
-            alloc,
-            place,
-            nodes::ForHead {
-                first,
-                condition,
-                steps,
-            },
-            body,
-        )?,
-        rest,
-    ))
+    let head = nodes::ForHead {
+        first,
+        condition,
+        steps,
+    };
+    Ok((nodes::for_loop(alloc, place, head, body)?, rest))
 }
 
 /// `"(" assign ")" "{" { label { stmt } } "}"`, after the `switch`

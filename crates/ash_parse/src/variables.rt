@@ -3,7 +3,7 @@
 //! Each function reads the phrase that is written above it. `room` is how many phrases that count for the depth may
 //! still begin, one in the other.
 
-ghost use Rattle.std.specs.Prelude.{◌≡◌, ◌≤◌, map};
+ghost use Rattle.std.specs.Prelude.{◌≤◌, map};
 ghost use Rattle.ash_tree.specs.Tokens.{tokens_of};
 ghost use Rattle.ash_tree.specs.Views.{decl_of, initializer_of, vars_of};
 ghost use Rattle.ash_parse.specs.Readers.{ParsesAs, put};
