@@ -108,9 +108,9 @@ decimal_bound (b ∷ bs) after n h =
     let text = b ∷ (bs ++ after) in
     let test = starts_with nat_eq text (codes "0x") && begins_with_hex_digit (drop 2 text) in
     let P : Bool → Type 0 =
-        λ v. test ≡ v → length (b ∷ bs) ≤ size text
-        (Some (cond v (Hexadecimal (2 + prefix_len is_hex_digit (drop 2 text)))
-        (Decimal (prefix_len is_digit text)))) in
+    λ v. test ≡ v → length (b ∷ bs) ≤ size text
+    (Some (cond v (Hexadecimal (2 + prefix_len is_hex_digit (drop 2 text)))
+    (Decimal (prefix_len is_digit text)))) in
     subst (λ o. length (b ∷ bs) ≤ size text o) (sym (longest_piece-digit text h.1.0)) ((elim test as P [
       | true ↦ λ e. let one =
           hexadecimal_cuts b bs after h.1 (both_true (starts_with nat_eq text (codes "0x"))
@@ -127,8 +127,8 @@ hexadecimal_bound piece after n (digits, is, some, each, value) =
     at (d ∷ ds) some each =
         let text = 48 ∷ 120 ∷ (d ∷ (ds ++ after)) in
         let found =
-            longest_piece-digit text refl ∙ ap Some
-            (numeral_piece-hexadecimal text (starts-append (codes "0x") (d ∷ (ds ++ after))) each.0) in
+        longest_piece-digit text refl ∙ ap Some
+        (numeral_piece-hexadecimal text (starts-append (codes "0x") (d ∷ (ds ++ after))) each.0) in
         subst (λ o. length (48 ∷ 120 ∷ d ∷ ds) ≤ size text o) (sym found)
         (omega (arith, length-le-prefix_len is_hex_digit (d ∷ ds) after each))
 
@@ -138,7 +138,7 @@ sign_piece_bound : (s : Sign) (after : List ℕ) → may_follow s after ≡ true
 sign_piece_bound s after h =
     let text = sign_text s ++ after in
     let follows : may_follow s (drop (length (sign_text s)) text) ≡ true =
-        ap (may_follow s) (drop_at (sign_text s) after (length (sign_text s)) refl) ∙ h in
+    ap (may_follow s) (drop_at (sign_text s) after (length (sign_text s)) refl) ∙ h in
     let here : begins text s ≡ true = rw (starts-append (sign_text s) after) follows in
     let found = first_sign-longest text s here in
     rw found.1 found.2
@@ -152,12 +152,12 @@ slash_bound after h =
     (sign_piece (47 ∷ after))))) [
       | true ↦ omega arith
       | false ↦ elim (starts_with nat_eq (47 ∷ after) (codes "/*")) as
-      (λ v. 1 ≤ size (47 ∷ after) (cond v (Some (block_comment (comment_end (drop 2 (47 ∷ after)))))
-      (sign_piece (47 ∷ after)))) [
-        | true ↦ elim (comment_end (drop 2 (47 ∷ after))) as
-        (λ o. 1 ≤ size (47 ∷ after) (Some (block_comment o))) [ None ↦ omega arith | Some n ↦ omega arith ]
-        | false ↦ h
-      ]
+          (λ v. 1 ≤ size (47 ∷ after) (cond v (Some (block_comment (comment_end (drop 2 (47 ∷ after)))))
+          (sign_piece (47 ∷ after)))) [
+            | true ↦ elim (comment_end (drop 2 (47 ∷ after))) as
+                (λ o. 1 ≤ size (47 ∷ after) (Some (block_comment o))) [ None ↦ omega arith | Some n ↦ omega arith ]
+            | false ↦ h
+          ]
     ]
 
 -- a text that begins with a sign other than `/` begins with no other kind of piece

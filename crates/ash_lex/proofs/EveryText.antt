@@ -43,28 +43,48 @@ word_means piece h = at_reserved (reserved_word piece) refl
 abbrev Onward : List ℕ → ℕ → Type 0
 Onward text place =
     ((f : LexFault) × FirstFault text f) ⊎ ((n line : ℕ) × (tokens : List Lexeme) × (0 < n)
-        × IsReadTo text (place + n) line tokens)
+    × IsReadTo text (place + n) line tokens)
 
 module _ (text : List ℕ) (place line : ℕ) (tokens : List Lexeme) (read : IsReadTo text place line tokens)
     (more : place < length text) where
   at_token : (n : ℕ) (m : Meaning) → IsCut (drop place text) n → Means (take n (drop place text)) m → Onward text place
   at_token n m cut means =
-      inr (n, line, tokens ++ record { meaning = m; line = line; from = place; to = place + n } ∷ [], cut.some,
-      past_token text place line n tokens read cut m means)
+      inr (
+        n,
+        line,
+        tokens ++ record { meaning = m; line = line; from = place; to = place + n } ∷ [],
+        cut.some,
+        past_token text place line n tokens read cut m means,
+      )
 
   at_numeral : (n value : ℕ) → IsCut (drop place text) n → IsNumeral (take n (drop place text)) value
       → Onward text place
   at_numeral n value cut is =
       ⊎_elim (λ small. at_token n (number value) cut (is, small))
-      (λ large. inl (NumberTooLarge place, first_fault text place line tokens (NumberTooLarge place) read
-      (refl, take n (drop place text), drop n (drop place text), value, sym (take-append-drop n (drop place text)), is,
-      cut.longest, large)))
+      (λ large. inl (
+        NumberTooLarge place,
+        first_fault text place line tokens (NumberTooLarge place) read (
+          refl,
+          take n (drop place text),
+          drop n (drop place text),
+          value,
+          sym (take-append-drop n (drop place text)),
+          is,
+          cut.longest,
+          large,
+        ),
+      ))
       (order value (2 ^ 64))
 
   at_piece : (p : Piece) → BeginsWith (drop place text) p → Onward text place
   at_piece (Gap n) h =
-      inr (n, line + count_by is_line_feed (take n (drop place text)), tokens, (h.0).some,
-      past_gap text place line n tokens read h.0 h.1)
+      inr (
+        n,
+        line + count_by is_line_feed (take n (drop place text)),
+        tokens,
+        (h.0).some,
+        past_gap text place line n tokens read h.0 h.1,
+      )
   at_piece Open h =
       inl (UnclosedComment place, first_fault text place line tokens (UnclosedComment place) read (refl, h))
   at_piece (Name n) h = let word = word_means (take n (drop place text)) h.1 in at_token n word.0 h.0 word.1
@@ -74,8 +94,11 @@ module _ (text : List ℕ) (place line : ℕ) (tokens : List Lexeme) (read : IsR
 
   at_longest : (o : Option Piece) → longest_piece (drop place text) ≡ o → Onward text place
   at_longest None e =
-      inl (BadCharacter place, first_fault text place line tokens (BadCharacter place) read
-      (refl, omega (arith, length-drop place text, more), none_begins (drop place text) e))
+      inl (
+        BadCharacter place,
+        first_fault text place line tokens (BadCharacter place) read
+            (refl, omega (arith, length-drop place text, more), none_begins (drop place text) e),
+      )
   at_longest (Some p) e = at_piece p (longest_piece_is (drop place text) p e)
 
   onward : Onward text place

@@ -109,8 +109,13 @@ hexadecimal_matches (d ∷ ds) h =
     let two = take_two 48 120 n (d ∷ ds) in (
       omega arith,
       omega arith,
-      (take n (d ∷ ds), two, omega (arith, ap length taken), Each-take_while is_hex_digit (d ∷ ds),
-      ap (λ l. value_in 16 (drop 2 l)) two),
+      (
+        take n (d ∷ ds),
+        two,
+        omega (arith, ap length taken),
+        Each-take_while is_hex_digit (d ∷ ds),
+        ap (λ l. value_in 16 (drop 2 l)) two,
+      ),
     )
 
 sign_matches : (text : List ℕ) (p : Piece) → sign_piece text ≡ Some p → Matches text p
@@ -121,8 +126,8 @@ sign_matches text p h = go (first_sign text) refl h
     go (Some s) e g =
         let same : SignPiece s ≡ p = cc in
         let parts =
-            both_true (starts_with nat_eq text (sign_text s)) (may_follow s (drop (length (sign_text s)) text))
-            (first_sign-begins text s e) in
+        both_true (starts_with nat_eq text (sign_text s)) (may_follow s (drop (length (sign_text s)) text))
+        (first_sign-begins text s e) in
         subst (Matches text) same (starts-true text (sign_text s) parts.0, parts.1)
 
 -- a text that begins so, with its first two bytes written out
@@ -141,13 +146,13 @@ slash_matches text p h =
           (Gap (2 + prefix_len (λ b. not (is_line_feed b)) (drop 2 text)))) (sym (two_bytes 47 47 text w.0))
           (line_matches (drop 2 text)))
       | inr w ↦ elim (cond_cases (starts_with nat_eq text (codes "/*"))
-      (Some (block_comment (comment_end (drop 2 text)))) (sign_piece text) (Some p) w.1) [
-        | inl v ↦
-            let same : block_comment (comment_end (drop 2 text)) ≡ p = cc in
-            subst (Matches text) same (subst (λ l. Matches l (block_comment (comment_end (drop 2 text))))
-            (sym (two_bytes 47 42 text v.0)) (comment_matches (drop 2 text)))
-        | inr v ↦ sign_matches text p v.1
-      ]
+          (Some (block_comment (comment_end (drop 2 text)))) (sign_piece text) (Some p) w.1) [
+            | inl v ↦
+                let same : block_comment (comment_end (drop 2 text)) ≡ p = cc in
+                subst (Matches text) same (subst (λ l. Matches l (block_comment (comment_end (drop 2 text))))
+                (sym (two_bytes 47 42 text v.0)) (comment_matches (drop 2 text)))
+            | inr v ↦ sign_matches text p v.1
+          ]
     ]
 
 numeral_matches : (text : List ℕ) → is_digit (slice_index text 0) ≡ true → Matches text (numeral_piece text)
@@ -246,12 +251,16 @@ longest_piece_is text (Decimal n) h =
     (cut text (Decimal n) n h refl w.0 w.1 (numeral (value_in 10 (take n text)) here), here)
 longest_piece_is text (Hexadecimal n) h =
     let w = found_matches text (Hexadecimal n) h in
-    let here : IsNumeral (take n text) (value_in 16 (drop 2 (take n text))) = inr w.2 in
-    (cut text (Hexadecimal n) n h refl (omega (arith, w.0)) w.1 (numeral (value_in 16 (drop 2 (take n text))) here),
-    here, omega (arith, w.0))
+    let here : IsNumeral (take n text) (value_in 16 (drop 2 (take n text))) = inr w.2 in (
+      cut text (Hexadecimal n) n h refl (omega (arith, w.0)) w.1 (numeral (value_in 16 (drop 2 (take n text))) here),
+      here,
+      omega (arith, w.0),
+    )
 longest_piece_is text (SignPiece s) h =
     let w = found_matches text (SignPiece s) h in
     let n : ℕ = length (sign_text s) in
-    let taken : take n text ≡ sign_text s = ap (take n) w.0 ∙ take_at (sign_text s) (drop n text) n refl in
-    (cut text (SignPiece s) n h refl (sign_text-nonempty s)
-    (omega (arith, ap length w.0, length-append (sign_text s) (drop n text))) (sign s taken w.1), taken)
+    let taken : take n text ≡ sign_text s = ap (take n) w.0 ∙ take_at (sign_text s) (drop n text) n refl in (
+      cut text (SignPiece s) n h refl (sign_text-nonempty s)
+          (omega (arith, ap length w.0, length-append (sign_text s) (drop n text))) (sign s taken w.1),
+      taken,
+    )

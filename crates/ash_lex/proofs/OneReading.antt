@@ -68,7 +68,7 @@ one_way _ _ _ _ _ _ _ _ (past_token b l ts end left p r m e g long next) s (past
 one_way _ _ _ _ _ _ _ _ (past_token b l ts end left p r m e g long next) s (past_token _ _ us end' left' q r' k e' g' long' next') t =
     let same = same_longest p r q r' long long' (sym e ∙ e') in
     let later =
-        one_way (b ++ p) r ts us end left end' left' next s (renamed b p q r r' us end' left' same.0 same.1 next') t in
+    one_way (b ++ p) r ts us end left end' left' next s (renamed b p q r r' us end' left' same.0 same.1 next') t in
     let meant : m ≡ k = one_meaning p m k g (subst (λ x. Means x k) (sym same.0) g') in
     ((λ i. lexeme_at b (same.0 i) (meant i) ∷ later.0 i), later.1, later.2)
 
@@ -80,8 +80,8 @@ Start before text =
 no_mark : (t s : List ℕ) → byte_order_mark ++ t ≡ s → not (starts_with nat_eq s byte_order_mark) ≡ true → ⊥
 no_mark t s e h =
     let wrong : not true ≡ true =
-        ap not (sym (ap (λ l. starts_with nat_eq l byte_order_mark) (sym e) ∙ starts-append byte_order_mark t)) ∙ h in
-        cc
+    ap not (sym (ap (λ l. starts_with nat_eq l byte_order_mark) (sym e) ∙ starts-append byte_order_mark t)) ∙ h in
+    cc
 
 one_start : (b t c s : List ℕ) → Start b t → Start c s → b ++ t ≡ c ++ s → (b ≡ c) × (t ≡ s)
 one_start b t c s (inl h) (inl g) e = same_split b t c s e (ap length (h ∙ sym g))
@@ -99,13 +99,13 @@ from_start _ _ _ (marked text) tail end rest go = (byte_order_mark, text, inl re
 from_start _ _ _ (unmarked text h) tail end rest go = ([], text, inr (refl, h), refl, go)
 from_start _ _ _ (gap before piece left tokens prior h long) tail end rest go =
     let w =
-        from_start before (piece ++ left) tokens prior tail end rest
-        (past_gap before (piece ++ left) tail end rest piece left refl h long go) in
+    from_start before (piece ++ left) tokens prior tail end rest
+    (past_gap before (piece ++ left) tail end rest piece left refl h long go) in
     (w.0, w.1, w.2, w.3 ∙ sym (append_assoc before piece left), w.4)
 from_start _ _ _ (token before piece left tokens m prior h long) tail end rest go =
     let w =
-        from_start before (piece ++ left) tokens prior (lexeme_at before piece m ∷ tail) end rest
-        (past_token before (piece ++ left) tail end rest piece left m refl h long go) in (
+    from_start before (piece ++ left) tokens prior (lexeme_at before piece m ∷ tail) end rest
+    (past_token before (piece ++ left) tail end rest piece left m refl h long go) in (
       w.0,
       w.1,
       w.2,
@@ -136,8 +136,12 @@ open_takes_all : (left piece rest : List ℕ) → IsOpenComment left → left �
     → left ≡ piece
 open_takes_all left piece rest h e long =
     let none : rest ≡ [] =
-        nil_from_length rest (omega (arith, long.longest left [] (open_comment h refl) (append-nil left ∙ e),
-        ap length e, length-append piece rest)) in
+    nil_from_length rest (omega (
+      arith,
+      long.longest left [] (open_comment h refl) (append-nil left ∙ e),
+      ap length e,
+      length-append piece rest,
+    )) in
     e ∙ ap (λ l. piece ++ l) none ∙ append-nil piece
 
 -- where a fault stands, no gap and no token begins
@@ -149,9 +153,10 @@ stuck_at_fault place left (UnclosedComment at) h piece rest e long =
     (λ g. open_is_no_gap piece open_piece g, λ m g. omega (arith, open_class piece open_piece, means_above piece m g))
 stuck_at_fault place left (NumberTooLarge at) (at_is, number_text, after, n, split, is, longest, large) piece rest e long =
     let same = same_longest piece rest number_text after long longest (sym e ∙ split) in
-    let here = subst (λ p. IsNumeral p n) (sym same.0) is in
-    (λ g. omega (arith, numeral_class piece n here, gap_class piece g),
-    λ m g. omega (arith, numeral_means piece n m here g, large))
+    let here = subst (λ p. IsNumeral p n) (sym same.0) is in (
+      λ g. omega (arith, numeral_class piece n here, gap_class piece g),
+      λ m g. omega (arith, numeral_means piece n m here g, large),
+    )
 stuck_at_fault place left SourceTooLong h piece rest e long = absurd h
 stuck_at_fault place left NoMemory h piece rest e long = absurd h
 
@@ -200,8 +205,8 @@ tokens_agree text a b h g = (read_once text [] text [] a b h stuck_at_end g stuc
 pub faults_agree : (text : List ℕ) (f g : LexFault) → FirstFault text f → FirstFault text g → f ≡ g
 faults_agree text f g (before, left, tokens, split, reads, at) (before', left', tokens', split', reads', at') =
     let same =
-        read_once before left before' left' tokens tokens' reads (stuck_at_fault (length before) left f at) reads'
-        (stuck_at_fault (length before') left' g at') (split ∙ sym split') in
+    read_once before left before' left' tokens tokens' reads (stuck_at_fault (length before) left f at) reads'
+    (stuck_at_fault (length before') left' g at') (split ∙ sym split') in
     one_fault_there (length before) left f g at
     (subst (λ l. FaultAt (length before) l g) (sym same.2) (subst (λ b. FaultAt (length b) left' g) (sym same.1) at'))
 
@@ -209,8 +214,8 @@ faults_agree text f g (before, left, tokens, split, reads, at) (before', left', 
 pub tokens_or_fault : (text : List ℕ) (tokens : List Lexeme) (f : LexFault) → Spells text tokens → FirstFault text f → ⊥
 tokens_or_fault text tokens f h (before, left, tokens', split, reads, at) =
     let same =
-        read_once text [] before left tokens tokens' h stuck_at_end reads (stuck_at_fault (length before) left f at)
-        (append-nil text ∙ sym split) in
+    read_once text [] before left tokens tokens' h stuck_at_end reads (stuck_at_fault (length before) left f at)
+    (append-nil text ∙ sym split) in
     no_fault_at_end (length before) f (subst (λ l. FaultAt (length before) l f) (sym same.2) at)
 
 -- more room at the end
@@ -234,6 +239,6 @@ reads_rise _ _ _ (gap before piece left tokens prior h long) =
     (omega (arith, length-append before piece))
 reads_rise _ _ _ (token before piece left tokens m prior h long) =
     let risen =
-        one_more 0 (length before) tokens (lexeme_at before piece m) (reads_rise before (piece ++ left) tokens prior)
-        (omega arith) (omega (arith, piece_nonempty piece left long.is_piece)) in
+    one_more 0 (length before) tokens (lexeme_at before piece m) (reads_rise before (piece ++ left) tokens prior)
+    (omega arith) (omega (arith, piece_nonempty piece left long.is_piece)) in
     subst (λ n. Rises 0 n (tokens ++ lexeme_at before piece m ∷ [])) (sym (length-append before piece)) risen

@@ -89,8 +89,11 @@ comment_end-some (x ∷ xs) n h =
             found.1,
             ap (λ l. x ∷ l) found.2,
             omega (arith, later.2, found.3),
-            (not_false _ (sym (same_start x found.0 found.1)
-            ∙ ap (λ l. starts_with nat_eq (x ∷ l) (codes "*/")) (sym found.2) ∙ w.0), found.4),
+            (
+              not_false _ (sym (same_start x found.0 found.1)
+                  ∙ ap (λ l. starts_with nat_eq (x ∷ l) (codes "*/")) (sym found.2) ∙ w.0),
+              found.4,
+            ),
           )
     ]
 

@@ -108,7 +108,7 @@ module _ (text : List ℕ) (place line n : ℕ) (tokens : List Lexeme) (read : I
     line_is = omega (arith, read.line_is, feeds_further text place n);
     reads =
         let here : Reads (take place text ++ take n (drop place text)) tokens (drop n (drop place text)) =
-            gap (take place text) (take n (drop place text)) (drop n (drop place text)) tokens at_piece h cut.longest in
+        gap (take place text) (take n (drop place text)) (drop n (drop place text)) tokens at_piece h cut.longest in
         let moved = subst (λ b. Reads b tokens (drop n (drop place text))) (take_further text place n) here in
         subst (λ l. Reads (take (place + n) text) tokens l) (drop-drop n place text) moved;
   }
@@ -128,11 +128,11 @@ module _ (text : List ℕ) (place line n : ℕ) (tokens : List Lexeme) (read : I
         let same : lexeme_at before piece m ≡ record { meaning = m; line = line; from = place; to = place + n } =
         (λ i. record { meaning = m; line = sym read.line_is i; from = from_is i; to = to_is i }) in
         let here : Reads (before ++ piece) (tokens ++ lexeme_at before piece m ∷ []) (drop n (drop place text)) =
-            token before piece (drop n (drop place text)) tokens m at_piece h cut.longest in
+        token before piece (drop n (drop place text)) tokens m at_piece h cut.longest in
         let reported = subst (λ t. Reads (before ++ piece) (tokens ++ t ∷ []) (drop n (drop place text))) same here in
         let moved =
-            subst (λ b. Reads b (tokens ++ record { meaning = m; line = line; from = place; to = place + n } ∷ [])
-            (drop n (drop place text))) (take_further text place n) reported in
+        subst (λ b. Reads b (tokens ++ record { meaning = m; line = line; from = place; to = place + n } ∷ [])
+        (drop n (drop place text))) (take_further text place n) reported in
         subst (λ l. Reads (take (place + n) text)
         (tokens ++ record { meaning = m; line = line; from = place; to = place + n } ∷ []) l)
         (drop-drop n place text) moved;
@@ -195,8 +195,8 @@ pub token_keeps : (text left : List ℕ) (place line n : ℕ) (kind : TokenKind)
     → IsReadTo text (place + n) line (lexemes more)
 token_keeps text left place line n kind items more s read left_is step is more_is =
     let here : IsStep (drop place text) (TokenStep kind n) =
-        subst (λ l. IsStep l (TokenStep kind n)) left_is (subst (IsStep left) is step) in
+    subst (λ l. IsStep l (TokenStep kind n)) left_is (subst (IsStep left) is step) in
     let added : IsReadTo text (place + n) line (lexemes items ++ record { meaning = meaning_of kind; line = line; from = place; to = place + n } ∷ []) =
-        past_token text place line n (lexemes items) read here.0 (meaning_of kind) here.1 in
+    past_token text place line n (lexemes items) read here.0 (meaning_of kind) here.1 in
     let t : Token = record { kind = kind; line = line; from = place; to = place + n } in
     subst (IsReadTo text (place + n) line) (sym (ap lexemes more_is ∙ map_push lexeme_of items t)) added

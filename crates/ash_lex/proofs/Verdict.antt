@@ -26,8 +26,11 @@ pub only : {X : Type 0} (view : X → List Lexeme) (r : Result X LexFault) (text
     → MatchResult r (λ x. view x ≡ tokens) (λ f. f ≡ NoMemory)
 only view (Ok x) text h s tokens spelled = tokens_agree text (view x) tokens h spelled
 only view (Err f) text h s tokens spelled =
-    elim (stop_cases text f s) [ inl memory ↦ memory | inr first ↦
-    absurd (tokens_or_fault text tokens f spelled first) ]
+    elim (stop_cases text f s) [
+      | inl memory ↦ memory
+      | inr first ↦
+          absurd (tokens_or_fault text tokens f spelled first)
+    ]
 
 pub refused : {X : Type 0} (view : X → List Lexeme) (r : Result X LexFault) (text : List ℕ)
     → IfOk r (λ x. Spells text (view x)) → IfErr r (λ f. StopsText text f) → (f : LexFault) → FirstFault text f

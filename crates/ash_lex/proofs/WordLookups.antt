@@ -49,4 +49,4 @@ reserved_text-injective v w h =
 pub unsupported_text-injective : (v w : UnsupportedWord) → unsupported_text v ≡ unsupported_text w → v ≡ w
 unsupported_text-injective v w h =
     let both : Some v ≡ Some w =
-        sym (unsupported_word-of_text v) ∙ ap unsupported_word h ∙ unsupported_word-of_text w in cc
+    sym (unsupported_word-of_text v) ∙ ap unsupported_word h ∙ unsupported_word-of_text w in cc

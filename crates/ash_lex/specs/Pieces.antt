@@ -45,7 +45,7 @@ IsDecimal piece n = (0 < length piece) × Each is_digit piece × (n ≡ value_in
 abbrev pub IsHexadecimal : List ℕ → ℕ → Type 0
 IsHexadecimal piece n =
     (digits : List ℕ) × (piece ≡ codes "0x" ++ digits) × (0 < length digits) × Each is_hex_digit digits
-        × (n ≡ value_in 16 digits)
+    × (n ≡ value_in 16 digits)
 
 -- The piece is a numeral of this value, however large.
 abbrev pub IsNumeral : List ℕ → ℕ → Type 0

@@ -18,7 +18,7 @@ write_next t t1 t2 name whole rest i d within first second is before =
     let next : i + 1 ≡ suc i = omega arith in
     let split = ap more (drop-cons rest i d within) in
     let cons =
-        flat_map-cons (λ primitive. codes "," ++ primitive_text primitive) (get_or rest i d) (drop (suc i) rest) in
+    flat_map-cons (λ primitive. codes "," ++ primitive_text primitive) (get_or rest i d) (drop (suc i) rest) in
     let one = append_assoc t (codes ",") name in
     let two = append_assoc t (codes "," ++ name) (more (drop (suc i) rest)) in
     cc

@@ -93,7 +93,9 @@ impl Registration {
         ensures { result ≡ spec.is_member_of wanted.now (call_of self.now) }
     {
         match self {
-            Registration::Method { of, .. } | Registration::Property { of, .. } => wanted == of.as_str(),
+            Registration::Method { of, .. } | Registration::Property { of, .. } => {
+                wanted == of.as_str()
+            }
             _ => false,
         }
     }
@@ -105,7 +107,9 @@ impl Registration {
             Registration::Method { of, operation, .. } => {
                 owner == of.as_str() && wanted == operation.name.as_str()
             }
-            Registration::Property { of, name, .. } => owner == of.as_str() && wanted == name.as_str(),
+            Registration::Property { of, name, .. } => {
+                owner == of.as_str() && wanted == name.as_str()
+            }
             _ => false,
         }
     }

@@ -11,45 +11,59 @@ use std::alloc::{AllocError, Global};
 pub(crate) fn any_names_type(registrations: &[Registration], name: &str) -> bool
     ensures { result ≡ list_any (λ r. spec.names_type name.now (call_of r)) registrations.now }
 {
-    registrations.iter().any(|registration| registration.names_type(name))
+    registrations
+        .iter()
+        .any(|registration| registration.names_type(name))
 }
 
 pub(crate) fn any_takes_kind(registrations: &[Registration], kind: u16) -> bool
     ensures { result ≡ list_any (λ r. spec.takes_kind kind (call_of r)) registrations.now }
 {
-    registrations.iter().any(|registration| registration.takes_kind(kind))
+    registrations
+        .iter()
+        .any(|registration| registration.takes_kind(kind))
 }
 
 pub(crate) fn any_is_factory_of(registrations: &[Registration], of: &str) -> bool
     ensures { result ≡ list_any (λ r. spec.is_factory_of of.now (call_of r)) registrations.now }
 {
-    registrations.iter().any(|registration| registration.is_factory_of(of))
+    registrations
+        .iter()
+        .any(|registration| registration.is_factory_of(of))
 }
 
 pub(crate) fn any_takes_member(registrations: &[Registration], of: &str, name: &str) -> bool
     ensures { result
         ≡ list_any (λ r. spec.takes_member of.now name.now (call_of r)) registrations.now }
 {
-    registrations.iter().any(|registration| registration.takes_member(of, name))
+    registrations
+        .iter()
+        .any(|registration| registration.takes_member(of, name))
 }
 
 pub(crate) fn any_takes_method(registrations: &[Registration], of: &str, id: u16) -> bool
     ensures { result ≡ list_any (λ r. spec.takes_method of.now id (call_of r)) registrations.now }
 {
-    registrations.iter().any(|registration| registration.takes_method(of, id))
+    registrations
+        .iter()
+        .any(|registration| registration.takes_method(of, id))
 }
 
 pub(crate) fn any_takes_property(registrations: &[Registration], of: &str, id: u16) -> bool
     ensures { result ≡ list_any (λ r. spec.takes_property of.now id (call_of r)) registrations.now }
 {
-    registrations.iter().any(|registration| registration.takes_property(of, id))
+    registrations
+        .iter()
+        .any(|registration| registration.takes_property(of, id))
 }
 
 pub(crate) fn any_takes_function(registrations: &[Registration], service: u16, id: u16) -> bool
     ensures { result
         ≡ list_any (λ r. spec.takes_function service id (call_of r)) registrations.now }
 {
-    registrations.iter().any(|registration| registration.takes_function(service, id))
+    registrations
+        .iter()
+        .any(|registration| registration.takes_function(service, id))
 }
 
 /// The registration at a place, if there is one.
@@ -71,7 +85,9 @@ pub(crate) fn find_member<'a>(
     ensures { option_copied result
         ≡ find (λ r. spec.takes_member of.now name.now (call_of r)) registrations.now }
 {
-    registrations.iter().find(|registration| registration.takes_member(of, name))
+    registrations
+        .iter()
+        .find(|registration| registration.takes_member(of, name))
 }
 
 pub(crate) fn find_factory<'a>(
@@ -81,14 +97,18 @@ pub(crate) fn find_factory<'a>(
     ensures { option_copied result
         ≡ find (λ r. spec.is_factory_of of.now (call_of r)) registrations.now }
 {
-    registrations.iter().find(|registration| registration.is_factory_of(of))
+    registrations
+        .iter()
+        .find(|registration| registration.is_factory_of(of))
 }
 
 pub(crate) fn find_kind(registrations: &[Registration], kind: u16) -> Option<&Registration>
     ensures { option_copied result
         ≡ find (λ r. spec.takes_kind kind (call_of r)) registrations.now }
 {
-    registrations.iter().find(|registration| registration.takes_kind(kind))
+    registrations
+        .iter()
+        .find(|registration| registration.takes_kind(kind))
 }
 
 pub(crate) fn kinds_of_services(

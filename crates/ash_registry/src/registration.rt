@@ -162,7 +162,11 @@ impl Registry {
         let operation = operation(self.alloc, signature)?;
         let of = of.to_string(self.alloc)?;
         let count = self.table.members_of(of.as_str());
-        self.accept(Registration::Method { of, id, operation }, count, MAX_MEMBERS)
+        self.accept(
+            Registration::Method { of, id, operation },
+            count,
+            MAX_MEMBERS,
+        )
     }
 
     /// Registers a property of a type, as `int value`, by its number.

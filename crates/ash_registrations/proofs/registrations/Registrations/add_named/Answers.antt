@@ -11,9 +11,9 @@ pub invariant_of-self-2-clause-placed : goal.invariant_of-self-2-clause-placed
 invariant_of-self-2-clause-placed c = λ name.
     let items = c.args.self.now.registrations.items in
     let free : list_any (λ r. takes_name (string_bytes c.args.key) (call_of r)) items ≡ false =
-        sym (any_mapped (takes_name (string_bytes c.args.key)) call_of items) ∙ c.requires.free in
+    sym (any_mapped (takes_name (string_bytes c.args.key)) call_of items) ∙ c.requires.free in
     let more : c.push.new.self.items ≡ items ++ c.args.registration ∷ [] =
-        first_of (search rules, grind (arith, common_steps), cc) in
+    first_of (search rules, grind (arith, common_steps), cc) in
     let last : c.len-4.result ≡ length items = first_of (search rules, grind (arith, common_steps), omega arith) in
     hash_map_updates_text (string_bytes c.args.key) c.args.self.now.names c.insert.new.self _
     c.in_ok-insert.ensures.updates name
