@@ -7,7 +7,7 @@ use Rattle.ash_journal.specs.declared.journal.Opened.{Opened}
 use Rattle.ash_journal.specs.Current.{Contents, Represent, SettleOn}
 use Rattle.ash_journal.specs.Failures.{CountsFailures}
 use Rattle.ash_journal.specs.Journal.{first_disk, second_disk, current_disk, generation, record_bytes, HasFailed}
-use Rattle.ash_journal.specs.Journal.{IsReady, Holds, KeepsUnrepaired, WritesGates, Finds as FindsIn}
+use Rattle.ash_journal.specs.Journal.{IsReady, Holds, LeavesRepaired, WritesGates, Finds as FindsIn}
 use Rattle.ash_journal.specs.Layout.{IsClosed}
 use Rattle.ash_journal.specs.Opening.{IsUnsound, IsCutCurrent, HasCurrent}
 use Rattle.ash_journal.specs.Reading.{AreAt, bodies_of}
@@ -35,8 +35,7 @@ IsFailed faults.DeviceFailed = Unit {0}
 IsFailed _ = ⊥
 
 -- Two disks are handed back: no count of failures fell, and one rose exactly where a failure is reported; they are as
--- honest
--- as they were.
+-- honest as they were.
 pub record HandsBack {D : Type 0} (device : Device D) (failed : Type 0) (a b a' b' : D) : Type 0 where
   pub failures : CountsFailures failed (device.failures a) (device.failures b) (device.failures a') (device.failures b')
   pub honesty_first : device.honest a' ≡ device.honest a
@@ -144,14 +143,12 @@ StoreFaultIs registered faults.DeviceFailed x y = Unit {0}
 StoreFaultIs registered faults.AlreadyThere x y = ⊥
 
 -- Calls add nothing to two files: at every moment of them a crash leaves the contents that it might have left before
--- they
--- began, and no others.
+-- they began, and no others.
 abbrev pub AddNothing : {D : Type 0} → Device D → D → D → D → D → Type 0
 AddNothing device a b a' b' = AreHonest device a b → Extends device a b a' b' Nothing
 
 -- A journal holds the image and the records that two files, as they read, held before, no record more and none less,
--- and
--- they are those of this state.
+-- and they are those of this state.
 pub record HoldsAsRead {D : Type 0} (device : Device D) (a b : D) (state : State) (journal : Journal D) : Type 0 where
   pub contents : Contents
   pub represented : Represent contents (device.seen a) (device.seen b)
@@ -161,7 +158,7 @@ pub record HoldsAsRead {D : Type 0} (device : Device D) (a b : D) (state : State
 -- A journal was settled, or was begun to be: of its disks, one on which no gate was to be written over is as it was, to
 -- another nothing was written but that gate, and the generation has the same number and the size of its records.
 pub record OnlySettled {D : Type 0} (device : Device D) (was journal : Journal D) : Type 0 where
-  pub only_pending : KeepsUnrepaired was journal
+  pub only_pending : LeavesRepaired was journal
   pub only_gates : (contents : Contents) → FindsIn device was contents.0 contents.1 → WritesGates device was journal
   pub number_same : generation journal ≡ generation was
   pub size_same : record_bytes journal ≡ record_bytes was
