@@ -93,9 +93,8 @@ impl Registration {
         ensures { result ≡ spec.is_member_of wanted.now (call_of self.now) }
     {
         match self {
-            Registration::Method { of, .. } | Registration::Property { of, .. } => {
-                wanted == of.as_str()
-            }
+            Registration::Method { of, .. } | Registration::Property { of, .. } => wanted
+                == of.as_str(),
             _ => false,
         }
     }
@@ -107,9 +106,8 @@ impl Registration {
             Registration::Method { of, operation, .. } => {
                 owner == of.as_str() && wanted == operation.name.as_str()
             }
-            Registration::Property { of, name, .. } => {
-                owner == of.as_str() && wanted == name.as_str()
-            }
+            Registration::Property { of, name, .. } => owner == of.as_str()
+                && wanted == name.as_str(),
             _ => false,
         }
     }
