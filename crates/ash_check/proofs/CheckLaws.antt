@@ -1,5 +1,7 @@
 -- What checking reports, from what its parts report; and the names of a cycle's classes.
-use Rattle.std.proofs.Common.{◌≡◌, ℕ, zero, suc, ◌+◌, ◌<◌, List, [], ◌∷◌, ◌++◌, length, map, drop, get_or, slice_get, Some, None, Result, Ok, Err, IsErrAnd, MatchResult, String, Global, string_bytes, refl, sym, ap, ap₂, ◌∙◌, subst, arith, append_assoc}
+use Rattle.std.proofs.Common.{◌≡◌, ℕ, zero, suc, ◌+◌, ◌<◌, List, [], ◌∷◌, ◌++◌, length, map, drop, get_or, slice_get}
+use Rattle.std.proofs.Common.{Some, None, Result, Ok, Err, IsErrAnd, MatchResult, String, Global, string_bytes, refl}
+use Rattle.std.proofs.Common.{sym, ap, ap₂, ◌∙◌, subst, arith, append_assoc}
 use Rattle.std.proofs.Common.{add-one, drop-cons}
 use Rattle.std.proofs.lemmas.Option.{slice_get_within, get_or_from_slice_get}
 use Rattle.std.proofs.lemmas.List.{map-append}
@@ -19,7 +21,8 @@ use Rattle.ash_classes.specs.References.{Refers, classes_of}
 use Rattle.ash_classes.specs.ReportedCycle.{reported_cycle}
 use Rattle.ash_check.specs.declared.faults.CheckFault.{CheckFault}
 use Rattle.ash_check.specs.Faults.{rule_fault, fault_of_error}
-use Rattle.ash_check.specs.Checks.{ScriptFault, Cyclic, name_at, round_of, unless_round, checked_by, checked, broken_at, script_fault_of, IsReportedFault, Reports, HoldsNamed, LeadsTo, GoesRound}
+use Rattle.ash_check.specs.Checks.{ScriptFault, Cyclic, name_at, round_of, unless_round, checked_by, checked, broken_at}
+use Rattle.ash_check.specs.Checks.{script_fault_of, IsReportedFault, Reports, HoldsNamed, LeadsTo, GoesRound}
 
 -- faults
 

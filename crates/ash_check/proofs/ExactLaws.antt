@@ -10,7 +10,7 @@ use Rattle.ash_typing.specs.TypedModules.{IsTyped}
 use Rattle.ash_typing.proofs.ModuleLaws.{module_typed-exact}
 use Rattle.ash_classes.specs.References.{Refers, classes_of}
 use Rattle.ash_classes.specs.ReportedCycle.{reported_cycle}
-use Rattle.ash_classes.specs.Ways.{IsReported, Reaches}
+use Rattle.ash_classes.specs.Ways.{IsReportedCycle, Reaches}
 use Rattle.ash_classes.proofs.CycleSearches.{reported_is, none_is_reported}
 use Rattle.ash_check.specs.Checks.{ScriptFault, Broken, Cyclic, round_of, unless_round, checked_by, checked}
 use Rattle.ash_check.proofs.CheckLaws.{typed_is_checked, cycle_is_reported}
@@ -73,16 +73,16 @@ unfolding checked
 typed_cyclic calls items names h = by_cyclic (classes_of items) (module_typed calls items) names h
 
 -- by the cycle that is returned
-pub cycle_is : (calls : List Registration) (items : List Item) (names : List (List ℕ)) → (checked calls items ≡ Err (Cyclic names)) ↔ ((typed : Module) × (first : ℕ) × (others : List ℕ) × IsTyped calls items typed × IsReported (Refers (classes_of items)) first others × (names ≡ round_of (classes_of items) (first, others)))
+pub cycle_is : (calls : List Registration) (items : List Item) (names : List (List ℕ)) → (checked calls items ≡ Err (Cyclic names)) ↔ ((typed : Module) × (first : ℕ) × (others : List ℕ) × IsTyped calls items typed × IsReportedCycle (Refers (classes_of items)) first others × (names ≡ round_of (classes_of items) (first, others)))
 cycle_is calls items names = (go, back)
   where
-    go : checked calls items ≡ Err (Cyclic names) → (typed : Module) × (first : ℕ) × (others : List ℕ) × IsTyped calls items typed × IsReported (Refers (classes_of items)) first others × (names ≡ round_of (classes_of items) (first, others))
+    go : checked calls items ≡ Err (Cyclic names) → (typed : Module) × (first : ℕ) × (others : List ℕ) × IsTyped calls items typed × IsReportedCycle (Refers (classes_of items)) first others × (names ≡ round_of (classes_of items) (first, others))
     go h =
         let t = typed_cyclic calls items names h in
         let is : IsTyped calls items t.0 = (module_typed-exact calls items t.0).0 t.1 in
         (t.0, (t.2).0, (t.2).1, is, (reported_is (classes_of items) (t.2).0 (t.2).1).0 t.3, t.4)
 
-    back : (typed : Module) × (first : ℕ) × (others : List ℕ) × IsTyped calls items typed × IsReported (Refers (classes_of items)) first others × (names ≡ round_of (classes_of items) (first, others)) → checked calls items ≡ Err (Cyclic names)
+    back : (typed : Module) × (first : ℕ) × (others : List ℕ) × IsTyped calls items typed × IsReportedCycle (Refers (classes_of items)) first others × (names ≡ round_of (classes_of items) (first, others)) → checked calls items ≡ Err (Cyclic names)
     back h =
         let found : reported_cycle (classes_of items) ≡ Some (h.1, h.2) = (reported_is (classes_of items) h.1 h.2).1 h.4 in
         cycle_is_reported calls items h.0 h.1 h.2 ((module_typed-exact calls items h.0).1 h.3) found ∙ ap (λ ns. Err (Cyclic ns)) (sym h.5)
@@ -102,7 +102,7 @@ cyclic_is calls items = (go, back)
     back h =
         let classes = classes_of items in
         let r = some_round classes (reported_cycle classes) refl h.1 h.3 in
-        let foremost : IsReported (Refers classes) (r.0).0 (r.0).1 = (reported_is classes (r.0).0 (r.0).1).0 r.1 in
+        let foremost : IsReportedCycle (Refers classes) (r.0).0 (r.0).1 = (reported_is classes (r.0).0 (r.0).1).0 r.1 in
         (round_of classes r.0, (cycle_is calls items (round_of classes r.0)).1 (h.0, (r.0).0, (r.0).1, h.2, foremost, refl))
 
 -- what is refused for a rule that is broken

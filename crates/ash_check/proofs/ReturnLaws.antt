@@ -1,6 +1,8 @@
 -- Labels and branches of written statements, and what is after the last label.
 use Rattle.std.proofs.lemmas.Option.{none-some, same_Some}
-use Rattle.std.proofs.Common.{ℕ, zero, suc, ◌+◌, ◌-◌, ◌<◌, length, Some, slice_get, get_or, drop, drop-cons, add-one, arith, ◌≡◌, List, [], ◌∷◌, map, Bool, true, false, ◌||◌, refl, sym, ap, ◌∙◌, Box, Vec, Global, rules}
+use Rattle.std.proofs.Common.{ℕ, zero, suc, ◌+◌, ◌-◌, ◌<◌, length, Some, slice_get, get_or, drop, drop-cons, add-one}
+use Rattle.std.proofs.Common.{arith, ◌≡◌, List, [], ◌∷◌, map, Bool, true, false, ◌||◌, refl, sym, ap, ◌∙◌, Box, Vec}
+use Rattle.std.proofs.Common.{Global, rules}
 use Rattle.ash_tree.specs.declared.tree.places.Place.{Place}
 use Rattle.ash_tree.specs.declared.tree.statements.Label.{Label}
 use Rattle.ash_tree.specs.declared.tree.statements.StmtKind.TheViews as stmt_views

@@ -1,5 +1,7 @@
 -- Statements of a block in their order, and the locals that end with it.
-use Rattle.std.proofs.Common.{◌≡◌, ℕ, List, [], ◌∷◌, ◌++◌, Ok, Err, refl, sym, subst, ap, ◌∙◌, append_assoc, append-nil, length, take, drop, get_or, map, ◌<◌, ◌≤◌, ◌+◌, suc, add-one, drop-cons, drop_of_length-le, Result, Option, option_map, rules, IfOk}
+use Rattle.std.proofs.Common.{◌≡◌, ℕ, List, [], ◌∷◌, ◌++◌, Ok, Err, refl, sym, subst, ap, ◌∙◌, append_assoc, append-nil}
+use Rattle.std.proofs.Common.{length, take, drop, get_or, map, ◌<◌, ◌≤◌, ◌+◌, suc, add-one, drop-cons}
+use Rattle.std.proofs.Common.{drop_of_length-le, Result, Option, option_map, rules, IfOk}
 use Rattle.std.proofs.lemmas.List.{take_at, take-map, length-map, map-append}
 use Rattle.std.specs.declared.vec.Vec.{Vec}
 use Rattle.std.specs.declared.alloc.Global.{Global}
@@ -15,11 +17,12 @@ use Rattle.ash_tree.specs.Views.{stmt_at, stmt_of, case_of, expr_of}
 use Rattle.ash_tree.proofs.Rows.{block_is, switch_is}
 use Rattle.ash_typed.specs.declared.tree.statements.Stmt as typed_stmt
 use Rattle.ash_typed.specs.declared.tree.statements.Case as typed_case
-use Rattle.ash_typed.specs.declared.types.Kind.{Kind}
+use Rattle.ash_integers.specs.declared.int_type.IntType.{IntType}
 use Rattle.ash_typed.specs.BodyViews as typed_views
 use Rattle.ash_typing.specs.Switches.{label_typed}
 use Rattle.ash_typing.specs.TypingResult.{TypingResult, ◌>>=◌}
-use Rattle.ash_typed.specs.StatementTree.{Initialization, Stmt, Block, Stmts, no_stmt, stmt, stmts, Case, labelled, Cases, no_case, next_case, cases}
+use Rattle.ash_typed.specs.StatementTree.{Initialization, Stmt, Block, Stmts, no_stmt, stmt, stmts, Case, labelled}
+use Rattle.ash_typed.specs.StatementTree.{Cases, no_case, next_case, cases}
 use Rattle.ash_typing.specs.Environment.{Declared}
 use Rattle.ash_typing.specs.Statements.{stmt_typed, stmts_typed, cases_typed}
 use Rattle.ash_expressions.specs.declared.signatures.Binding as code_binding
@@ -163,64 +166,64 @@ cases_after_more : (done : List Case) (c : Case) (r : TypingResult Cases) → ca
 cases_after_more done c (Ok cs) = ap Ok (cases_more done c cs)
 cases_after_more done c (Err f) = refl
 
-abbrev walked : Scope → Option Kind → List Label → List Case → List code_case.Case → TypingResult Cases
-walked scope kind before done labels = cases_after done (cases_typed scope kind before (written.cases (map case_of labels)))
+abbrev walked : Scope → Option IntType → List Label → List Case → List code_case.Case → TypingResult Cases
+walked scope int_type before done labels = cases_after done (cases_typed scope int_type before (written.cases (map case_of labels)))
 
-abbrev first_label : Scope → Option Kind → List Label → List Case → code_case.Case → List code_case.Case → TypingResult Label → TypingResult Stmts → TypingResult Cases
-first_label scope kind before done x rest known body = cases_after done (known >>= λ label. body >>= λ ss. cases_typed scope kind (before ++ (code_case.out-Case x).label ∷ []) (written.cases (map case_of rest)) >>= λ cs. Ok (next_case (labelled label ss) cs))
+abbrev first_label : Scope → Option IntType → List Label → List Case → code_case.Case → List code_case.Case → TypingResult Label → TypingResult Stmts → TypingResult Cases
+first_label scope int_type before done x rest known body = cases_after done (known >>= λ label. body >>= λ ss. cases_typed scope int_type (before ++ (code_case.out-Case x).label ∷ []) (written.cases (map case_of rest)) >>= λ cs. Ok (next_case (labelled label ss) cs))
 
-abbrev known_at : Option Kind → List Label → code_case.Case → List code_case.Case → TypingResult Label
-known_at kind before x rest = label_typed kind before (is_last (written.cases (map case_of rest))) (code_case.out-Case x).place.at (code_case.out-Case x).label
+abbrev known_at : Option IntType → List Label → code_case.Case → List code_case.Case → TypingResult Label
+known_at int_type before x rest = label_typed int_type before (is_last (written.cases (map case_of rest))) (code_case.out-Case x).place.at (code_case.out-Case x).label
 
 abbrev body_at : Scope → code_case.Case → TypingResult Stmts
 body_at scope x = stmts_typed scope (written.stmts (map stmt_of (code_case.out-Case x).body.items))
 
-first_is : (scope : Scope) (kind : Option Kind) (before : List Label) (done : List Case) (labels : List code_case.Case) (i : ℕ) (x : code_case.Case) → i < length labels → x ≡ get_or labels i x → walked scope kind before done (drop i labels) ≡ first_label scope kind before done x (drop (i + 1) labels) (known_at kind before x (drop (i + 1) labels)) (body_at scope x)
-first_is scope kind before done labels i x within is =
-    ap (walked scope kind before done) (begins_at labels i x within is)
-    ∙ ap (λ c. cases_after done (cases_typed scope kind before (written.next_case c (written.cases (map case_of (drop (i + 1) labels)))))) (case_is x)
+first_is : (scope : Scope) (int_type : Option IntType) (before : List Label) (done : List Case) (labels : List code_case.Case) (i : ℕ) (x : code_case.Case) → i < length labels → x ≡ get_or labels i x → walked scope int_type before done (drop i labels) ≡ first_label scope int_type before done x (drop (i + 1) labels) (known_at int_type before x (drop (i + 1) labels)) (body_at scope x)
+first_is scope int_type before done labels i x within is =
+    ap (walked scope int_type before done) (begins_at labels i x within is)
+    ∙ ap (λ c. cases_after done (cases_typed scope int_type before (written.next_case c (written.cases (map case_of (drop (i + 1) labels)))))) (case_is x)
 
-pub cases_step : (done new : List typed_case.Case) (one : typed_case.Case) (scope next : Scope) (kind : Option Kind) (before more : List Label) (labels : List code_case.Case) (i : ℕ) (x : code_case.Case) (known : Label) (body : Stmts) (whole : TypingResult Cases) → new ≡ done ++ one ∷ [] → more ≡ before ++ (code_case.out-Case x).label ∷ [] → next ≡ scope → i < length labels → x ≡ get_or labels i x → known_at kind before x (drop (i + 1) labels) ≡ Ok known → body_at scope x ≡ Ok body → typed_views.case_of one ≡ labelled known body → walked scope kind before (map typed_views.case_of done) (drop i labels) ≡ whole → walked next kind more (map typed_views.case_of new) (drop (i + 1) labels) ≡ whole
-cases_step done new one scope next kind before more labels i x known body whole n m same within is h k term_at so =
+pub cases_step : (done new : List typed_case.Case) (one : typed_case.Case) (scope next : Scope) (int_type : Option IntType) (before more : List Label) (labels : List code_case.Case) (i : ℕ) (x : code_case.Case) (known : Label) (body : Stmts) (whole : TypingResult Cases) → new ≡ done ++ one ∷ [] → more ≡ before ++ (code_case.out-Case x).label ∷ [] → next ≡ scope → i < length labels → x ≡ get_or labels i x → known_at int_type before x (drop (i + 1) labels) ≡ Ok known → body_at scope x ≡ Ok body → typed_views.case_of one ≡ labelled known body → walked scope int_type before (map typed_views.case_of done) (drop i labels) ≡ whole → walked next int_type more (map typed_views.case_of new) (drop (i + 1) labels) ≡ whole
+cases_step done new one scope next int_type before more labels i x known body whole n m same within is h k one_is so =
     let rest : List code_case.Case = drop (i + 1) labels in
     let earlier : List Case = map typed_views.case_of done in
     let added : List Label = before ++ (code_case.out-Case x).label ∷ [] in
-    ap (λ y. walked y kind more (map typed_views.case_of new) rest) same
-    ∙ ap (λ y. walked scope kind y (map typed_views.case_of new) rest) m
-    ∙ ap (λ y. walked scope kind added (map typed_views.case_of y) rest) n
-    ∙ ap (λ y. walked scope kind added y rest) (map-append typed_views.case_of done (one ∷ []))
-    ∙ ap (λ y. walked scope kind added (earlier ++ y ∷ []) rest) term_at
-    ∙ sym (cases_after_more earlier (labelled known body) (cases_typed scope kind added (written.cases (map case_of rest))))
-    ∙ sym (ap (first_label scope kind before earlier x rest (Ok known)) k)
-    ∙ sym (ap (λ y. first_label scope kind before earlier x rest y (body_at scope x)) h)
-    ∙ sym (first_is scope kind before earlier labels i x within is)
+    ap (λ y. walked y int_type more (map typed_views.case_of new) rest) same
+    ∙ ap (λ y. walked scope int_type y (map typed_views.case_of new) rest) m
+    ∙ ap (λ y. walked scope int_type added (map typed_views.case_of y) rest) n
+    ∙ ap (λ y. walked scope int_type added y rest) (map-append typed_views.case_of done (one ∷ []))
+    ∙ ap (λ y. walked scope int_type added (earlier ++ y ∷ []) rest) one_is
+    ∙ sym (cases_after_more earlier (labelled known body) (cases_typed scope int_type added (written.cases (map case_of rest))))
+    ∙ sym (ap (first_label scope int_type before earlier x rest (Ok known)) k)
+    ∙ sym (ap (λ y. first_label scope int_type before earlier x rest y (body_at scope x)) h)
+    ∙ sym (first_is scope int_type before earlier labels i x within is)
     ∙ so
 
-pub label_fails : (done : List typed_case.Case) (scope : Scope) (kind : Option Kind) (before : List Label) (labels : List code_case.Case) (i : ℕ) (x : code_case.Case) (e : CheckError) (whole : TypingResult Cases) → i < length labels → x ≡ get_or labels i x → FailsWith e (known_at kind before x (drop (i + 1) labels)) → walked scope kind before (map typed_views.case_of done) (drop i labels) ≡ whole → FailsWith e whole
-label_fails done scope kind before labels i x (errors.Fault f) whole within is h so =
+pub label_fails : (done : List typed_case.Case) (scope : Scope) (int_type : Option IntType) (before : List Label) (labels : List code_case.Case) (i : ℕ) (x : code_case.Case) (e : CheckError) (whole : TypingResult Cases) → i < length labels → x ≡ get_or labels i x → FailsWith e (known_at int_type before x (drop (i + 1) labels)) → walked scope int_type before (map typed_views.case_of done) (drop i labels) ≡ whole → FailsWith e whole
+label_fails done scope int_type before labels i x (errors.Fault f) whole within is h so =
     sym so
-    ∙ first_is scope kind before (map typed_views.case_of done) labels i x within is
-    ∙ ap (λ y. first_label scope kind before (map typed_views.case_of done) x (drop (i + 1) labels) y (body_at scope x)) h
-label_fails done scope kind before labels i x errors.NoMemory whole within is h so = tt
+    ∙ first_is scope int_type before (map typed_views.case_of done) labels i x within is
+    ∙ ap (λ y. first_label scope int_type before (map typed_views.case_of done) x (drop (i + 1) labels) y (body_at scope x)) h
+label_fails done scope int_type before labels i x errors.NoMemory whole within is h so = tt
 
-pub labelled_fails : (done : List typed_case.Case) (scope : Scope) (kind : Option Kind) (before : List Label) (labels : List code_case.Case) (i : ℕ) (x : code_case.Case) (known : Label) (e : CheckError) (whole : TypingResult Cases) → i < length labels → x ≡ get_or labels i x → known_at kind before x (drop (i + 1) labels) ≡ Ok known → FailsWith e (body_at scope x) → walked scope kind before (map typed_views.case_of done) (drop i labels) ≡ whole → FailsWith e whole
-labelled_fails done scope kind before labels i x known (errors.Fault f) whole within is h k so =
+pub labelled_fails : (done : List typed_case.Case) (scope : Scope) (int_type : Option IntType) (before : List Label) (labels : List code_case.Case) (i : ℕ) (x : code_case.Case) (known : Label) (e : CheckError) (whole : TypingResult Cases) → i < length labels → x ≡ get_or labels i x → known_at int_type before x (drop (i + 1) labels) ≡ Ok known → FailsWith e (body_at scope x) → walked scope int_type before (map typed_views.case_of done) (drop i labels) ≡ whole → FailsWith e whole
+labelled_fails done scope int_type before labels i x known (errors.Fault f) whole within is h k so =
     sym so
-    ∙ first_is scope kind before (map typed_views.case_of done) labels i x within is
-    ∙ ap (λ y. first_label scope kind before (map typed_views.case_of done) x (drop (i + 1) labels) y (body_at scope x)) h
-    ∙ ap (first_label scope kind before (map typed_views.case_of done) x (drop (i + 1) labels) (Ok known)) k
-labelled_fails done scope kind before labels i x known errors.NoMemory whole within is h k so = tt
+    ∙ first_is scope int_type before (map typed_views.case_of done) labels i x within is
+    ∙ ap (λ y. first_label scope int_type before (map typed_views.case_of done) x (drop (i + 1) labels) y (body_at scope x)) h
+    ∙ ap (first_label scope int_type before (map typed_views.case_of done) x (drop (i + 1) labels) (Ok known)) k
+labelled_fails done scope int_type before labels i x known errors.NoMemory whole within is h k so = tt
 
-pub cases_end : (done : List typed_case.Case) (scope : Scope) (kind : Option Kind) (before : List Label) (labels : List code_case.Case) (i : ℕ) (whole : TypingResult Cases) → length labels ≤ i → walked scope kind before (map typed_views.case_of done) (drop i labels) ≡ whole → whole ≡ Ok (cases (map typed_views.case_of done))
-cases_end done scope kind before labels i whole past so =
+pub cases_end : (done : List typed_case.Case) (scope : Scope) (int_type : Option IntType) (before : List Label) (labels : List code_case.Case) (i : ℕ) (whole : TypingResult Cases) → length labels ≤ i → walked scope int_type before (map typed_views.case_of done) (drop i labels) ≡ whole → whole ≡ Ok (cases (map typed_views.case_of done))
+cases_end done scope int_type before labels i whole past so =
     sym so
-    ∙ ap (walked scope kind before (map typed_views.case_of done)) (drop_of_length-le labels past)
+    ∙ ap (walked scope int_type before (map typed_views.case_of done)) (drop_of_length-le labels past)
     ∙ ap Ok (cases_none (map typed_views.case_of done))
 
 -- the scope of a block, and what is left after a `for`
 
 abbrev pub at_first : Scope → ℕ → Scope
-at_first scope n = record { env = scope.env; first = n; gives = scope.gives; in_loop = scope.in_loop; in_switch = scope.in_switch }
+at_first scope n = record { env = scope.env; first = n; result = scope.result; in_loop = scope.in_loop; in_switch = scope.in_switch }
 
 pub first_is_all : (scope : Scope) (n : ℕ) → n ≡ length scope.env.locals → at_first scope n ≡ block_of scope
 first_is_all scope n h = ap (at_first scope) h

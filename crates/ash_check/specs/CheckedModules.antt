@@ -14,8 +14,8 @@ pub record CheckedModule : Type 0 where
   pub typed : code.Module
   pub ranks : List ℕ
 
--- A typed module is sound where these calls are registered, and ranks of its classes fall along what the classes hold of
--- one another.
+-- A typed module is sound where these calls are registered, and ranks of its classes fall along what the classes hold
+-- of one another.
 pub record IsChecked (calls : List Registration) (typed : Module) (ranks : List ℕ) : Type 0 where
   pub sound : IsSound (offered calls) typed
   pub ranked : AreRanks (signatures_of (offered calls) typed) ranks

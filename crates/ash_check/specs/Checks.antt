@@ -79,7 +79,9 @@ Reports answer fault = IsReportedFault (script_fault_of fault) answer
 
 -- a class of the one name refers to a class of the other
 abbrev pub HoldsNamed : List Class → List ℕ → List ℕ → Type 0
-HoldsNamed classes from to = (one other : Class) × Contains classes one × (one.name ≡ from) × Contains classes other × (other.name ≡ to) × RefersTo one other
+HoldsNamed classes from to =
+    (one other : Class) × Contains classes one × (one.name ≡ from) × Contains classes other × (other.name ≡ to)
+    × RefersTo one other
 
 -- the class of each name holds the next one, and the last holds this one
 abbrev pub LeadsTo : List Class → List ℕ → List (List ℕ) → List ℕ → Type 0

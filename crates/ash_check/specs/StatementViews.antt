@@ -21,7 +21,18 @@ locals_of locals = map binding_of locals.items
 
 -- what a statement sees, with these locals
 abbrev pub scope_of : scope.Scope → List Declared → Scope
-scope_of s locals = record { env = record { declarations = signatures_of s.signatures.now; registered = registered s.registry.now; this = s.this; locals = locals }; first = s.block_start; gives = s.result; in_loop = s.in_loop; in_switch = s.in_switch }
+scope_of s locals = record {
+  env = record {
+    declarations = signatures_of s.signatures.now;
+    registered = registered s.registry.now;
+    this = s.this;
+    locals = locals;
+  };
+  first = s.block_start;
+  result = s.result;
+  in_loop = s.in_loop;
+  in_switch = s.in_switch;
+}
 
 abbrev pub values_of : Vec initialization_code.Initialization Global → List Initialization
 values_of values = map value_of values.items

@@ -13,8 +13,10 @@ use Rattle.ash_typed.specs.declared.tree.expressions.Expr as typed_expr
 use Rattle.ash_tree.specs.Tree as written
 use Rattle.ash_typing.specs.TypingResult.{TypingResult, ◌>>=◌}
 use Rattle.ash_typing.specs.Environment.{Environment, inside}
-use Rattle.ash_typing.specs.Items.{Names, Row, Signatures, Listed, Members, Walked, no_members, members_typed, class_of_members}
-use Rattle.ash_typed.specs.Modules.{Implementation, Class, variables_of, signature_of, implementation_of, class_of, module_of}
+use Rattle.ash_typing.specs.Items.{Names, Row, Signatures, Listed, Members, Walked, no_members, members_typed}
+use Rattle.ash_typing.specs.Items.{class_of_members}
+use Rattle.ash_typed.specs.Modules.{Implementation, Class, variables_of, signature_of, implementation_of, class_of}
+use Rattle.ash_typed.specs.Modules.{module_of}
 use Rattle.ash_typed.specs.declared.tree.items.Variables as variables
 use Rattle.ash_typed.specs.declared.tree.items.Class as class
 use Rattle.ash_typed.specs.declared.tree.items.Module as script
@@ -33,7 +35,12 @@ abbrev pub names_of : names.Names → Names
 names_of n = record { registered = registered_in n.registry; taken = texts n.taken.keys; room = n.room }
 
 abbrev pub routine_of : routine.Routine → Routine
-routine_of c = record { place = c.place; name = c.name.now; parameters = map parameter_of c.parameters.now; body = map stmt_of c.body.now }
+routine_of c = record {
+  place = c.place;
+  name = c.name.now;
+  parameters = map parameter_of c.parameters.now;
+  body = map stmt_of c.body.now;
+}
 
 -- the methods of an interface so far, and the interfaces that a class lists so far
 
@@ -64,4 +71,5 @@ optional_expr value = option_map expr_of value
 
 -- the class of this place, with the interfaces that it lists
 abbrev pub class_with : Environment → ℕ → written.Class → List Implementation → TypingResult Class
-class_with env place c listed = members_typed (inside env place) (no_members c listed) c.members >>= λ ms. Ok (class_of_members ms)
+class_with env place c listed =
+    members_typed (inside env place) (no_members c listed) c.members >>= λ ms. Ok (class_of_members ms)

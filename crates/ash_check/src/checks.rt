@@ -14,9 +14,10 @@ ghost use Rattle.ash_typing.specs.Items as definition;
 ghost use Rattle.ash_typing.specs.Nesting.{ItemsDeclareInBlocks};
 ghost use Rattle.ash_typing.specs.TypedModules.{IsTyped};
 ghost use Rattle.ash_classes.specs.References.{Refers, classes_of, seen};
-ghost use Rattle.ash_classes.specs.Ways.{IsReported, Reaches, AreRanks};
+ghost use Rattle.ash_classes.specs.Ways.{IsReportedCycle, Reaches, AreRanks};
 ghost use Rattle.ash_check.specs.CheckedModules.{IsChecked};
-ghost use Rattle.ash_check.specs.Checks.{Broken, Cyclic, checked, Reports, script_fault_of, name_at, round_of, GoesRoundIfCyclic};
+ghost use Rattle.ash_check.specs.Checks.{Broken, Cyclic, checked, Reports, script_fault_of};
+ghost use Rattle.ash_check.specs.Checks.{name_at, round_of, GoesRoundIfCyclic};
 
 use crate::checked::Checked;
 use crate::faults::{CheckFault, ClassNames};
@@ -74,10 +75,13 @@ fn check_against(
 ) -> Result<Checked, CheckFault>
     requires nested { ItemsDeclareInBlocks (written_module script.now) }
     ensures answer { MatchResult result
-        (λ done. checked (table.registered registry.now) (written_module script.now) ≡ Ok (module_of done.typed))
-        (λ fault. Reports (checked (table.registered registry.now) (written_module script.now)) fault) }
+        (λ done. checked (table.registered registry.now) (written_module script.now)
+        ≡ Ok (module_of done.typed))
+        (λ fault. Reports
+        (checked (table.registered registry.now) (written_module script.now)) fault) }
     ensures typed { IfOk result (λ done.
-        IsTyped (table.registered registry.now) (written_module script.now) (module_of done.typed)) }
+        IsTyped (table.registered registry.now) (written_module script.now)
+        (module_of done.typed)) }
     ensures ranks { IfOk result (λ done. AreRanks (Refers (classes_of (written_module script.now)))
         (length (classes_of (written_module script.now))) done.ranks) }
     ensures registered { IfOk result (λ done. done.registered ≡ table.registered registry.now) }
@@ -86,7 +90,8 @@ fn check_against(
     ensures acyclic { OnOk result ((class : ℕ) →
         Reaches (Refers (classes_of (written_module script.now))) class class → ⊥) }
     ensures round { IfErr result
-        (λ fault. GoesRoundIfCyclic (classes_of (written_module script.now)) (script_fault_of fault)) }
+        (λ fault. GoesRoundIfCyclic
+        (classes_of (written_module script.now)) (script_fault_of fault)) }
 {
     let module = check_module(alloc, registry, script)?;
     match class_ranks(alloc, script)? {
@@ -115,7 +120,8 @@ pub fn check(
 ) -> Result<Checked, CheckFault>
     requires nested { ItemsDeclareInBlocks (written_module script.now) }
     ensures answer { MatchResult result
-        (λ done. checked (registered registry.now) (written_module script.now) ≡ Ok (module_of done.typed))
+        (λ done. checked (registered registry.now) (written_module script.now)
+        ≡ Ok (module_of done.typed))
         (λ fault. Reports (checked (registered registry.now) (written_module script.now)) fault) }
     ensures typed { IfOk result (λ done.
         IsTyped (registered registry.now) (written_module script.now) (module_of done.typed)) }
@@ -127,7 +133,8 @@ pub fn check(
     ensures acyclic { OnOk result ((class : ℕ) →
         Reaches (Refers (classes_of (written_module script.now))) class class → ⊥) }
     ensures round { IfErr result
-        (λ fault. GoesRoundIfCyclic (classes_of (written_module script.now)) (script_fault_of fault)) }
+        (λ fault. GoesRoundIfCyclic
+        (classes_of (written_module script.now)) (script_fault_of fault)) }
 {
     check_against(alloc, registry.registrations(), script)
 }
@@ -147,7 +154,9 @@ pub fn check_is_exact()
     ensures names { (calls : List Registration) (items : List Item) (names : List (List ℕ)) →
         (checked calls items ≡ Err (Cyclic names)) ↔
         ((typed : modules.Module) × (first : ℕ) × (others : List ℕ) × IsTyped calls items typed ×
-        IsReported (Refers (classes_of items)) first others × (names ≡ round_of (classes_of items) (first, others))) }
+        IsReportedCycle (Refers (classes_of items)) first others ×
+        (names ≡ round_of (classes_of items) (first, others))) }
     ensures broken { (calls : List Registration) (items : List Item) (fault : Fault) →
-        (checked calls items ≡ Err (Broken fault)) ↔ (definition.module_typed calls items ≡ Err fault) }
+        (checked calls items ≡ Err (Broken fault))
+        ↔ (definition.module_typed calls items ≡ Err fault) }
 {}

@@ -33,7 +33,8 @@ pub(crate) struct Names<'a> {
 
 /// Inserts a name, unless it is among them: whether it was not.
 fn insert_name<'a>(names: &mut IndexSet<&'a str>, name: &'a str) -> Result<bool, AllocError>
-    ensures new { IfOk result (λ new. new ≡ not (list_any (bytes_eq name.now) (texts names.old.keys))) }
+    ensures new { IfOk result
+        (λ new. new ≡ not (list_any (bytes_eq name.now) (texts names.old.keys))) }
     ensures names { IfOk result (λ new. texts names.new.keys ≡ (if new
         then texts names.old.keys ++ name.now ∷ [] else texts names.old.keys)) }
 {

@@ -47,7 +47,7 @@ fn function_signature<'a>(
 ) -> Result<FunctionSignature<'a>, AllocError>
     ensures { IfOk result
         (λ f. function_signature_of f
-        ≡ definition.function_head (registered registry.now) (signatures_of type_names.now)
+        ≡ definition.function_declaration (registered registry.now) (signatures_of type_names.now)
         (written_function function.now)) }
 {
     let parameters = parameter_types(alloc, registry, type_names, &function.parameters)?;
@@ -66,7 +66,7 @@ fn method_signature<'a>(
 ) -> Result<FunctionSignature<'a>, AllocError>
     ensures { IfOk result
         (λ f. function_signature_of f
-        ≡ definition.signature_head (registered registry.now) (signatures_of type_names.now)
+        ≡ definition.signature_declaration (registered registry.now) (signatures_of type_names.now)
         (interface_method_of method.now)) }
 {
     let parameters = parameter_types(alloc, registry, type_names, &method.parameters)?;
@@ -85,7 +85,7 @@ fn interface_methods<'a>(
 ) -> Result<Vec<FunctionSignature<'a>>, AllocError>
     ensures { IfOk result
         (λ all. map function_signature_of all.items
-        ≡ map (definition.signature_head (registered registry.now) (signatures_of type_names.now))
+        ≡ map (definition.signature_declaration (registered registry.now) (signatures_of type_names.now))
         (map interface_method_of declared.now)) }
 {
     let mut all = Vec::new(alloc);
@@ -103,7 +103,7 @@ fn interface_signature<'a>(
 ) -> Result<InterfaceSignature<'a>, AllocError>
     ensures { IfOk result
         (λ i. interface_signature_of i
-        ≡ definition.interface_head (registered registry.now) (signatures_of type_names.now)
+        ≡ definition.interface_declaration (registered registry.now) (signatures_of type_names.now)
         (written_interface interface.now)) }
 {
     let methods = interface_methods(alloc, registry, type_names, &interface.methods)?;
@@ -163,7 +163,7 @@ fn class_methods<'a>(
 ) -> Result<Vec<FunctionSignature<'a>>, AllocError>
     ensures { IfOk result
         (λ all. map function_signature_of all.items
-        ≡ map (definition.function_head (registered registry.now) (signatures_of type_names.now))
+        ≡ map (definition.function_declaration (registered registry.now) (signatures_of type_names.now))
         (by_kind.methods_of (map member_of members.now))) }
 {
     let mut all = Vec::new(alloc);
@@ -234,7 +234,7 @@ fn class_signature<'a>(
 ) -> Result<ClassSignature<'a>, AllocError>
     ensures { IfOk result
         (λ c. class_signature_of c
-        ≡ definition.class_head (registered registry.now) (signatures_of type_names.now)
+        ≡ definition.class_declaration (registered registry.now) (signatures_of type_names.now)
         (written_class class.now)) }
 {
     let interfaces = listed_interfaces(alloc, registry, type_names, &class.interfaces)?;
@@ -258,7 +258,7 @@ fn interface_signatures<'a>(
 ) -> Result<Vec<InterfaceSignature<'a>>, AllocError>
     ensures { IfOk result
         (λ all. map interface_signature_of all.items
-        ≡ map (definition.interface_head (registered registry.now) (signatures_of type_names.now))
+        ≡ map (definition.interface_declaration (registered registry.now) (signatures_of type_names.now))
         (by_kind.interfaces_of (map item_of items.now))) }
 {
     let mut all = Vec::new(alloc);
@@ -278,7 +278,7 @@ fn class_signatures<'a>(
 ) -> Result<Vec<ClassSignature<'a>>, AllocError>
     ensures { IfOk result
         (λ all. map class_signature_of all.items
-        ≡ map (definition.class_head (registered registry.now) (signatures_of type_names.now))
+        ≡ map (definition.class_declaration (registered registry.now) (signatures_of type_names.now))
         (by_kind.classes_of (map item_of items.now))) }
 {
     let mut all = Vec::new(alloc);
@@ -298,7 +298,7 @@ fn function_signatures<'a>(
 ) -> Result<Vec<FunctionSignature<'a>>, AllocError>
     ensures { IfOk result
         (λ all. map function_signature_of all.items
-        ≡ map (definition.function_head (registered registry.now) (signatures_of type_names.now))
+        ≡ map (definition.function_declaration (registered registry.now) (signatures_of type_names.now))
         (by_kind.functions_of (map item_of items.now))) }
 {
     let mut all = Vec::new(alloc);

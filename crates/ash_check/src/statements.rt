@@ -20,7 +20,7 @@ use crate::scopes::Scope;
 use crate::switches::{LabelContext, check_label, integer_type_in, is_last};
 use ash_expressions::{Binding, CheckResult, Position, check_expr, check_exprs, integer_type};
 use ash_tree::{Case, Expr, Place, Stmt, StmtKind, Vars};
-use ash_typed::{Case as TypedCase, Kind, Stmt as TypedStmt, StmtKind as TypedKind, nodes};
+use ash_typed::{Case as TypedCase, IntType, Stmt as TypedStmt, StmtKind as TypedKind, nodes};
 
 /// The branches of `if` with `else`.
 #[derive(Clone, Copy)]
@@ -347,8 +347,8 @@ fn check_switch<'n>(
         ..*scope
     };
     let labels = check_cases(&chosen, locals, integer_type_in(value.ty), labels)?;
-    let of = integer_type(value.at, value.ty)?;
-    Ok(nodes::switch(place.line, of, value.tree, labels))
+    let int_type = integer_type(value.at, value.ty)?;
+    Ok(nodes::switch(place.line, int_type, value.tree, labels))
 }
 
 /// Checks labels in their order, with the statements after each.
@@ -356,11 +356,11 @@ fn check_switch<'n>(
 fn check_cases<'n>(
     scope: &Scope<'_, 'n>,
     locals: &mut Vec<Binding<'n>>,
-    kind: Option<Kind>,
+    int_type: Option<IntType>,
     labels: &'n [Case],
 ) -> CheckResult<Vec<TypedCase>>
     ensures typed { Agrees cases_in result
-        (definition.cases_typed (scope_of scope.now (locals_of locals.old)) kind []
+        (definition.cases_typed (scope_of scope.now (locals_of locals.old)) int_type []
         (cases (map written.case_of labels.now))) }
     ensures unchanged { IfOk result (λ _. locals_of locals.new ≡ locals_of locals.old) }
 {
@@ -369,7 +369,7 @@ fn check_cases<'n>(
     for (i, case) in labels.iter().enumerate() {
         let last = is_last(labels, i);
         let context = LabelContext {
-            kind,
+            int_type,
             before: &before,
             is_last: last,
         };

@@ -10,38 +10,38 @@ ghost use Rattle.ash_expressions.specs.Agreement.{Agrees};
 
 use ash_expressions::{CheckResult, fault_at, holds};
 use ash_tree::{Case, Label};
-use ash_typed::Kind;
+use ash_typed::IntType;
 use ash_typing::{Rule, Ty};
 
 /// The integer type of the value, where it has one.
-pub(crate) fn integer_type_in(of: Ty) -> Option<Kind>
-    ensures { result ≡ definition.kind_in of }
+pub(crate) fn integer_type_in(of: Ty) -> Option<IntType>
+    ensures { result ≡ definition.integer_type_in of }
 {
     match of {
-        Ty::Integer(kind) => Some(kind),
+        Ty::Integer(int_type) => Some(int_type),
         _ => None,
     }
 }
 
 /// Whether a type holds what is this much below zero.
-fn holds_minus(kind: Kind, number: u64) -> bool
-    ensures { result ≡ constants.holds_minus kind number }
+fn holds_minus(int_type: IntType, number: u64) -> bool
+    ensures { result ≡ constants.holds_minus int_type number }
 {
-    match kind {
-        Kind::Int => number <= 1 << 31,
-        Kind::Int64 => number <= 1 << 63,
-        Kind::Uint | Kind::Uint64 => number == 0,
+    match int_type {
+        IntType::Int => number <= 1 << 31,
+        IntType::Int64 => number <= 1 << 63,
+        IntType::Uint | IntType::Uint64 => number == 0,
     }
 }
 
 /// Whether a type holds the constant of a label. No range is known without an integer type.
 #[tactic(auto, unfolding(ash_typing::specs::Switches::is_within))]
-fn is_within(kind: Option<Kind>, label: Label) -> bool
-    ensures { result ≡ definition.is_within kind label }
+fn is_within(int_type: Option<IntType>, label: Label) -> bool
+    ensures { result ≡ definition.is_within int_type label }
 {
-    match (kind, label) {
-        (Some(kind), Label::Case(number)) => holds(kind, number),
-        (Some(kind), Label::CaseMinus(number)) => holds_minus(kind, number),
+    match (int_type, label) {
+        (Some(int_type), Label::Case(number)) => holds(int_type, number),
+        (Some(int_type), Label::CaseMinus(number)) => holds_minus(int_type, number),
         _ => true,
     }
 }
@@ -81,7 +81,7 @@ pub(crate) fn is_last(labels: &[Case], i: usize) -> bool
 /// What a label is checked against: the integer type of the value, where it has one, and the other labels.
 #[derive(Clone, Copy)]
 pub(crate) struct LabelContext<'a> {
-    pub(crate) kind: Option<Kind>,
+    pub(crate) int_type: Option<IntType>,
     pub(crate) before: &'a [Label],
     pub(crate) is_last: bool,
 }
@@ -89,14 +89,14 @@ pub(crate) struct LabelContext<'a> {
 /// The constant of a label at this offset, after the labels before it.
 #[tactic(auto, unfolding(ash_typing::specs::Switches::constant_typed))]
 fn check_constant(
-    kind: Option<Kind>,
+    int_type: Option<IntType>,
     before: &[Label],
     at: usize,
     label: Label,
 ) -> CheckResult<Label>
-    ensures { Agrees (λ l. l) result (definition.constant_typed kind before.now at label) }
+    ensures { Agrees (λ l. l) result (definition.constant_typed int_type before.now at label) }
 {
-    if !is_within(kind, label) {
+    if !is_within(int_type, label) {
         return Err(fault_at(Rule::ConstantOutOfRange, at));
     }
     if any_is_same(before, label) {
@@ -109,8 +109,8 @@ fn check_constant(
 #[tactic(auto, unfolding(ash_typing::specs::Switches::label_typed))]
 pub(crate) fn check_label(context: LabelContext, at: usize, label: Label) -> CheckResult<Label>
     ensures { Agrees (λ l. l) result
-        (definition.label_typed context.entry.kind context.entry.before.now context.entry.is_last at
-        label) }
+        (definition.label_typed context.entry.int_type context.entry.before.now
+        context.entry.is_last at label) }
 {
     match label {
         Label::Default => {
@@ -119,6 +119,6 @@ pub(crate) fn check_label(context: LabelContext, at: usize, label: Label) -> Che
             }
             Ok(label)
         }
-        _ => check_constant(context.kind, context.before, at, label),
+        _ => check_constant(context.int_type, context.before, at, label),
     }
 }

@@ -1,11 +1,11 @@
 //! What is declared where expressions are checked by themselves.
 
 use ash_expressions::{Binding, ClassSignature, FunctionSignature, InterfaceSignature, Signatures};
-use ash_typed::{Element, Kind, ObjectType};
+use ash_typed::{Element, IntType, ObjectType};
 use ash_typing::Ty;
 use std::alloc::{AllocError, Global};
 
-const INT: Ty = Ty::Integer(Kind::Int);
+const INT: Ty = Ty::Integer(IntType::Int);
 
 const NODE: Ty = Ty::Handle(ObjectType::Class(0));
 
@@ -27,15 +27,15 @@ const METHODS: &[Signature] = &[("get", INT, &[INT])];
 // `void g(int k, bool c) {}`, beside these two.
 const GLOBALS: &[Named] = &[
     ("a", INT),
-    ("u", Ty::Integer(Kind::Uint)),
-    ("l", Ty::Integer(Kind::Int64)),
+    ("u", Ty::Integer(IntType::Uint)),
+    ("l", Ty::Integer(IntType::Int64)),
     ("b", Ty::Bool),
     ("h", NODE),
     ("o", Ty::Object(ObjectType::Class(0))),
     ("s", SHAPE),
     (
         "r",
-        Ty::Object(ObjectType::Array(Element::Integer(Kind::Int))),
+        Ty::Object(ObjectType::Array(Element::Integer(IntType::Int))),
     ),
     ("t", Ty::Handle(ObjectType::Array(Element::Class(0)))),
 ];

@@ -5,7 +5,7 @@ use Rattle.std.proofs.Common.{inl, inr, refl, sym, ap₂, subst, subst₂, arith
 use Rattle.std.proofs.lemmas.List.{length-map}
 use Rattle.std.proofs.lemmas.Option.{slice_get_within}
 use Rattle.ash_tree.specs.Tree.{Class}
-use Rattle.ash_classes.specs.Ways.{IsWay, Reaches, IsNoLater, IsForemost, IsReported, AreRanks}
+use Rattle.ash_classes.specs.Ways.{IsWay, Reaches, IsNoLater, IsForemost, IsReportedCycle, AreRanks}
 use Rattle.ash_classes.specs.Marking.{rows_of, Goes, AreWithin}
 use Rattle.ash_classes.specs.References.{Refers}
 
@@ -25,7 +25,7 @@ same_acyclic R Q same h =
     λ place round. h place (round.0, same_way Q R (λ from to. (same from to).1) place round.0 place round.1)
 
 pub same_cycle : (R Q : ℕ → ℕ → Type 0) (first : ℕ) (others : List ℕ) → ((from to : ℕ) → R from to ↔ Q from to)
-    → IsReported R first others → IsReported Q first others
+    → IsReportedCycle R first others → IsReportedCycle Q first others
 same_cycle R Q first others same h =
     let there : (from to : ℕ) → R from to → Q from to = λ from to. (same from to).0 in
     let back : (from to : ℕ) → Q from to → R from to = λ from to. (same from to).1 in
@@ -59,8 +59,9 @@ same_round R from to xs ys h k =
     let e : length xs ≡ length ys = omega (arith, h.shortest ys k.way, k.shortest xs h.way) in
     same_order xs ys e (h.foremost ys k.way (sym e)) (k.foremost xs h.way e)
 
-pub only_cycle : (R : ℕ → ℕ → Type 0) (first : ℕ) (others : List ℕ) → IsReported R first others → (a : ℕ) (bs : List ℕ)
-    → IsReported R a bs → (a ≡ first) × (bs ≡ others)
+pub only_cycle : (R : ℕ → ℕ → Type 0) (first : ℕ) (others : List ℕ) → IsReportedCycle R first others
+    → (a : ℕ) (bs : List ℕ)
+    → IsReportedCycle R a bs → (a ≡ first) × (bs ≡ others)
 only_cycle R first others h a bs k =
     let e : a ≡ first = omega (arith, h.earliest a (bs, k.round.way), k.earliest first (others, h.round.way)) in
     (e, same_round R first first bs others (subst (λ (n : ℕ). IsForemost R n bs n) e k.round) h.round)

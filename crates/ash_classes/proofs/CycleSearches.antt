@@ -10,9 +10,10 @@ use Rattle.std.specs.List.{Any, list_any}
 use Rattle.std.specs.Option.{option_or}
 use Rattle.ash_tree.specs.Tree.{Element, PrimElement, HandleElement, Named, Prim, Object, Handle, Array, ArrayHandle}
 use Rattle.ash_tree.specs.Tree.{Member, AField, AMethod, AConstructor, Class}
-use Rattle.ash_classes.specs.Ways.{IsWay, Reaches, IsNoLater, IsForemost, IsReported}
+use Rattle.ash_classes.specs.Ways.{IsWay, Reaches, IsNoLater, IsForemost, IsReportedCycle}
 use Rattle.ash_classes.specs.References.{IsOf, ElementNames, Names, Holds, RefersTo, Refers}
-use Rattle.ash_classes.specs.ReportedCycle.{is_of, element_names, names, holds, refers_to, refers, refers_at, first_below}
+use Rattle.ash_classes.specs.ReportedCycle.{is_of, element_names, names, holds, refers_to, refers, refers_at}
+use Rattle.ash_classes.specs.ReportedCycle.{first_below}
 use Rattle.ash_classes.specs.ReportedCycle.{foremost, shortest_back, first_round, reported_cycle}
 use Rattle.ash_classes.proofs.CycleLaws.{only_cycle}
 use Rattle.ash_classes.proofs.Shortcuts.{end_within, short_round}
@@ -159,13 +160,13 @@ module _ (R : ℕ → ℕ → Type 0) (goes : ℕ → ℕ → Bool) (places : �
       (below_none (λ count. foremost goes places count place place) places h (length short.0) short.2) short.0
       short.1 refl
 
-  round_some : (first : ℕ) (others : List ℕ) → first_round goes places ≡ Some (first, others) → IsReported R first others
+  round_some : (first : ℕ) (others : List ℕ) → first_round goes places ≡ Some (first, others) → IsReportedCycle R first others
   round_some first others h =
       let place = below_some
       (λ first. option_map (λ others. (first, others)) (shortest_back goes places first)) places (first, others)
       h in
       let back = map_some (λ others. (place.0, others)) (shortest_back goes places place.0) (first, others) place.2 in
-      let reported : IsReported R place.0 back.0 = record {
+      let reported : IsReportedCycle R place.0 back.0 = record {
         round = back_some place.0 back.0 back.1;
         earliest = λ other round. elim (cases_lt other place.0) [
           | inl lower ↦
@@ -174,7 +175,7 @@ module _ (R : ℕ → ℕ → Type 0) (goes : ℕ → ℕ → Bool) (places : �
           | inr higher ↦ higher
         ];
       } in
-      subst (λ (pair : ℕ × List ℕ). IsReported R pair.0 pair.1) back.2 reported
+      subst (λ (pair : ℕ × List ℕ). IsReportedCycle R pair.0 pair.1) back.2 reported
 
   round_none : first_round goes places ≡ None → (place : ℕ) → Reaches R place place → ⊥
   round_none h place round =
@@ -243,7 +244,7 @@ place_within classes from to h = slice_get_within classes to h.0 h.1
 -- what the search finds is what is reported
 
 pub cycle_if_some : (classes : List Class) (first : ℕ) (others : List ℕ) → reported_cycle classes ≡ Some (first, others)
-    → IsReported (Refers classes) first others
+    → IsReportedCycle (Refers classes) first others
 cycle_if_some classes =
     round_some (Refers classes) (refers_at classes) (length classes) (refers_at-Decides classes) (place_within classes)
 
@@ -252,7 +253,7 @@ pub acyclic_if_none : (classes : List Class) → reported_cycle classes ≡ None
 acyclic_if_none classes =
     round_none (Refers classes) (refers_at classes) (length classes) (refers_at-Decides classes) (place_within classes)
 
-pub some_if_cycle : (classes : List Class) (first : ℕ) (others : List ℕ) → IsReported (Refers classes) first others
+pub some_if_cycle : (classes : List Class) (first : ℕ) (others : List ℕ) → IsReportedCycle (Refers classes) first others
     → reported_cycle classes ≡ Some (first, others)
 some_if_cycle classes first others reported = elim (none_or_some (reported_cycle classes)) [
   | inl none ↦ absurd (acyclic_if_none classes none first (others, reported.round.way))
@@ -270,7 +271,7 @@ none_if_acyclic classes acyclic = elim (none_or_some (reported_cycle classes)) [
 ]
 
 pub reported_is : (classes : List Class) (first : ℕ) (others : List ℕ)
-    → (reported_cycle classes ≡ Some (first, others)) ↔ IsReported (Refers classes) first others
+    → (reported_cycle classes ≡ Some (first, others)) ↔ IsReportedCycle (Refers classes) first others
 reported_is classes first others = (cycle_if_some classes first others, some_if_cycle classes first others)
 
 pub none_is_reported : (classes : List Class)

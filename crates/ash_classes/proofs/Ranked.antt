@@ -100,7 +100,7 @@ fewer (Some x ∷ xs) (Some y ∷ ys) (suc place) at e h within none some =
 pub record IsRank (R : ℕ → ℕ → Type 0) (places place rank : ℕ) : Type 0 where
   pub marks : List (Option ℕ)
   pub distances : AreDistances R places place marks
-  pub alone : get_or marks place None ≡ None
+  pub itself_unmarked : get_or marks place None ≡ None
   pub counted : rank + 1 ≡ unmarked marks
 
 -- the places before one have their ranks
@@ -115,7 +115,7 @@ none_ranked R places = record { count = refl; each = λ place h. absurd (omega (
 pub not_round : (R : ℕ → ℕ → Type 0) (places place rank : ℕ) → IsRank R places place rank → Reaches R place place → ⊥
 not_round R places place rank r round =
     let near = r.distances.least place round.0 round.1 in
-    none-some near.0 (sym r.alone ∙ near.1)
+    none-some near.0 (sym r.itself_unmarked ∙ near.1)
 
 pub one_ranked : (R : ℕ → ℕ → Type 0) (places before rank : ℕ) (ranks : List ℕ) → AreRanked R places before ranks
     → IsRank R places before rank → AreRanked R places (before + 1) (ranks ++ rank ∷ [])
@@ -152,7 +152,7 @@ greater_of R places from to high low within step f t =
     let near = t.distances.least from [] step in
     let less : unmarked t.marks < unmarked f.marks =
     fewer f.marks t.marks from near.0 (f.distances.long ∙ sym t.distances.long) covered
-    (omega (arith, within, f.distances.long)) f.alone near.1 in
+    (omega (arith, within, f.distances.long)) f.itself_unmarked near.1 in
     omega (arith, less, f.counted, t.counted)
 
 pub row_of_place : (rows : List (List ℕ)) (from to : ℕ) → Goes rows from to → to < length rows

@@ -71,7 +71,7 @@ abbrev pub first_round : (ℕ → ℕ → Bool) → ℕ → Option (ℕ × List 
 first_round goes places =
     first_below (λ first. option_map (λ others. (first, others)) (shortest_back goes places first)) places
 
--- `reported_cycle classes` is the cycle of classes that is reported, by their places, or none where no class leads back to
--- itself.
+-- `reported_cycle classes` is the cycle of classes that is reported, by their places, or none where no class leads back
+-- to itself.
 abbrev pub reported_cycle : List Class → Option (ℕ × List ℕ)
 reported_cycle classes = first_round (refers_at classes) (length classes)

@@ -24,7 +24,7 @@ pub record IsForemost (Goes : ℕ → ℕ → Type 0) (from : ℕ) (between : Li
   pub foremost : (other : List ℕ) → IsWay Goes from other to → length other ≡ length between → IsNoLater between other
 
 -- The cycle that is reported goes from the first place that reaches itself by the foremost of its shortest ways back.
-pub record IsReported (Goes : ℕ → ℕ → Type 0) (first : ℕ) (others : List ℕ) : Type 0 where
+pub record IsReportedCycle (Goes : ℕ → ℕ → Type 0) (first : ℕ) (others : List ℕ) : Type 0 where
   pub round : IsForemost Goes first others first
   pub earliest : (other : ℕ) → Reaches Goes other other → first ≤ other
 

@@ -3,7 +3,7 @@
 ghost use Rattle.std.specs.Prelude.{◌≡◌, ◌↔◌, ℕ, List, Some, None, length, IfOk, IfErr, OnOk};
 ghost use Rattle.ash_tree.specs.Tree.{Class};
 ghost use Rattle.ash_tree.specs.Views.{module_of};
-ghost use Rattle.ash_classes.specs.Ways.{IsReported, Reaches, AreRanks};
+ghost use Rattle.ash_classes.specs.Ways.{IsReportedCycle, Reaches, AreRanks};
 ghost use Rattle.ash_classes.specs.References.{Refers, classes_of};
 ghost use Rattle.ash_classes.specs.ReportedCycle.{reported_cycle};
 
@@ -25,12 +25,14 @@ pub fn class_ranks(alloc: Global, script: &Module) -> Result<Result<Vec<usize>, 
         OnOk answer ((class : ℕ) → Reaches (Refers (classes_of (module_of script.now))) class class
         → ⊥)) }
     ensures cycle { IfOk result (λ answer. IfErr answer (λ cycle.
-        IsReported (Refers (classes_of (module_of script.now))) cycle.first cycle.others.items)) }
+        IsReportedCycle (Refers (classes_of (module_of script.now)))
+        cycle.first cycle.others.items)) }
     ensures only { IfOk result (λ answer. IfErr answer (λ cycle. (first : ℕ) (others : List ℕ)
-        → IsReported (Refers (classes_of (module_of script.now))) first others
+        → IsReportedCycle (Refers (classes_of (module_of script.now))) first others
         → (first ≡ cycle.first) × (others ≡ cycle.others.items))) }
     ensures reported { IfOk result (λ answer. IfErr answer (λ cycle.
-        reported_cycle (classes_of (module_of script.now)) ≡ Some (cycle.first, cycle.others.items))) }
+        reported_cycle (classes_of (module_of script.now))
+        ≡ Some (cycle.first, cycle.others.items))) }
     ensures none { IfOk result (λ answer.
         OnOk answer (reported_cycle (classes_of (module_of script.now)) ≡ None)) }
 {
@@ -42,7 +44,9 @@ pub fn class_ranks(alloc: Global, script: &Module) -> Result<Result<Vec<usize>, 
 /// The search for a cycle finds the one that is reported, and none exactly where no class reaches itself.
 pub fn search_is_exact()
     ensures reported { (classes : List Class) (first : ℕ) (others : List ℕ)
-        → (reported_cycle classes ≡ Some (first, others)) ↔ IsReported (Refers classes) first others }
+        → (reported_cycle classes ≡ Some (first, others))
+        ↔ IsReportedCycle (Refers classes) first others }
     ensures none { (classes : List Class)
-        → (reported_cycle classes ≡ None) ↔ ((class : ℕ) → Reaches (Refers classes) class class → ⊥) }
+        → (reported_cycle classes ≡ None)
+        ↔ ((class : ℕ) → Reaches (Refers classes) class class → ⊥) }
 {}

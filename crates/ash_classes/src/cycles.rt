@@ -1,7 +1,7 @@
 //! Ranks of places, each greater than those of the places that one goes to from there; or a way round.
 
 ghost use Rattle.std.specs.Prelude.{◌≡◌, ℕ, length, IfOk, IfErr, OnOk};
-ghost use Rattle.ash_classes.specs.Ways.{IsForemost, IsReported, Reaches, AreRanks};
+ghost use Rattle.ash_classes.specs.Ways.{IsForemost, IsReportedCycle, Reaches, AreRanks};
 ghost use Rattle.ash_classes.specs.Marking.{rows_of, Goes, AreWithin, IsAt, AreDistances, IsNearest, unmarked};
 
 use crate::distances::distances_to;
@@ -82,7 +82,7 @@ pub(crate) fn ranks(
     ensures acyclic { IfOk result (λ answer.
         OnOk answer ((place : ℕ) → Reaches (Goes (rows_of referrers.now)) place place → ⊥)) }
     ensures cycle { IfOk result (λ answer. IfErr answer (λ cycle.
-        IsReported (Goes (rows_of referrers.now)) cycle.first cycle.others.items)) }
+        IsReportedCycle (Goes (rows_of referrers.now)) cycle.first cycle.others.items)) }
 {
     let mut ranks = Vec::new(alloc);
     for first in 0..referrers.len() {

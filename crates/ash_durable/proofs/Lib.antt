@@ -2,10 +2,13 @@ pub mod Answering
 pub mod Committing
 pub mod Composing
 pub mod ContentsStates
+pub mod CrashedDisks
 pub mod Faultless
 pub mod Finding
 pub mod GoingOn
+pub mod HandledRequests
 pub mod Handling
+pub mod LifeEvents
 pub mod LifeLaws
 pub mod LivesOn
 pub mod LongSources
@@ -16,6 +19,7 @@ pub mod Outcomes
 pub mod Parts
 pub mod Reading
 pub mod Refusing
+pub mod RequestOutcomes
 pub mod Requesting
 pub mod Running
 pub mod Settling

@@ -8,7 +8,7 @@ use Rattle.ash_durable.specs.Hosting.{Hosted, IsAnswer, Handles, HandlesAll}
 use Rattle.ash_durable.specs.Running.{IsFailure}
 use Rattle.ash_durable.specs.Lives.{Event, Acknowledged, InDoubt, UnderHost, Life, Replied, Unanswered, Failed, Records}
 use Rattle.ash_durable.specs.Lives.{LivesOn}
-use Rattle.ash_durable.proofs.LifeLaws.{handled_or_stopped}
+use Rattle.ash_durable.proofs.RequestOutcomes.{handled_or_stopped}
 
 -- the events of a request that is not answered
 abbrev MayRecord : ℕ → Request → Reply → List Event → Type 0

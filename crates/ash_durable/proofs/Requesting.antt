@@ -15,7 +15,7 @@ use Rattle.ash_durable.specs.Hosting.{Hosted, state_unless, IsRunning, IsHonest,
 use Rattle.ash_durable.specs.Hosting.{WasInstalled, WasLost}
 use Rattle.ash_durable.specs.Requests.{InstallsInto, TriesInstall, MakesRoom, CommitsWith, CommitsAnswer}
 use Rattle.ash_durable.proofs.Composing.{runs_in, honest_before}
-use Rattle.ash_durable.proofs.Handling.{seen_host, running_seen}
+use Rattle.ash_durable.proofs.HandledRequests.{seen_host, running_seen}
 
 -- at each state in which a host runs, of which there is one
 at_each : {D : Type 0} (state : State) (journal : Journal D) (P : State → Type 0) → P state → (other : State)

@@ -47,8 +47,7 @@ abbrev pub after_image : List ℕ → ℕ
 after_image image = 21 + length image
 
 -- The bytes at an offset have not the shape of an image, or of a record beside that image. The offset of a record is
--- that
--- of the gate before it, and the image's is 0.
+-- that of the gate before it, and the image's is 0.
 abbrev pub IsMisshapen : Contents → ℕ → Type 0
 IsMisshapen contents at =
     (((s : Snapshot) → Depicts contents.0 s → ⊥) × (at ≡ 0))

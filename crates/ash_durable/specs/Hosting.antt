@@ -8,7 +8,7 @@ use Rattle.ash_journal.specs.Journal.{first_disk, second_disk, generation, recor
 use Rattle.ash_registry.specs.Calls.{Registration}
 use Rattle.ash_meaning.specs.Refusals.{Refusal as Cause}
 use Rattle.ash_meaning.specs.Refusals as refusals
-use Rattle.ash_meaning.specs.Checking.{TakesMemoryToRefuse}
+use Rattle.ash_meaning.specs.CheckedSource.{TakesMemoryToRefuse}
 use Rattle.ash_meaning.specs.State.{State, Request, Load, Call, Discard, Global, Seq, Snapshot, Reply, Answered, Number}
 use Rattle.ash_meaning.specs.State.{Refused}
 use Rattle.ash_meaning.specs.Step.{Demand, Initialize, Run, Remove, RanOut, task_of, first_refusal, step}
@@ -195,8 +195,7 @@ Replies device budget request (Some state) old reply new =
 Replies device budget request None old reply new = (reply ≡ reply_stopped request old.seq) × (new ≡ old)
 
 -- One request of a host. Where it is answered, the new state is in the journal before the reply is given, and whatever
--- a
--- crash does afterwards leaves it there.
+-- a crash does afterwards leaves it there.
 pub record Handles {D : Type 0} (device : Device D) (budget : ℕ) (request : Request) (old : Hosted D) (reply : Reply)
     (new : Hosted D) : Type 0 where
   pub replies : Replies device budget request old.state old reply new

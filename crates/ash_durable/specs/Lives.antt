@@ -17,8 +17,7 @@ use Rattle.ash_durable.specs.declared.fault.OpenRefused.{OpenRefused}
 
 -- ---- events
 
--- What is known of a store by those who use it: a request was answered; a request is in doubt, handled or not; a
--- host
+-- What is known of a store by those who use it: a request was answered; a request is in doubt, handled or not; a host
 -- was opened, in this state.
 pub data Event : Type 0 where
   Acknowledged : (budget : ℕ) → (request : Request) → (end : End) → (seq : ℕ) → Event
@@ -55,10 +54,8 @@ IsCertain _ = Unit {0}
 -- ---- crashes
 
 -- Two honest disks take the place of two others after a crash: each image that they may leave now is one that the
--- others
--- might have left at a moment since two earlier times. After a power failure they may leave one image alone; after the
--- end
--- of the process, any that might be left at that moment.
+-- others might have left at a moment since two earlier times. After a power failure they may leave one image alone;
+-- after the end of the process, any that might be left at that moment.
 pub record Crashed {D : Type 0} (device : Device D) (a b : ℕ) (one other one' other' : D) : Type 0 where
   pub honest : AreHonest device one' other'
   pub left_first : (image : List ℕ) → device.leaves one' (device.clock one') image
@@ -115,9 +112,8 @@ second_at (UnderHost host) = second host
 second_at (OnDisks one other) = other
 
 -- A life of a store that has this registered, with its events, the newest first. Each way to go on is what the contract
--- of
--- a public call says, or a crash at any moment of one. It begins where a host is created, or where a crash on the way
--- there leaves the store; a crash that leaves no file open leaves no store.
+-- of a public call says, or a crash at any moment of one. It begins where a host is created, or where a crash on the
+-- way there leaves the store; a crash that leaves no file open leaves no store.
 pub data Life {D : Type 0} (device : Device D) (registered : List Registration) : List Event → Place D → Type 0 where
   -- a host is created
   Created : (a b : D) (host : Hosted D) → AreHonest device a b → WasCreated device registered a b host
@@ -210,7 +206,7 @@ pub record RunsOn {D : Type 0} (device : Device D) (registered : List Registrati
   pub running : (state : State) → host.state ≡ Some state → IsRunning state host
   pub led : (state : State) → IsRunning state host → LeadTo events (empty registered) state
   pub saved : IsSaved device host
-  pub alone : (state : State) → IsRunning state host → SettleNow device (first host) (second host) (IsOne state)
+  pub settles : (state : State) → IsRunning state host → SettleNow device (first host) (second host) (IsOne state)
 
 -- where the store is under a host, that host runs on
 abbrev pub RunsAt : {D : Type 0} → Device D → List Registration → List Event → Place D → Type 0

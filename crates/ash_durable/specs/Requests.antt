@@ -48,11 +48,11 @@ CommitsWith seq state old (Ok answer) new = IsRunning state new × HasOneMore st
 CommitsWith seq state old (Err refusal) new =
     (new.state ≡ None) × (new.seq ≡ seq) × WasLost old.journal (done_of (Err refusal)) new.journal
 
--- The state of a host, which a request has changed, was to be kept before the answer is given, beside the one before it
--- that the files held.
+-- The state of a host, which a request has changed, was to be stored before the answer is returned, beside the one
+-- before it that the files held.
 pub record CommitsAnswer {D : Type 0} (device : Device D) (seq : ℕ) (answer : Answer) (old : Hosted D)
     (result : Result Answer Refusal) (new : Hosted D) : Type 0 where
-  pub answer_same : (given : Answer) → result ≡ Ok given → given ≡ answer
+  pub answer_same : (returned : Answer) → result ≡ Ok returned → returned ≡ answer
   pub outcome : (state : State) → IsRunning state old → CommitsWith seq state old result new
   pub holds : OnOk result ((before state : State) → IsRunning state old → before.registered ≡ state.registered
       → HoldsState device before old.journal → HoldsState device state new.journal)

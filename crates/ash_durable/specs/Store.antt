@@ -35,8 +35,7 @@ IsFailed faults.DeviceFailed = Unit {0}
 IsFailed _ = ⊥
 
 -- Two disks are handed back: no count of failures fell, and one rose exactly where a failure is reported; they are as
--- honest
--- as they were.
+-- honest as they were.
 pub record HandsBack {D : Type 0} (device : Device D) (failed : Type 0) (a b a' b' : D) : Type 0 where
   pub failures : CountsFailures failed (device.failures a) (device.failures b) (device.failures a') (device.failures b')
   pub honesty_first : device.honest a' ≡ device.honest a
@@ -144,14 +143,12 @@ StoreFaultIs registered faults.DeviceFailed x y = Unit {0}
 StoreFaultIs registered faults.AlreadyThere x y = ⊥
 
 -- Calls add nothing to two files: at every moment of them a crash leaves the contents that it might have left before
--- they
--- began, and no others.
+-- they began, and no others.
 abbrev pub AddNothing : {D : Type 0} → Device D → D → D → D → D → Type 0
 AddNothing device a b a' b' = AreHonest device a b → Extends device a b a' b' Nothing
 
 -- A journal holds the image and the records that two files, as they read, held before, no record more and none less,
--- and
--- they are those of this state.
+-- and they are those of this state.
 pub record HoldsAsRead {D : Type 0} (device : Device D) (a b : D) (state : State) (journal : Journal D) : Type 0 where
   pub contents : Contents
   pub represented : Represent contents (device.seen a) (device.seen b)

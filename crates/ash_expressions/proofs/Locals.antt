@@ -1,5 +1,6 @@
 -- The last variable of a name in a row that grows at its end.
-use Rattle.std.proofs.Common.{◌≡◌, ℕ, ◌+◌, ◌-◌, suc, cond, List, [], ◌∷◌, ◌++◌, length, Option, Some, None, refl, sym, ap, ◌∙◌, ◌<◌, ◌≤◌, map, take, get_or, arith}
+use Rattle.std.proofs.Common.{◌≡◌, ℕ, ◌+◌, ◌-◌, suc, cond, List, [], ◌∷◌, ◌++◌, length, Option, Some, None, refl, sym}
+use Rattle.std.proofs.Common.{ap, ◌∙◌, ◌<◌, ◌≤◌, map, take, get_or, arith}
 use Rattle.std.specs.Str.{bytes_eq}
 use Rattle.std.proofs.lemmas.List.{map_more}
 use Rattle.std.proofs.Math.Seq.{length-take-le}
@@ -26,7 +27,8 @@ last_of_more name all i d h =
     let e : 0 + length before ≡ i = omega (arith, count) in
     ap (last_named name 0 None) (map_more binding_of all i d h) ∙ pushed name 0 None before (binding_of v) ∙ ap (λ k. cond (bytes_eq name v.name.now) (Some (k, v.of)) (last_named name 0 None before)) e
 
--- of the variables up to a place, the one right before it, where it has the name, else the last of those before that one
+-- of the variables up to a place, the one right before it, where it has the name, else the last of those before that
+-- one
 pub nearest : (name : List ℕ) (all : List code.Binding) (i : ℕ) (d : code.Binding) → 0 < i → i ≤ length all → last_named name 0 None (map binding_of (take i all)) ≡ cond (bytes_eq name (get_or all (i - 1) d).name.now) (Some (i - 1, (get_or all (i - 1) d).of)) (last_named name 0 None (map binding_of (take (i - 1) all)))
 nearest name all i d above within =
     let e : i ≡ (i - 1) + 1 = omega arith in

@@ -15,7 +15,8 @@ use Rattle.ash_tree.specs.Views.{element_of, expr_at, expr_of, suffix_of, operat
 use Rattle.ash_tree.proofs.Rows.{call_is, new_array_is, method_is, binary_is, postfix_is}
 use Rattle.ash_typing.specs.TypingResult.{◌>>=◌}
 use Rattle.ash_typing.specs.Environment.{Environment}
-use Rattle.ash_typing.specs.Expressions.{typed, all_typed, call_typed, array_typed, invocation_typed, links_typed, suffixes_typed, suffix_typed}
+use Rattle.ash_typing.specs.Expressions.{typed, all_typed, call_typed, array_typed, invocation_typed, links_typed}
+use Rattle.ash_typing.specs.Expressions.{suffixes_typed, suffix_typed}
 use Rattle.ash_expressions.specs.declared.typed_expr.TypedExpr as code_typed
 use Rattle.ash_expressions.specs.declared.error.CheckError.{CheckError}
 use Rattle.ash_expressions.specs.Agreement.{Agrees}

@@ -23,7 +23,8 @@ use Rattle.ash_expressions.specs.declared.operators.UnifiedOperands as unified
 use Rattle.ash_typing.specs.declared.types.Ty.{Ty}
 use Rattle.ash_typed.specs.declared.tree.expressions.Expr as expr_code
 use Rattle.ash_typing.specs.Types.{ty_of}
-use Rattle.ash_typing.specs.Environment.{Declared, Function, Interface, Class, ModuleDeclarations, Environment, Known, Callee, Invoked}
+use Rattle.ash_typing.specs.Environment.{Declared, Function, Interface, Class, ModuleDeclarations, Environment, Known}
+use Rattle.ash_typing.specs.Environment.{Callee, Invoked}
 use Rattle.ash_typing.specs.Expressions.{Typed, UnifiedOperands}
 
 abbrev pub typed_of : typed_expr.TypedExpr → Typed
@@ -39,13 +40,29 @@ abbrev pub interface_signature_of : interface.InterfaceSignature → Interface
 interface_signature_of i = record { name = i.name.now; methods = map function_signature_of i.methods.items }
 
 abbrev pub class_signature_of : class.ClassSignature → Class
-class_signature_of c = record { name = c.name.now; interfaces = c.interfaces.items; fields = map binding_of c.fields.items; methods = map function_signature_of c.methods.items; parameters = c.parameters.items }
+class_signature_of c = record {
+  name = c.name.now;
+  interfaces = c.interfaces.items;
+  fields = map binding_of c.fields.items;
+  methods = map function_signature_of c.methods.items;
+  parameters = c.parameters.items;
+}
 
 abbrev pub signatures_of : signatures.Signatures → ModuleDeclarations
-signatures_of h = record { interfaces = map interface_signature_of h.interfaces.items; classes = map class_signature_of h.classes.items; functions = map function_signature_of h.functions.items; globals = map binding_of h.globals.items }
+signatures_of h = record {
+  interfaces = map interface_signature_of h.interfaces.items;
+  classes = map class_signature_of h.classes.items;
+  functions = map function_signature_of h.functions.items;
+  globals = map binding_of h.globals.items;
+}
 
 abbrev pub environment_of : environment.Environment → Environment
-environment_of e = record { declarations = signatures_of e.signatures.now; registered = registered e.registry.now; this = e.this; locals = map binding_of e.locals.now }
+environment_of e = record {
+  declarations = signatures_of e.signatures.now;
+  registered = registered e.registry.now;
+  this = e.this;
+  locals = map binding_of e.locals.now;
+}
 
 -- the classes of the module
 abbrev pub classes_of : environment.Environment → List Class

@@ -14,7 +14,7 @@ use crate::error::{CheckResult, fault_at};
 use crate::parameters::Parameters;
 use crate::typed_expr::{TypedExpr, coerce, integer_type};
 use crate::types::ty_of_element;
-use ash_typed::{ArrayMethod, Element, Expr, Kind, Method, ObjectType, Target, nodes};
+use ash_typed::{ArrayMethod, Element, Expr, IntType, Method, ObjectType, Target, nodes};
 use ash_typing::{Callable, Rule, Ty};
 use std::alloc::Global;
 
@@ -26,7 +26,7 @@ fn array_parameters<'a>(count: usize) -> Parameters<'a>
     if count == 0 {
         Parameters::Nothing
     } else {
-        Parameters::One(Ty::Integer(Kind::Uint))
+        Parameters::One(Ty::Integer(IntType::Uint))
     }
 }
 
@@ -56,7 +56,7 @@ fn coerce_index(alloc: Global, index: TypedExpr) -> CheckResult<Expr>
     ensures { Agrees expr_of result (typing.index_in (typed_of index)) }
 {
     integer_type(index.at, index.ty)?;
-    Ok(coerce(alloc, Ty::Integer(Kind::Uint), index)?)
+    Ok(coerce(alloc, Ty::Integer(IntType::Uint), index)?)
 }
 
 fn build_element(
@@ -131,8 +131,8 @@ fn array_method_callee<'a>(of: Element, method: ArrayMethod) -> MethodCallee<'a>
     ensures { method_callee_of result ≡ environment.array_method_of of method }
 {
     let (result, parameters) = match method {
-        ArrayMethod::Length => (Ty::Integer(Kind::Uint), Parameters::Nothing),
-        ArrayMethod::Resize => (Ty::Void, Parameters::One(Ty::Integer(Kind::Uint))),
+        ArrayMethod::Length => (Ty::Integer(IntType::Uint), Parameters::Nothing),
+        ArrayMethod::Resize => (Ty::Void, Parameters::One(Ty::Integer(IntType::Uint))),
         ArrayMethod::InsertLast => (Ty::Void, Parameters::One(ty_of_element(of))),
         ArrayMethod::RemoveLast => (Ty::Void, Parameters::Nothing),
         ArrayMethod::IsEmpty => (Ty::Bool, Parameters::Nothing),

@@ -37,13 +37,13 @@ fn build_update(
 {
     let left = TypedExpr::value(target.at, target.of, Expr::Null);
     let unified = unify_operands(alloc, calculator_operator(operator), left, value)?;
-    let kind = integer_type(target.at, target.of)?;
+    let int_type = integer_type(target.at, target.of)?;
     let calculation = Calculation {
         operator,
         of: operand_integer_type(unified.operands),
     };
-    let tree = nodes::update(alloc, target.place, kind, calculation, unified.right)?;
-    Ok(TypedExpr::value(target.at, Ty::Integer(kind), tree))
+    let tree = nodes::update(alloc, target.place, int_type, calculation, unified.right)?;
+    Ok(TypedExpr::value(target.at, Ty::Integer(int_type), tree))
 }
 
 /// `place = value`

@@ -11,20 +11,20 @@
 //! typed phrase that they are the parts of, or its fault.
 //!
 //! In reading order: `expressions`, the walk over an expression; `operators`, `assignments` and `calls`, which build a
-//! phrase of its checked parts, with `operator_types`, `callees` and `parameters`; `arrays`, their construction, indexes
-//! and methods; `environment`, what names mean, with `lookup`, and `type_names`, the names of types; `signatures` and
-//! `name_index`, what a module declares, found by its name; `typed_expr`, `forms`, `types` and `fitting`; `error`, the
-//! error that ends checking.
+//! phrase of its checked parts, with `operator_types`, `callees` and `parameters`; `arrays`, their construction,
+//! indexes and methods; `environment`, what names mean, with `lookup`, and `type_names`, the names of types;
+//! `signatures` and `name_index`, what a module declares, found by its name; `typed_expr`, `forms`, `types` and
+//! `coercions`; `error`, the error that ends checking.
 #![tactic(auto)]
 
 mod arrays;
 mod assignments;
 mod callees;
 mod calls;
+mod coercions;
 mod environment;
 mod error;
 mod expressions;
-mod fitting;
 mod forms;
 mod lookup;
 mod name_index;

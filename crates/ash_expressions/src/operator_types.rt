@@ -6,18 +6,19 @@ ghost use Rattle.ash_typing.specs.Terms as terms;
 
 use crate::types::{common_integer_type, is_same_object};
 use ash_tree::{AssignOp, BinaryOp};
-use ash_typed::{Calculator, Comparator, Kind, Lazy, ObjectType, Operands};
+use ash_typed::{Calculator, Comparator, IntType, Lazy, ObjectType, Operands};
 use ash_typing::{Operator, OperatorClass, Ty};
 
-/// The sort of an operator.
-pub(crate) fn operator_sort(operator: BinaryOp) -> OperatorClass
+/// The class of an operator.
+pub(crate) fn operator_class(operator: BinaryOp) -> OperatorClass
     ensures { result ≡ types.operator_class_of operator }
 {
     match operator {
         BinaryOp::Multiply | BinaryOp::Divide | BinaryOp::Remainder => OperatorClass::Arithmetic,
         BinaryOp::Add | BinaryOp::Subtract => OperatorClass::Arithmetic,
         BinaryOp::BitAnd | BinaryOp::BitXor | BinaryOp::BitOr => OperatorClass::Arithmetic,
-        BinaryOp::ShiftLeft | BinaryOp::ShiftRight | BinaryOp::ShiftRightArithmetic => OperatorClass::Shift,
+        BinaryOp::ShiftLeft | BinaryOp::ShiftRight | BinaryOp::ShiftRightArithmetic =>
+            OperatorClass::Shift,
         BinaryOp::Less | BinaryOp::LessOrEqual => OperatorClass::Order,
         BinaryOp::Greater | BinaryOp::GreaterOrEqual => OperatorClass::Order,
         BinaryOp::Equal | BinaryOp::NotEqual => OperatorClass::Equality,
@@ -76,12 +77,12 @@ pub(crate) fn calculator_operator(operator: Calculator) -> BinaryOp
 }
 
 /// The integer type of operands, where they are integers.
-pub(crate) fn operand_integer_type(operands: Operands) -> Kind
+pub(crate) fn operand_integer_type(operands: Operands) -> IntType
     ensures { result ≡ types.integers_in operands }
 {
     match operands {
-        Operands::Integers(kind) => kind,
-        _ => Kind::Int,
+        Operands::Integers(int_type) => int_type,
+        _ => IntType::Int,
     }
 }
 
@@ -106,12 +107,13 @@ pub(crate) fn assign_calculator(operator: AssignOp) -> Option<Calculator>
 }
 
 /// Whether an operator takes a type anywhere.
-pub(crate) fn accepts(sort: OperatorClass, of: Ty) -> bool
-    ensures { result ≡ types.takes sort of }
+pub(crate) fn accepts(class: OperatorClass, of: Ty) -> bool
+    ensures { result ≡ types.takes class of }
 {
-    match (sort, of) {
+    match (class, of) {
         (_, Ty::Unknown) => true,
-        (OperatorClass::Arithmetic | OperatorClass::Shift | OperatorClass::Order, Ty::Integer(_)) => true,
+        (OperatorClass::Arithmetic | OperatorClass::Shift | OperatorClass::Order, Ty::Integer(_)) =>
+            true,
         (OperatorClass::Equality, Ty::Integer(_) | Ty::Bool) => true,
         (OperatorClass::Identity, Ty::Object(_) | Ty::Handle(_) | Ty::Null) => true,
         (OperatorClass::Logic, Ty::Bool) => true,
@@ -120,14 +122,14 @@ pub(crate) fn accepts(sort: OperatorClass, of: Ty) -> bool
 }
 
 /// What an operand of an unknown type is taken for.
-pub(crate) fn assumed_type(sort: OperatorClass, other: Ty, of: Ty) -> Ty
-    ensures { result ≡ types.assumed sort other of }
+pub(crate) fn assumed_type(class: OperatorClass, other: Ty, of: Ty) -> Ty
+    ensures { result ≡ types.assumed_type class other of }
 {
-    match (sort, other, of) {
+    match (class, other, of) {
         (OperatorClass::Equality, Ty::Bool, Ty::Unknown) => Ty::Bool,
         (OperatorClass::Identity, _, Ty::Unknown) => Ty::Null,
         (OperatorClass::Logic, _, Ty::Unknown) => Ty::Bool,
-        (_, _, Ty::Unknown) => Ty::Integer(Kind::Int),
+        (_, _, Ty::Unknown) => Ty::Integer(IntType::Int),
         _ => of,
     }
 }
@@ -170,15 +172,19 @@ fn are_comparable(one: Ty, other: Ty) -> bool
 }
 
 /// What an operator does with operands of these types, where it takes them.
-pub(crate) fn common_operands(sort: OperatorClass, one: Ty, other: Ty) -> Option<Operands>
-    ensures { result ≡ types.meets sort one other }
+pub(crate) fn common_operands(class: OperatorClass, one: Ty, other: Ty) -> Option<Operands>
+    ensures { result ≡ types.common_operands class one other }
 {
-    match (sort, one, other) {
-        (OperatorClass::Arithmetic | OperatorClass::Order | OperatorClass::Equality, Ty::Integer(j), Ty::Integer(k)) => {
-            Some(Operands::Integers(common_integer_type(j, k)))
-        }
+    match (class, one, other) {
+        (
+            OperatorClass::Arithmetic | OperatorClass::Order | OperatorClass::Equality,
+            Ty::Integer(j),
+            Ty::Integer(k),
+        ) => { Some(Operands::Integers(common_integer_type(j, k))) }
         (OperatorClass::Shift, Ty::Integer(j), Ty::Integer(_)) => Some(Operands::Integers(j)),
-        (OperatorClass::Equality | OperatorClass::Logic, Ty::Bool, Ty::Bool) => Some(Operands::Bools),
+        (OperatorClass::Equality | OperatorClass::Logic, Ty::Bool, Ty::Bool) => Some(
+            Operands::Bools,
+        ),
         (OperatorClass::Identity, _, _) => {
             if are_comparable(one, other) {
                 Some(Operands::Handles)
@@ -191,11 +197,13 @@ pub(crate) fn common_operands(sort: OperatorClass, one: Ty, other: Ty) -> Option
 }
 
 /// The type of an operator's result.
-pub(crate) fn operator_result(sort: OperatorClass, operands: Operands) -> Ty
-    ensures { result ≡ types.outcome sort operands }
+pub(crate) fn operator_result(class: OperatorClass, operands: Operands) -> Ty
+    ensures { result ≡ types.operator_result class operands }
 {
-    match (sort, operands) {
-        (OperatorClass::Arithmetic | OperatorClass::Shift, Operands::Integers(kind)) => Ty::Integer(kind),
+    match (class, operands) {
+        (OperatorClass::Arithmetic | OperatorClass::Shift, Operands::Integers(int_type)) => {
+            Ty::Integer(int_type)
+        }
         _ => Ty::Bool,
     }
 }
@@ -204,7 +212,7 @@ pub(crate) fn operand_type(operands: Operands) -> Ty
     ensures { result ≡ terms.operand_type operands }
 {
     match operands {
-        Operands::Integers(kind) => Ty::Integer(kind),
+        Operands::Integers(int_type) => Ty::Integer(int_type),
         Operands::Bools => Ty::Bool,
         Operands::Handles => Ty::Null,
     }

@@ -11,16 +11,16 @@ ghost use Rattle.ash_expressions.specs.Views.{typed_of, unified_of, is_target};
 use crate::error::{CheckResult, fault_at};
 use crate::forms::{Position, assignable_place, handle_form};
 use crate::operator_types::{
-    accepts, assumed_type, common_operands, operand_integer_type, operand_type, operator_result,
-    operator_sort, typed_operator,
+    accepts, assumed_type, common_operands, operand_integer_type, operand_type, operator_class,
+    operator_result, typed_operator,
 };
 use crate::typed_expr::{TypedExpr, adapt_operand, check_bool, coerce, handle_type, integer_type};
 use crate::types::{common_type, conversion, is_void, signed_type, ty_of};
 use ash_tree::{BinaryOp, Primitive, UnaryOp};
 use ash_typed::{
-    Calculation, Change, Expr, Kind, Lazy, ObjectType, Operand, Operands, Operation, Step, nodes,
+    Calculation, Change, Expr, IntType, Lazy, ObjectType, Operand, Operands, Operation, Step, nodes,
 };
-use ash_typing::{Operator, Rule, OperatorClass, Ty};
+use ash_typing::{Operator, OperatorClass, Rule, Ty};
 use std::alloc::{AllocError, Global};
 
 /// An operator before its operand, at the offset of the operator.
@@ -41,14 +41,14 @@ pub(crate) struct UnifiedOperands {
 
 fn right_operand(
     alloc: Global,
-    sort: OperatorClass,
+    class: OperatorClass,
     operands: Operands,
     right: TypedExpr,
 ) -> CheckResult<Expr>
     ensures { Agrees expr_of result
-        (Ok (terms.right_by sort operands (typing.term_of (typed_of right)))) }
+        (Ok (terms.right_by class operands (typing.term_of (typed_of right)))) }
 {
-    match sort {
+    match class {
         OperatorClass::Shift => Ok(right.tree),
         _ => Ok(coerce(alloc, operand_type(operands), right)?),
     }
@@ -56,23 +56,23 @@ fn right_operand(
 
 fn unify_adapted(
     alloc: Global,
-    sort: OperatorClass,
+    class: OperatorClass,
     left: TypedExpr,
     right: TypedExpr,
 ) -> CheckResult<UnifiedOperands>
-    ensures { Agrees unified_of result (typing.unified_by sort (typed_of left) (typed_of right)) }
+    ensures { Agrees unified_of result (typing.unified_by class (typed_of left) (typed_of right)) }
 {
-    let one = assumed_type(sort, right.ty, left.ty);
-    let other = assumed_type(sort, left.ty, right.ty);
-    let Some(operands) = common_operands(sort, one, other) else {
-        let at = if accepts(sort, left.ty) {
+    let one = assumed_type(class, right.ty, left.ty);
+    let other = assumed_type(class, left.ty, right.ty);
+    let Some(operands) = common_operands(class, one, other) else {
+        let at = if accepts(class, left.ty) {
             right.at
         } else {
             left.at
         };
         return Err(fault_at(Rule::TypeMismatch, at));
     };
-    let right = right_operand(alloc, sort, operands, right)?;
+    let right = right_operand(alloc, class, operands, right)?;
     Ok(UnifiedOperands {
         left,
         operands,
@@ -87,13 +87,14 @@ pub(crate) fn unify_operands(
     mut left: TypedExpr,
     mut right: TypedExpr,
 ) -> CheckResult<UnifiedOperands>
-    ensures { Agrees unified_of result (typing.unify_operands operator (typed_of left) (typed_of right)) }
+    ensures { Agrees unified_of result
+        (typing.unify_operands operator (typed_of left) (typed_of right)) }
 {
-    let sort = operator_sort(operator);
+    let class = operator_class(operator);
     let (form, of) = (right.form, right.ty);
-    adapt_operand(sort, left.form, left.ty, &mut right);
-    adapt_operand(sort, form, of, &mut left);
-    unify_adapted(alloc, sort, left, right)
+    adapt_operand(class, left.form, left.ty, &mut right);
+    adapt_operand(class, form, of, &mut left);
+    unify_adapted(alloc, class, left, right)
 }
 
 /// The tree of an operation on two operands. The left one is converted to the type that the operator takes it for.
@@ -181,7 +182,11 @@ pub(crate) fn build_binary(
     let at = unified.left.at;
     let operands = unified.operands;
     let tree = operator_tree(alloc, operator, operands, unified.left, unified.right)?;
-    Ok(TypedExpr::value(at, operator_result(operator_sort(operator), operands), tree))
+    Ok(TypedExpr::value(
+        at,
+        operator_result(operator_class(operator), operands),
+        tree,
+    ))
 }
 
 /// `++` or `--` at a place.
@@ -199,29 +204,42 @@ pub(crate) fn build_step(
     let Some(place) = assignable_place(alloc, operand.form, operand.tree)? else {
         return Err(fault_at(Rule::NotAssignable, operand.at));
     };
-    let kind = integer_type(operand.at, operand.ty)?;
-    Ok(TypedExpr::value(at, Ty::Integer(kind), nodes::count(place, kind, step)))
+    let int_type = integer_type(operand.at, operand.ty)?;
+    Ok(TypedExpr::value(
+        at,
+        Ty::Integer(int_type),
+        nodes::count(place, int_type, step),
+    ))
 }
 
 fn build_integer_change(
     alloc: Global,
     at: usize,
-    kind: Kind,
+    int_type: IntType,
     change: Change,
     operand: TypedExpr,
 ) -> CheckResult<TypedExpr>
-    ensures { Agrees typed_of result (Ok (typing.altered at kind change (typed_of operand))) }
+    ensures { Agrees typed_of result (Ok (typing.altered at int_type change (typed_of operand))) }
 {
-    let value = coerce(alloc, Ty::Integer(kind), operand)?;
-    Ok(TypedExpr::value(at, Ty::Integer(kind), nodes::alter(alloc, change, value)?))
+    let value = coerce(alloc, Ty::Integer(int_type), operand)?;
+    Ok(TypedExpr::value(
+        at,
+        Ty::Integer(int_type),
+        nodes::alter(alloc, change, value)?,
+    ))
 }
 
 /// The value alone, which can't be assigned.
-fn build_integer(alloc: Global, at: usize, kind: Kind, operand: TypedExpr) -> CheckResult<TypedExpr>
-    ensures { Agrees typed_of result (Ok (typing.integer_at at kind (typed_of operand))) }
+fn build_integer(
+    alloc: Global,
+    at: usize,
+    int_type: IntType,
+    operand: TypedExpr,
+) -> CheckResult<TypedExpr>
+    ensures { Agrees typed_of result (Ok (typing.integer_at at int_type (typed_of operand))) }
 {
-    let value = coerce(alloc, Ty::Integer(kind), operand)?;
-    Ok(TypedExpr::value(at, Ty::Integer(kind), value))
+    let value = coerce(alloc, Ty::Integer(int_type), operand)?;
+    Ok(TypedExpr::value(at, Ty::Integer(int_type), value))
 }
 
 fn build_change(
@@ -268,16 +286,16 @@ pub(crate) fn build_unary(
     let at = prefix.at;
     match prefix.operator {
         UnaryOp::Plus => {
-            let kind = integer_type(operand.at, operand.ty)?;
-            build_integer(alloc, at, kind, operand)
+            let int_type = integer_type(operand.at, operand.ty)?;
+            build_integer(alloc, at, int_type, operand)
         }
         UnaryOp::Minus => {
-            let kind = signed_type(integer_type(operand.at, operand.ty)?);
-            build_integer_change(alloc, at, kind, Change::Negate(kind), operand)
+            let int_type = signed_type(integer_type(operand.at, operand.ty)?);
+            build_integer_change(alloc, at, int_type, Change::Negate(int_type), operand)
         }
         UnaryOp::BitNot => {
-            let kind = integer_type(operand.at, operand.ty)?;
-            build_integer_change(alloc, at, kind, Change::Complement(kind), operand)
+            let int_type = integer_type(operand.at, operand.ty)?;
+            build_integer_change(alloc, at, int_type, Change::Complement(int_type), operand)
         }
         UnaryOp::Not => {
             check_bool(operand.at, operand.ty)?;
@@ -300,9 +318,9 @@ pub(crate) fn build_conversion(
     ensures { Agrees typed_of result (typing.convert_at at to (typed_of value)) }
 {
     match ty_of(to) {
-        Ty::Integer(kind) => {
+        Ty::Integer(int_type) => {
             integer_type(value.at, value.ty)?;
-            build_integer(alloc, at, kind, value)
+            build_integer(alloc, at, int_type, value)
         }
         _ => {
             check_bool(value.at, value.ty)?;

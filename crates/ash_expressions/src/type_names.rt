@@ -11,7 +11,7 @@ use crate::signatures::Signatures;
 use crate::types::ty_of;
 use ash_registrations::{Registration, Registrations};
 use ash_tree::{ElementKind, Primitive, Type, TypeKind};
-use ash_typed::{Element, Kind, ObjectType};
+use ash_typed::{Element, IntType, ObjectType};
 use ash_typing::Ty;
 
 /// The type of a registered type's objects.
@@ -51,10 +51,10 @@ fn element_of_primitive(primitive: Primitive) -> Element
 {
     match primitive {
         Primitive::Bool => Element::Bool,
-        Primitive::Int => Element::Integer(Kind::Int),
-        Primitive::Int64 => Element::Integer(Kind::Int64),
-        Primitive::Uint => Element::Integer(Kind::Uint),
-        Primitive::Uint64 => Element::Integer(Kind::Uint64),
+        Primitive::Int => Element::Integer(IntType::Int),
+        Primitive::Int64 => Element::Integer(IntType::Int64),
+        Primitive::Uint => Element::Integer(IntType::Uint),
+        Primitive::Uint64 => Element::Integer(IntType::Uint64),
     }
 }
 

@@ -8,12 +8,12 @@ ghost use Rattle.ash_typing.specs.Expressions as typing;
 ghost use Rattle.ash_expressions.specs.Agreement.{Agrees};
 ghost use Rattle.ash_expressions.specs.Views.{typed_of, classes_of};
 
+use crate::coercions::fits;
 use crate::environment::Environment;
 use crate::error::{CheckResult, fault_at};
-use crate::fitting::fits;
 use crate::types::{conversion, holds, number_type};
-use ash_typed::{Expr, Kind, nodes};
-use ash_typing::{Form, Rule, OperatorClass, Ty};
+use ash_typed::{Expr, IntType, nodes};
+use ash_typing::{Form, OperatorClass, Rule, Ty};
 use std::alloc::{AllocError, Global};
 
 /// A typed expression, with the offset of its first token and what it is by itself.
@@ -54,13 +54,13 @@ impl TypedExpr {
     pub(crate) fn number(at: usize, number: u64) -> TypedExpr
         ensures { typed_of result ≡ typing.placed at (terms.number_term number) }
     {
-        let kind = number_type(number);
+        let int_type = number_type(number);
         TypedExpr {
             at,
-            ty: Ty::Integer(kind),
+            ty: Ty::Integer(int_type),
             form: Form::Number(number),
             tree: Expr::Number {
-                kind,
+                of: int_type,
                 value: number,
             },
         }
@@ -77,7 +77,8 @@ pub(crate) fn coerce(alloc: Global, to: Ty, typed: TypedExpr) -> Result<Expr, Al
 /// The value, converted to the type `to` of the variable that it is assigned to.
 #[tactic(auto, unfolding(ash_typing::specs::Expressions::coerced_for_assignment))]
 pub fn coerce_for_assignment(env: &Environment, to: Ty, typed: TypedExpr) -> CheckResult<Expr>
-    ensures { Agrees expr_of result (typing.coerced_for_assignment (classes_of env.now) to (typed_of typed)) }
+    ensures { Agrees expr_of result
+        (typing.coerced_for_assignment (classes_of env.now) to (typed_of typed)) }
 {
     if !fits(&env.signatures.classes, to, typed.ty) {
         return Err(fault_at(Rule::TypeMismatch, typed.at));
@@ -86,12 +87,12 @@ pub fn coerce_for_assignment(env: &Environment, to: Ty, typed: TypedExpr) -> Che
 }
 
 /// The integer type of an operand.
-pub fn integer_type(at: usize, of: Ty) -> CheckResult<Kind>
+pub fn integer_type(at: usize, of: Ty) -> CheckResult<IntType>
     ensures { Agrees (λ k. k) result (typing.integer_of at of) }
 {
     match of {
-        Ty::Integer(kind) => Ok(kind),
-        Ty::Unknown => Ok(Kind::Int),
+        Ty::Integer(int_type) => Ok(int_type),
+        Ty::Unknown => Ok(IntType::Int),
         _ => Err(fault_at(Rule::TypeMismatch, at)),
     }
 }
@@ -121,14 +122,14 @@ pub(crate) fn handle_type(at: usize, of: Ty) -> CheckResult<Ty>
 fn adapt_number(other: Form, of: Ty, typed: &mut TypedExpr)
     ensures { typed_of typed.new
         ≡ typing.placed typed.old.at
-        (terms.taking other of typed.old.form (typing.term_of (typed_of typed.old))) }
+        (terms.adapted_number other of typed.old.form (typing.term_of (typed_of typed.old))) }
 {
     match (other, of, typed.form) {
         (Form::Number(_), _, Form::Number(_)) => {}
-        (_, Ty::Integer(kind), Form::Number(number)) if holds(kind, number) => {
-            typed.ty = Ty::Integer(kind);
+        (_, Ty::Integer(int_type), Form::Number(number)) if holds(int_type, number) => {
+            typed.ty = Ty::Integer(int_type);
             typed.tree = Expr::Number {
-                kind,
+                of: int_type,
                 value: number,
             };
         }
@@ -138,10 +139,10 @@ fn adapt_number(other: Form, of: Ty, typed: &mut TypedExpr)
 
 /// An operand beside another, whose type and form are given.
 #[tactic(auto, unfolding(ash_typing::specs::Expressions::adapted))]
-pub(crate) fn adapt_operand(sort: OperatorClass, other: Form, of: Ty, typed: &mut TypedExpr)
-    ensures { typed_of typed.new ≡ typing.adapted sort other of (typed_of typed.old) }
+pub(crate) fn adapt_operand(class: OperatorClass, other: Form, of: Ty, typed: &mut TypedExpr)
+    ensures { typed_of typed.new ≡ typing.adapted class other of (typed_of typed.old) }
 {
-    match sort {
+    match class {
         OperatorClass::Shift => {}
         _ => adapt_number(other, of, typed),
     }

@@ -6,19 +6,19 @@ ghost use Rattle.ash_typing.specs.Terms as terms;
 ghost use Rattle.ash_typing.specs.Expressions as typing;
 
 use ash_tree::Primitive;
-use ash_typed::{Conversion, Element, Kind, ObjectType, VarType};
+use ash_typed::{Conversion, Element, IntType, ObjectType, VarType};
 use ash_typing::Ty;
 
-pub(crate) fn is_signed(kind: Kind) -> bool
-    ensures { result ≡ types.is_signed kind }
+pub(crate) fn is_signed(int_type: IntType) -> bool
+    ensures { result ≡ types.is_signed int_type }
 {
-    matches!(kind, Kind::Int | Kind::Int64)
+    matches!(int_type, IntType::Int | IntType::Int64)
 }
 
-pub(crate) fn is_wide(kind: Kind) -> bool
-    ensures { result ≡ types.is_wide kind }
+pub(crate) fn is_wide(int_type: IntType) -> bool
+    ensures { result ≡ types.is_wide int_type }
 {
-    matches!(kind, Kind::Int64 | Kind::Uint64)
+    matches!(int_type, IntType::Int64 | IntType::Uint64)
 }
 
 /// The sign and the width of an integer type.
@@ -28,20 +28,20 @@ struct Shape {
     is_wide: bool,
 }
 
-fn integer_type_of(shape: Shape) -> Kind
-    ensures { result ≡ types.kind_by shape.is_signed shape.is_wide }
+fn integer_type_of(shape: Shape) -> IntType
+    ensures { result ≡ types.integer_type_of shape.is_signed shape.is_wide }
 {
     match (shape.is_signed, shape.is_wide) {
-        (true, false) => Kind::Int,
-        (false, false) => Kind::Uint,
-        (true, true) => Kind::Int64,
-        (false, true) => Kind::Uint64,
+        (true, false) => IntType::Int,
+        (false, false) => IntType::Uint,
+        (true, true) => IntType::Int64,
+        (false, true) => IntType::Uint64,
     }
 }
 
 /// The integer type that operands of two integer types are converted to.
-pub(crate) fn common_integer_type(one: Kind, other: Kind) -> Kind
-    ensures { result ≡ types.meeting one other }
+pub(crate) fn common_integer_type(one: IntType, other: IntType) -> IntType
+    ensures { result ≡ types.common_integer_type one other }
 {
     integer_type_of(Shape {
         is_signed: is_signed(one) || is_signed(other),
@@ -50,50 +50,50 @@ pub(crate) fn common_integer_type(one: Kind, other: Kind) -> Kind
 }
 
 /// The signed type of the same width.
-pub(crate) fn signed_type(kind: Kind) -> Kind
-    ensures { result ≡ types.signed kind }
+pub(crate) fn signed_type(int_type: IntType) -> IntType
+    ensures { result ≡ types.signed int_type }
 {
     integer_type_of(Shape {
         is_signed: true,
-        is_wide: is_wide(kind),
+        is_wide: is_wide(int_type),
     })
 }
 
-pub(crate) fn is_same_kind(one: Kind, other: Kind) -> bool
-    ensures { result ≡ types.is_same_kind one other }
+pub(crate) fn is_same_integer_type(one: IntType, other: IntType) -> bool
+    ensures { result ≡ types.is_same_integer_type one other }
 {
     match one {
-        Kind::Int => matches!(other, Kind::Int),
-        Kind::Uint => matches!(other, Kind::Uint),
-        Kind::Int64 => matches!(other, Kind::Int64),
-        Kind::Uint64 => matches!(other, Kind::Uint64),
+        IntType::Int => matches!(other, IntType::Int),
+        IntType::Uint => matches!(other, IntType::Uint),
+        IntType::Int64 => matches!(other, IntType::Int64),
+        IntType::Uint64 => matches!(other, IntType::Uint64),
     }
 }
 
 /// Whether a type holds a number.
-pub fn holds(kind: Kind, number: u64) -> bool
-    ensures { result ≡ types.holds kind number }
+pub fn holds(int_type: IntType, number: u64) -> bool
+    ensures { result ≡ types.holds int_type number }
 {
-    match kind {
-        Kind::Int => number < 1 << 31,
-        Kind::Uint => number < 1 << 32,
-        Kind::Int64 => number < 1 << 63,
-        Kind::Uint64 => true,
+    match int_type {
+        IntType::Int => number < 1 << 31,
+        IntType::Uint => number < 1 << 32,
+        IntType::Int64 => number < 1 << 63,
+        IntType::Uint64 => true,
     }
 }
 
 /// The first type that holds a number.
-pub(crate) fn number_type(number: u64) -> Kind
-    ensures { result ≡ types.kind_of number }
+pub(crate) fn number_type(number: u64) -> IntType
+    ensures { result ≡ types.number_type number }
 {
-    if holds(Kind::Int, number) {
-        Kind::Int
-    } else if holds(Kind::Uint, number) {
-        Kind::Uint
-    } else if holds(Kind::Int64, number) {
-        Kind::Int64
+    if holds(IntType::Int, number) {
+        IntType::Int
+    } else if holds(IntType::Uint, number) {
+        IntType::Uint
+    } else if holds(IntType::Int64, number) {
+        IntType::Int64
     } else {
-        Kind::Uint64
+        IntType::Uint64
     }
 }
 
@@ -102,7 +102,7 @@ fn is_same_element(one: Element, other: Element) -> bool
 {
     match (one, other) {
         (Element::Bool, Element::Bool) => true,
-        (Element::Integer(j), Element::Integer(k)) => is_same_kind(j, k),
+        (Element::Integer(j), Element::Integer(k)) => is_same_integer_type(j, k),
         (Element::Class(a), Element::Class(b)) => a == b,
         (Element::Interface(a), Element::Interface(b)) => a == b,
         (Element::Host(a), Element::Host(b)) => a == b,
@@ -129,7 +129,7 @@ pub fn is_same(one: Ty, other: Ty) -> bool
     match (one, other) {
         (Ty::Unknown, _) | (_, Ty::Unknown) => true,
         (Ty::Bool, Ty::Bool) | (Ty::Null, Ty::Null) | (Ty::Void, Ty::Void) => true,
-        (Ty::Integer(j), Ty::Integer(k)) => is_same_kind(j, k),
+        (Ty::Integer(j), Ty::Integer(k)) => is_same_integer_type(j, k),
         (Ty::Object(a), Ty::Object(b)) | (Ty::Handle(a), Ty::Handle(b)) => is_same_object(a, b),
         _ => false,
     }
@@ -141,7 +141,7 @@ pub fn ty_of_element(of: Element) -> Ty
 {
     match of {
         Element::Bool => Ty::Bool,
-        Element::Integer(kind) => Ty::Integer(kind),
+        Element::Integer(int_type) => Ty::Integer(int_type),
         Element::Class(class) => Ty::Handle(ObjectType::Class(class)),
         Element::Interface(interface) => Ty::Handle(ObjectType::Interface(interface)),
         Element::Host(kind) => Ty::Handle(ObjectType::Host(kind)),
@@ -154,10 +154,10 @@ pub fn ty_of(primitive: Primitive) -> Ty
 {
     match primitive {
         Primitive::Bool => Ty::Bool,
-        Primitive::Int => Ty::Integer(Kind::Int),
-        Primitive::Int64 => Ty::Integer(Kind::Int64),
-        Primitive::Uint => Ty::Integer(Kind::Uint),
-        Primitive::Uint64 => Ty::Integer(Kind::Uint64),
+        Primitive::Int => Ty::Integer(IntType::Int),
+        Primitive::Int64 => Ty::Integer(IntType::Int64),
+        Primitive::Uint => Ty::Integer(IntType::Uint),
+        Primitive::Uint64 => Ty::Integer(IntType::Uint64),
     }
 }
 
@@ -167,7 +167,7 @@ pub fn var_type(of: Ty) -> VarType
 {
     match of {
         Ty::Bool | Ty::Null | Ty::Void | Ty::Unknown => VarType::Bool,
-        Ty::Integer(kind) => VarType::Integer(kind),
+        Ty::Integer(int_type) => VarType::Integer(int_type),
         Ty::Object(object) => VarType::Object(object),
         Ty::Handle(object) => VarType::Handle(object),
     }
@@ -227,7 +227,7 @@ pub(crate) fn conversion(to: Ty, of: Ty) -> Option<Conversion>
 {
     match (to, of) {
         (Ty::Integer(to), Ty::Integer(from)) => {
-            if is_same_kind(from, to) {
+            if is_same_integer_type(from, to) {
                 None
             } else {
                 Some(Conversion { from, to })

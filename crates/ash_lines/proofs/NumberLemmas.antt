@@ -1,5 +1,6 @@
 -- The size of a number with so many digits.
-use Rattle.std.proofs.Common.{◌≡◌, ◌<◌, ◌≤◌, ℕ, ◌+◌, ◌-◌, ◌*◌, true, List, [], ◌∷◌, length, drop, get_or, refl, arith, zero, suc, add-one, drop-cons, Some}
+use Rattle.std.proofs.Common.{◌≡◌, ◌<◌, ◌≤◌, ℕ, ◌+◌, ◌-◌, ◌*◌, true, List, [], ◌∷◌, length, drop, get_or, refl, arith}
+use Rattle.std.proofs.Common.{zero, suc, add-one, drop-cons, Some}
 use Rattle.std.proofs.lemmas.Grind.{common_steps}
 use Rattle.std.proofs.lemmas.Bool.Decides.{nat_tests}
 use Rattle.std.specs.List.{list_all}

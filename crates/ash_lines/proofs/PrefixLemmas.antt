@@ -1,5 +1,6 @@
 -- What is stored of a source.
-use Rattle.std.proofs.Common.{◌≡◌, ◌<◌, ◌≤◌, ℕ, List, [], ◌∷◌, ◌++◌, length, take, refl, sym, ap, ◌∙◌, arith, zero, suc, nat_lt, Bool, true, false}
+use Rattle.std.proofs.Common.{◌≡◌, ◌<◌, ◌≤◌, ℕ, List, [], ◌∷◌, ◌++◌, length, take, refl, sym, ap, ◌∙◌, arith, zero, suc}
+use Rattle.std.proofs.Common.{nat_lt, Bool, true, false}
 use borrow.Author.Tests.{ltb-true, ltb-false}
 use Rattle.ash_lines.specs.Reading.{source_prefix}
 

@@ -1,5 +1,6 @@
 -- Bytes that are read one after another.
-use Rattle.std.proofs.Common.{◌≡◌, ◌<◌, ℕ, ◌==◌, not, true, List, [], ◌∷◌, ◌++◌, length, refl, sym, subst, arith, Ok, Err, Some, None, Option, Result, length-append, append_assoc}
+use Rattle.std.proofs.Common.{◌≡◌, ◌<◌, ℕ, ◌==◌, not, true, List, [], ◌∷◌, ◌++◌, length, refl, sym, subst, arith, Ok}
+use Rattle.std.proofs.Common.{Err, Some, None, Option, Result, length-append, append_assoc}
 use Rattle.std.proofs.lemmas.List.{append-nil}
 use Rattle.std.proofs.lemmas.List.Folds.{list_all-append}
 use Rattle.std.proofs.lemmas.Grind.{common_steps}

@@ -1,5 +1,6 @@
 -- The requests that the input spells.
-use Rattle.std.specs.Prelude.{◌≡◌, ℕ, ◌+◌, ◌*◌, ◌-◌, ◌^◌, ◌==◌, ◌&&◌, nat_lt, nat_le, Bool, true, false, if◌then◌else◌, List, [], ◌∷◌, length, take, drop, codes, Option, Some, None, option_map, pos, neg_ℤ}
+use Rattle.std.specs.Prelude.{◌≡◌, ℕ, ◌+◌, ◌*◌, ◌-◌, ◌^◌, ◌==◌, ◌&&◌, nat_lt, nat_le, Bool, true, false, if◌then◌else◌}
+use Rattle.std.specs.Prelude.{List, [], ◌∷◌, length, take, drop, codes, Option, Some, None, option_map, pos, neg_ℤ}
 use Rattle.std.specs.List.{list_all}
 use Rattle.std.specs.Str.{bytes_eq}
 use Rattle.ash_meaning.specs.declared.request.Argument.{Argument}
@@ -22,7 +23,8 @@ GoesOn _ = Unit {0}
 -- The bytes before the first line feed, and those after it.
 unfoldable pub cut_line : List ℕ → Option (List ℕ × List ℕ)
 cut_line [] = None
-cut_line (byte ∷ more) = if byte == 10 then Some ([], more) else option_map (λ cut. (byte ∷ cut.0, cut.1)) (cut_line more)
+cut_line (byte ∷ more) =
+    if byte == 10 then Some ([], more) else option_map (λ cut. (byte ∷ cut.0, cut.1)) (cut_line more)
 
 -- Words.
 
@@ -177,7 +179,8 @@ max_line_bytes = 4096
 
 abbrev pub on_line : Option (List ℕ × List ℕ) → Next
 on_line None = Cut
-on_line (Some (line, more)) = if nat_lt max_line_bytes (length line) then Whole LineTooLong more else after_line (parse_line line) more
+on_line (Some (line, more)) =
+    if nat_lt max_line_bytes (length line) then Whole LineTooLong more else after_line (parse_line line) more
 
 unfoldable pub next : List ℕ → Next
 next [] = End

@@ -1,5 +1,6 @@
 -- A reader as a source of bytes.
-use Rattle.std.specs.Prelude.{◌≡◌, ℕ, ◌+◌, true, List, [], ◌∷◌, ◌++◌, length, Option, Some, None, is_some, refl, ⊤, if◌then◌else◌}
+use Rattle.std.specs.Prelude.{◌≡◌, ℕ, ◌+◌, true, List, [], ◌∷◌, ◌++◌, length, Option, Some, None, is_some, refl, ⊤}
+use Rattle.std.specs.Prelude.{if◌then◌else◌}
 use Rattle.std.specs.Option.{option_to_list}
 use Rattle.std.specs.Io.Buffered.{reader_remaining}
 use Rattle.std.specs.Io.KnownBytes.{Consumes, Keeps, IsAtEnd, prepend_known}
@@ -25,7 +26,8 @@ allowance_of s = if is_some s.extra then 0 else s.allowance
 
 abbrev pub reader_feed : {R : Type 0} → (R → Option (List ℕ)) → Feed (Reader R)
 reader_feed remaining = record {
-  reads = λ s bytes t. Consumes (left_of remaining s) (left_of remaining t) bytes × (length bytes + allowance_of t ≡ allowance_of s) × (t.failed ≡ s.failed);
+  reads = λ s bytes t. Consumes (left_of remaining s) (left_of remaining t) bytes
+      × (length bytes + allowance_of t ≡ allowance_of s) × (t.failed ≡ s.failed);
   fails = λ s t. t.failed ≡ true;
   ended = λ s. IsAtEnd (left_of remaining s);
   unread = λ s. is_some s.extra ≡ true;
@@ -36,15 +38,21 @@ consumes-nothing : (known : Option (List ℕ)) → Consumes known known []
 consumes-nothing None = tt
 consumes-nothing (Some bytes) = refl
 
-consumes-onward : (first second third : Option (List ℕ)) (bytes more : List ℕ) → Consumes first second bytes → Consumes second third more → Consumes first third (bytes ++ more)
+consumes-onward : (first second third : Option (List ℕ)) (bytes more : List ℕ) → Consumes first second bytes
+    → Consumes second third more → Consumes first third (bytes ++ more)
 consumes-onward None second third bytes more h k = tt
 consumes-onward (Some xs) None third bytes more h k = absurd h
 consumes-onward (Some xs) (Some ys) None bytes more h k = absurd k
-consumes-onward (Some xs) (Some ys) (Some zs) bytes more h k = h ∙ (ap (λ (x : List ℕ). bytes ++ x) k ∙ sym (append_assoc bytes more zs))
+consumes-onward (Some xs) (Some ys) (Some zs) bytes more h k =
+    h ∙ (ap (λ (x : List ℕ). bytes ++ x) k ∙ sym (append_assoc bytes more zs))
 
 pub reader_is_feed : {R : Type 0} (remaining : R → Option (List ℕ)) → IsFeed (reader_feed remaining)
 reader_is_feed remaining = record {
   nothing = λ s. (consumes-nothing (left_of remaining s), omega arith, refl);
-  onward = λ s t u first more h k. (consumes-onward (left_of remaining s) (left_of remaining t) (left_of remaining u) first more h.0 k.0, omega (arith, length-append first more, h.1, k.1), k.2 ∙ h.2);
+  onward = λ s t u first more h k. (
+    consumes-onward (left_of remaining s) (left_of remaining t) (left_of remaining u) first more h.0 k.0,
+    omega (arith, length-append first more, h.1, k.1),
+    k.2 ∙ h.2,
+  );
   counted = λ s t bytes h. h.1;
 }

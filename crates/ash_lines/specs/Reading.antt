@@ -1,5 +1,6 @@
 -- What is read of a line.
-use Rattle.std.specs.Prelude.{◌≡◌, ◌<◌, ◌≤◌, ℕ, ◌==◌, not, Bool, true, List, [], ◌∷◌, ◌++◌, length, take, Result, Ok, Err}
+use Rattle.std.specs.Prelude.{◌≡◌, ◌<◌, ◌≤◌, ℕ, ◌==◌, not, Bool, true, List, [], ◌∷◌, ◌++◌, length, take, Result, Ok}
+use Rattle.std.specs.Prelude.{Err}
 use Rattle.std.specs.List.{list_all}
 use Rattle.ash_lines.specs.Source.{Feed, Faults}
 use Rattle.ash_lines.specs.declared.source.ReadFault.{ReadFault}
@@ -45,9 +46,11 @@ HasSkipped _ bytes = bytes ≡ []
 -- How reading a line ended, and what the buffer has of it.
 abbrev pub ReadsLine : {S : Type 0} → Feed S → S → Result LineRead ReadFault → List ℕ → S → Type 0
 ReadsLine feed old (Ok line.Whole) buffer new = ReadsWholeLine feed old buffer new × (length buffer ≤ 4096)
-ReadsLine feed old (Ok line.TooLong) buffer new = (bytes : List ℕ) × ReadsWholeLine feed old bytes new × (4096 < length bytes)
+ReadsLine feed old (Ok line.TooLong) buffer new =
+    (bytes : List ℕ) × ReadsWholeLine feed old bytes new × (4096 < length bytes)
 ReadsLine feed old (Ok line.End) buffer new = feed.reads old [] new × feed.ended new
-ReadsLine feed old (Ok line.Cut) buffer new = (bytes : List ℕ) × ReadsLinePart feed old bytes new × (0 < length bytes) × feed.ended new
+ReadsLine feed old (Ok line.Cut) buffer new =
+    (bytes : List ℕ) × ReadsLinePart feed old bytes new × (0 < length bytes) × feed.ended new
 ReadsLine feed old (Err fault) buffer new = FaultsInLine feed old fault new
 
 -- How reading a line that is too long ends, by what skipping the rest of it did.
@@ -64,6 +67,10 @@ source_prefix source = take 65537 source
 
 -- Whether so many bytes came before the end, and what was stored of them.
 abbrev pub ReadsBytes : {S : Type 0} → Feed S → S → Result BytesRead ReadFault → ℕ → List ℕ → S → Type 0
-ReadsBytes feed old (Ok bytes_read.All) count prefix new = (bytes : List ℕ) × feed.reads old bytes new × (length bytes ≡ count) × (prefix ≡ source_prefix bytes)
-ReadsBytes feed old (Ok bytes_read.Cut) count prefix new = (bytes : List ℕ) × feed.reads old bytes new × (length bytes < count) × feed.ended new × (prefix ≡ source_prefix bytes)
-ReadsBytes feed old (Err fault) count prefix new = (bytes : List ℕ) × Faults feed old bytes fault new × (length bytes < count)
+ReadsBytes feed old (Ok bytes_read.All) count prefix new =
+    (bytes : List ℕ) × feed.reads old bytes new × (length bytes ≡ count) × (prefix ≡ source_prefix bytes)
+ReadsBytes feed old (Ok bytes_read.Cut) count prefix new =
+    (bytes : List ℕ) × feed.reads old bytes new × (length bytes < count) × feed.ended new
+    × (prefix ≡ source_prefix bytes)
+ReadsBytes feed old (Err fault) count prefix new =
+    (bytes : List ℕ) × Faults feed old bytes fault new × (length bytes < count)

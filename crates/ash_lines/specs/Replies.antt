@@ -1,5 +1,6 @@
 -- The text of replies.
-use Rattle.std.specs.Prelude.{ℕ, true, false, List, [], ◌∷◌, ◌++◌, map, codes, string_bytes, Option, Some, None, decimal}
+use Rattle.std.specs.Prelude.{ℕ, true, false, List, [], ◌∷◌, ◌++◌, map, codes, string_bytes, Option, Some, None}
+use Rattle.std.specs.Prelude.{decimal}
 use Rattle.std.specs.Fmt.{signed_decimal}
 use Rattle.std.specs.List.{flat_map}
 use Rattle.ash_host.specs.declared.word.Word.{Word}
@@ -88,7 +89,8 @@ refusal_name refusals.Reopen = codes "508 Reopen"
 refusal_name refusals.NoMemory = codes "509 NoMemory"
 refusal_name refusals.GenerationSpent = codes "511 GenerationSpent"
 
--- what a refusal reports of a source: an offset in it, the word of a part that the profile doesn't have, or classes by name
+-- what a refusal reports of a source: an offset in it, the word of a part that the profile doesn't have, or classes by
+-- name
 pub data Details : Type 0 where
   Nothing : Details
   At : (at : ℕ) → Details

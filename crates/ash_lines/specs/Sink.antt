@@ -14,8 +14,10 @@ pub record Outlet (K : Type 0) : Type 1 where
 -- What goes out goes out from moment to moment.
 pub record IsOutlet {K : Type 0} (outlet : Outlet K) : Type 0 where
   pub nothing : (s : K) → outlet.writes s [] s
-  pub onward : (s t u : K) (first then : List ℕ) → outlet.writes s first t → outlet.writes t then u → outlet.writes s (first ++ then) u
-  pub broken : (s t u : K) (first then : List ℕ) → outlet.writes s first t → outlet.fails t then u → outlet.fails s (first ++ then) u
+  pub onward : (s t u : K) (first then : List ℕ) → outlet.writes s first t → outlet.writes t then u
+      → outlet.writes s (first ++ then) u
+  pub broken : (s t u : K) (first then : List ℕ) → outlet.writes s first t → outlet.fails t then u
+      → outlet.fails s (first ++ then) u
 
 -- The sink took these bytes: what went out and what is buffered now are what was buffered, and then they.
 pub record Accepts {K : Type 0} (outlet : Outlet K) (old : K) (bytes : List ℕ) (new : K) : Type 0 where

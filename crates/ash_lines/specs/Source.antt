@@ -19,7 +19,8 @@ pub record Feed (S : Type 0) : Type 1 where
 -- Reading goes on from moment to moment, and each byte is taken from the allowance.
 pub record IsFeed {S : Type 0} (feed : Feed S) : Type 0 where
   pub nothing : (s : S) → feed.reads s [] s
-  pub onward : (s t u : S) (first then : List ℕ) → feed.reads s first t → feed.reads t then u → feed.reads s (first ++ then) u
+  pub onward : (s t u : S) (first then : List ℕ) → feed.reads s first t → feed.reads t then u
+      → feed.reads s (first ++ then) u
   pub counted : (s t : S) (bytes : List ℕ) → feed.reads s bytes t → length bytes + feed.allowance t ≡ feed.allowance s
 
 -- Bytes were read, and then this fault came: a byte past the allowance, or a read that failed.

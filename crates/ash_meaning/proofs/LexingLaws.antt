@@ -28,7 +28,7 @@ ends_at : (bs : List ℕ) (n : ℕ) → suc n ≤ length bs → ((m : ℕ) → s
     → (k : ℕ) × IsValidUpTo bs k
 ends_at bs n within none before true e = (
   n,
-  record { short = omega arith; prefix = IsUtf8-from_is_utf8 (take n bs) e; longest = λ m h. none m (omega arith) },
+  record { short = omega arith; front = IsUtf8-from_is_utf8 (take n bs) e; longest = λ m h. none m (omega arith) },
 )
 ends_at bs n within none before false e =
     before (λ m h u. elim (cases_lt n m) [

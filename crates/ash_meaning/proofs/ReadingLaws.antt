@@ -7,8 +7,10 @@ use Rattle.ash_registry.specs.Calls.{Registration}
 use Rattle.ash_meaning.specs.Lexing.{Lexes}
 use Rattle.ash_classes.specs.References.{classes_of}
 use Rattle.ash_check.specs.Checks.{Broken, Cyclic, round_of}
-use Rattle.ash_meaning.specs.Checking.{CheckResult, IsNoScript, IsUntypedScript, IsCyclicScript, ChecksTokens, Checks}
-use Rattle.ash_meaning.specs.Checking.{no_tokens, has_tokens, checked_source, TakesMemoryToRefuse, TakesMemoryToCheck}
+use Rattle.ash_meaning.specs.CheckedSource.{CheckResult, IsNoScript, IsUntypedScript, IsCyclicScript, ChecksTokens}
+use Rattle.ash_meaning.specs.CheckedSource.{Checks}
+use Rattle.ash_meaning.specs.CheckedSource.{no_tokens, has_tokens, checked_source, TakesMemoryToRefuse}
+use Rattle.ash_meaning.specs.CheckedSource.{TakesMemoryToCheck}
 use Rattle.ash_subset.specs.Tree.{Module, module_of}
 use Rattle.ash_subset.specs.declared.tree.Module as code
 use Rattle.ash_meaning.specs.Reading.{ReadResult, ReadsScript, Reads, refused, typed, module_or_none, read_checked}
@@ -17,8 +19,8 @@ use Rattle.ash_meaning.specs.declared.refusal.Refusal as code_refusal
 use Rattle.ash_meaning.specs.Refusals.{Refusal, refusal_of}
 use Rattle.ash_meaning.specs.Refusals as refusals
 use Rattle.ash_subset.specs.Resolver.{resolved}
-use Rattle.ash_meaning.proofs.CheckingLaws.{checked_source-is, checked_source-only, of_refusal, takes_untyped}
-use Rattle.ash_meaning.proofs.CheckingLaws.{takes_halt}
+use Rattle.ash_meaning.proofs.CheckedSourceLaws.{checked_source-is, checked_source-only, of_refusal, takes_untyped}
+use Rattle.ash_meaning.proofs.CheckedSourceLaws.{takes_halt}
 use Rattle.ash_meaning.proofs.Typed.{IsTypedModule}
 use Rattle.ash_meaning.proofs.TypedLemmas.{resolved-typed}
 
@@ -42,8 +44,8 @@ script_only items (Err refusal) h = refusal_only items refusal h
 
 -- what is read of a source
 
-read_checked-is : (registered : List Registration) (source : List ℕ) (checking : CheckResult)
-    → Checks registered source checking → Reads registered source (read_checked checking)
+read_checked-is : (registered : List Registration) (source : List ℕ) (outcome : CheckResult)
+    → Checks registered source outcome → Reads registered source (read_checked outcome)
 read_checked-is registered source (Ok items) h = typed items h (script_is items (resolved items) refl)
 read_checked-is registered source (Err refusal) h = refused refusal refl h
 
@@ -146,12 +148,12 @@ tokens_reported registered tokens refusal (inl h) = stop_reported tokens refusal
 tokens_reported registered tokens refusal (inr (inl h)) = untyped_reported registered tokens refusal h
 tokens_reported registered tokens refusal (inr (inr h)) = cyclic_reported registered tokens refusal h
 
-checks_reported : (registered : List Registration) (source : List ℕ) (checking : CheckResult) (refusal : Refusal)
-    → Checks registered source checking → checking ≡ Err refusal → IsReported refusal
-checks_reported registered source checking refusal (no_tokens other e h) is =
+checks_reported : (registered : List Registration) (source : List ℕ) (outcome : CheckResult) (refusal : Refusal)
+    → Checks registered source outcome → outcome ≡ Err refusal → IsReported refusal
+checks_reported registered source outcome refusal (no_tokens other e h) is =
     let same : other ≡ refusal = cc in
     subst IsReported same (lexes_reported source other h)
-checks_reported registered source checking refusal (has_tokens ts h checks) is =
+checks_reported registered source outcome refusal (has_tokens ts h checks) is =
     tokens_reported registered ts refusal (subst (ChecksTokens registered ts) is checks)
 
 script_reported : (items : List Item) (refusal : Refusal) → ReadsScript items (Err refusal) → IsReported refusal
@@ -177,7 +179,7 @@ takes_module : (o : Option Module) → TakesMemoryToRead (module_or_none o)
 takes_module (Some tree) = tt
 takes_module None = tt
 
-takes_checked : (checking : CheckResult) → TakesMemoryToCheck checking → TakesMemoryToRead (read_checked checking)
+takes_checked : (outcome : CheckResult) → TakesMemoryToCheck outcome → TakesMemoryToRead (read_checked outcome)
 takes_checked (Ok items) h = takes_module (resolved items)
 takes_checked (Err refusal) h = h
 

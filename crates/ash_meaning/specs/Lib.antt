@@ -1,4 +1,4 @@
-pub mod Checking
+pub mod CheckedSource
 pub mod Lexing
 pub mod Plain
 pub mod Reading

@@ -5,7 +5,7 @@
 use Rattle.std.specs.Prelude.{◌≡◌, ℕ, List, Option, Some, None, Result, Ok, Err}
 use Rattle.ash_tree.specs.Tree.{Item}
 use Rattle.ash_registry.specs.Calls.{Registration}
-use Rattle.ash_meaning.specs.Checking.{CheckResult, Checks, checked_source, TakesMemoryToRefuse}
+use Rattle.ash_meaning.specs.CheckedSource.{CheckResult, Checks, checked_source, TakesMemoryToRefuse}
 use Rattle.ash_subset.specs.Tree.{Module}
 use Rattle.ash_meaning.specs.Refusals.{Refusal}
 use Rattle.ash_meaning.specs.Refusals as refusals

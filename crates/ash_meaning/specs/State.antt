@@ -20,8 +20,7 @@ pub record LoadedModule : Type 0 where
   pub globals : List Word
 
 -- what the embedding program has registered, which no request changes, the modules that are kept, by ascending name,
--- and
--- how many requests have been answered
+-- and how many requests have been answered
 pub record State : Type 0 where
   pub registered : List Registration
   pub modules : List LoadedModule

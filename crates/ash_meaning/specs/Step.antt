@@ -19,7 +19,7 @@ use Rattle.ash_subset.specs.Tree.{Module, Function, Global as Variable}
 use Rattle.ash_subset.specs.Meaning.{End, Finished, call, load_globals}
 use Rattle.ash_meaning.specs.State.{LoadedModule, State, Request, Load, Call, Discard, Global, Seq, Snapshot, Reply}
 use Rattle.ash_meaning.specs.State.{Answered, Value, Number, Done, Refused}
-use Rattle.ash_meaning.specs.Checking.{TakesMemoryToRefuse}
+use Rattle.ash_meaning.specs.CheckedSource.{TakesMemoryToRefuse}
 use Rattle.ash_meaning.specs.Reading.{ReadResult, read_source, module_read}
 
 -- the first of a list that passes a test

@@ -11,8 +11,8 @@ ghost use Rattle.ash_typed.specs.Modules.{Module as Typed};
 ghost use Rattle.ash_typing.specs.Nesting.{ItemsDeclareInBlocks};
 ghost use Rattle.ash_typing.specs.TypedModules.{IsFree, IsTyped};
 ghost use Rattle.ash_tree.specs.Items.{item_names};
-ghost use Rattle.ash_meaning.specs.Checking.{CheckResult, Checks, IsAccepted, HasCycle, ReportsCycle};
-ghost use Rattle.ash_meaning.specs.Checking.{items_checked, tokens_checked, checked_source, TakesMemoryToCheck};
+ghost use Rattle.ash_meaning.specs.CheckedSource.{CheckResult, Checks, IsAccepted, HasCycle, ReportsCycle};
+ghost use Rattle.ash_meaning.specs.CheckedSource.{items_checked, tokens_checked, checked_source, TakesMemoryToCheck};
 ghost use Rattle.ash_meaning.specs.Refusals.{refusal_of, NoMemory, CyclicType};
 
 use crate::lexing::tokens_of;
@@ -117,8 +117,8 @@ pub fn check_source(alloc: Global, registry: &Registry, source: &[u8]) -> Result
 
 /// Checking a source comes to one script that is typed, or to one refusal.
 pub fn checking_has_one_result()
-    ensures { (registered : List Registration) (source : List ℕ) (checking : CheckResult) →
-        (checked_source registered source ≡ checking) ↔ Checks registered source checking }
+    ensures { (registered : List Registration) (source : List ℕ) (outcome : CheckResult) →
+        (checked_source registered source ≡ outcome) ↔ Checks registered source outcome }
 {}
 
 /// No script that is typed declares a registered name: those and the names of a module are one space.

@@ -108,7 +108,7 @@ impl From<LexFault> for Refusal {
 }
 
 impl From<ParseFault> for Refusal {
-    ghost use Rattle.ash_meaning.specs.Checking.{syntactic};
+    ghost use Rattle.ash_meaning.specs.CheckedSource.{syntactic};
 
     ghost from_gives = { λ fault refusal. refusal_of refusal ≡ syntactic fault };
 
@@ -123,7 +123,7 @@ impl From<ParseFault> for Refusal {
 }
 
 impl From<CheckFault> for Refusal {
-    ghost use Rattle.ash_meaning.specs.Checking.{of_check};
+    ghost use Rattle.ash_meaning.specs.CheckedSource.{of_check};
 
     ghost from_gives = { λ fault refusal. refusal_of refusal ≡ of_check fault };
 

@@ -158,7 +158,7 @@ module _ {n : ℕ} (p : Program) (one other : Entry → Run (Option Word)) (bodi
 
   mutual
     pub walk_expression : (x : Expr) → Walk n (expression c x) (expression c' x)
-    walk_expression (Number kind k) = given _
+    walk_expression (Number int_type k) = given _
     walk_expression (Truth b) = given _
     walk_expression Null = given _
     walk_expression (This class) = bound (looked (λ a. a.frame.this) (λ more a. refl)) to_give_held
@@ -171,8 +171,8 @@ module _ {n : ℕ} (p : Program) (one other : Entry → Run (Option Word)) (bodi
     walk_expression (Lazily operator a b) = bound (walk_expression a) (λ left. walk_lazily operator (is_true left) (walk_expression b))
     walk_expression (Conditional t a b) = bound (walk_expression t) (λ word. chosen_by (is_true word) (walk_expression a) (walk_expression b))
     walk_expression (Assign place e) = bound (walk_expression e) (λ word. bound (walk_location place) (to_store word))
-    walk_expression (Update place kind calculation e) = bound (walk_expression e) (λ right. bound (walk_location place) (to_update kind calculation right))
-    walk_expression (Count place kind step) = bound (walk_location place) (to_count_at kind step)
+    walk_expression (Update place int_type calculation e) = bound (walk_expression e) (λ right. bound (walk_location place) (to_update int_type calculation right))
+    walk_expression (Count place int_type step) = bound (walk_location place) (to_count_at int_type step)
     walk_expression (Call target parameters es) = bound (walk_arguments es) (walk_target target)
 
     pub walk_location : (place : Place) → Walk n (location c place) (location c' place)
@@ -229,7 +229,7 @@ module _ {n : ℕ} (p : Program) (one other : Entry → Run (Option Word)) (bodi
       walk_statement (If line x s rest) = bound (followed (a_tick line) (walk_condition x)) (λ b. chosen_by b (walk_statement s) (walk_otherwise rest))
       walk_statement (Repeat line inside) = bound (followed (a_tick line) (walk_loop line inside)) to_after_break
       walk_statement (For line head inside) = bound (followed (a_tick line) (walk_block (followed (walk_begin head) (walk_loop line inside)))) to_after_break
-      walk_statement (Switch line kind x cs) = bound (bound (followed (a_tick line) (to_full (walk_expression x))) (walk_switch (walk_cases cs))) to_after_break
+      walk_statement (Switch line int_type x cs) = bound (bound (followed (a_tick line) (to_full (walk_expression x))) (walk_switch (walk_cases cs))) to_after_break
       walk_statement (Break line) = followed (a_tick line) (given Broke)
       walk_statement (Continue line) = followed (a_tick line) (given Continued)
       walk_statement (Return line x) = followed (a_tick line) (walk_return x)

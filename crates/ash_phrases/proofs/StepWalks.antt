@@ -10,7 +10,7 @@ use Rattle.ash_host.specs.Objects.{Plain, Array, Host, Element, object_at, handl
 use Rattle.ash_host.specs.Records.{HostRecord}
 use Rattle.ash_integers.specs.declared.arithmetic.DivisionFault.{DivisionFault}
 use Rattle.ash_integers.specs.declared.arithmetic.DivisionFault.TheVariants as faults
-use Rattle.ash_typed.specs.declared.types.Kind.{Kind}
+use Rattle.ash_integers.specs.declared.int_type.IntType.{IntType}
 use Rattle.ash_typed.specs.declared.types.ObjectType.{ObjectType}
 use Rattle.ash_typed.specs.declared.types.VarType.{VarType}
 use Rattle.ash_typed.specs.declared.tree.operations.ArrayMethod.{ArrayMethod}
@@ -29,7 +29,7 @@ use Rattle.ash_phrases.specs.Releases.{hold_all, give_held, release, let_go, end
 use Rattle.ash_phrases.specs.Frames.{max_frames, demand_frame, frame_of, enter, back_in, leave}
 use Rattle.ash_phrases.specs.ObjectSteps.{object_of, with_object, words_at, with_words, put_words, max_objects, max_number, demand_number, with_new, make}
 use Rattle.ash_phrases.specs.HostSteps.{with_event, note, next_answer, after_answer, call_host, accept, invoke_host, get_property, set_property, place_of_kind, without_box, box_in, box_of_kind, draw, construct_host, is_of}
-use Rattle.ash_phrases.specs.Operators.{int_type, calculated_by, converted_to, counted, given_by, give_or_raise, calculate, operate}
+use Rattle.ash_phrases.specs.Operators.{calculated_by, converted_to, counted, given_by, give_or_raise, calculate, operate}
 use Rattle.ash_phrases.specs.Locations.{Location, Local, Global, Part, Property, with_local, with_global, read, overwrite, write}
 use Rattle.ash_phrases.specs.ArraySteps.{max_elements, zero_element, natural_of, count_in, zero_in, resized, index_in, construct_array, zero_at, resize, insert_last, remove_last, length_of, invoke_array}
 use Rattle.ash_phrases.specs.Classes.{Program}
@@ -224,7 +224,7 @@ module _ {n : ℕ} where
   to_give_or_raise (Err faults.Overflow) = raised _
 
   pub to_calculate : (c : Calculation) (left right : Word) → Walk n (calculate c left right) (calculate c left right)
-  to_calculate c left right = to_give_or_raise (calculated_by c.operator (int_type c.of) left right)
+  to_calculate c left right = to_give_or_raise (calculated_by c.operator c.of left right)
 
   pub to_operate : (o : Operation) (left right : Word) → Walk n (operate o left right) (operate o left right)
   to_operate (operations.Calculate c) left right = to_calculate c left right
@@ -250,11 +250,12 @@ module _ {n : ℕ} where
   pub to_store : (w : Word) (l : Location) → Walk n (store w l) (store w l)
   to_store w l = followed (to_write l w) (given w)
 
-  pub to_update : (kind : Kind) (c : Calculation) (right : Word) (l : Location) → Walk n (update kind c right l) (update kind c right l)
-  to_update kind c right l = bound (bound (to_read l) (λ left. to_calculate c (converted_to c.of left) right)) (λ w. to_store (converted_to kind w) l)
+  pub to_update : (int_type : IntType) (c : Calculation) (right : Word) (l : Location) → Walk n (update int_type c right l) (update int_type c right l)
+  to_update int_type c right l = bound (bound (to_read l) (λ left. to_calculate c (converted_to c.of left) right)) (λ w. to_store (converted_to int_type w) l)
 
-  pub to_count_at : (kind : Kind) (step : Step) (l : Location) → Walk n (count_at kind step l) (count_at kind step l)
-  to_count_at kind step l = bound (to_read l) (λ old. followed (to_write l (counted step kind old)) (given (given_by step old (counted step kind old))))
+  pub to_count_at : (int_type : IntType) (step : Step) (l : Location)
+      → Walk n (count_at int_type step l) (count_at int_type step l)
+  to_count_at int_type step l = bound (to_read l) (λ old. followed (to_write l (counted step int_type old)) (given (given_by step old (counted step int_type old))))
 
   -- arrays
 

@@ -5,7 +5,7 @@ use Rattle.ash_host.specs.declared.word.Word.{Word}
 use Rattle.ash_host.specs.declared.word.Word.TheVariants as words
 use Rattle.ash_host.specs.Objects.{Plain, Array, Element, Bools, Ints, Uints, Int64s, Uint64s, Handles, Hosts, object_at}
 use Rattle.ash_integers.specs.Integers.{number_of}
-use Rattle.ash_typed.specs.declared.types.Kind.TheVariants as kinds
+use Rattle.ash_integers.specs.declared.int_type.IntType.TheVariants as ints
 use Rattle.ash_typed.specs.declared.types.VarType.TheVariants as vars
 use Rattle.ash_typed.specs.declared.tree.operations.ArrayMethod.{ArrayMethod}
 use Rattle.ash_typed.specs.declared.tree.operations.ArrayMethod.TheVariants as methods
@@ -22,10 +22,10 @@ max_elements = 4096
 -- what an element is before anything is written to it
 abbrev pub zero_element : Element (List ℕ) → Word
 zero_element Bools = zero_of vars.Bool
-zero_element Ints = zero_of (vars.Integer kinds.Int)
-zero_element Uints = zero_of (vars.Integer kinds.Uint)
-zero_element Int64s = zero_of (vars.Integer kinds.Int64)
-zero_element Uint64s = zero_of (vars.Integer kinds.Uint64)
+zero_element Ints = zero_of (vars.Integer ints.Int)
+zero_element Uints = zero_of (vars.Integer ints.Uint)
+zero_element Int64s = zero_of (vars.Integer ints.Int64)
+zero_element Uint64s = zero_of (vars.Integer ints.Uint64)
 zero_element (Handles owner place) = words.Null
 zero_element (Hosts kind) = words.Null
 

@@ -5,7 +5,7 @@ use Rattle.std.specs.List.{range_with_len}
 use Rattle.std.specs.Option.{option_map_or, option_and_then}
 use Rattle.std.specs.Str.{bytes_eq}
 use Rattle.ash_host.specs.Objects.{Plain, Script, Element, Bools, Ints, Uints, Int64s, Uint64s, Handles, Hosts}
-use Rattle.ash_typed.specs.declared.types.Kind.TheVariants as kinds
+use Rattle.ash_integers.specs.declared.int_type.IntType.TheVariants as ints
 use Rattle.ash_typed.specs.declared.types.Element as typed_element
 use Rattle.ash_typed.specs.declared.types.Element.TheVariants as elements
 use Rattle.ash_typed.specs.declared.types.ObjectType.{ObjectType}
@@ -57,10 +57,10 @@ is_object_of p of object = option_map_or (is_class_of p.tree of) (class_of p obj
 -- what the elements of an array are of, as the array says it
 abbrev pub element_of : Program → typed_element.Element → Element (List ℕ)
 element_of p elements.Bool = Bools
-element_of p (elements.Integer kinds.Int) = Ints
-element_of p (elements.Integer kinds.Uint) = Uints
-element_of p (elements.Integer kinds.Int64) = Int64s
-element_of p (elements.Integer kinds.Uint64) = Uint64s
+element_of p (elements.Integer ints.Int) = Ints
+element_of p (elements.Integer ints.Uint) = Uints
+element_of p (elements.Integer ints.Int64) = Int64s
+element_of p (elements.Integer ints.Uint64) = Uint64s
 element_of p (elements.Class class) = Handles p.name (place_of_class p.tree class)
 element_of p (elements.Interface interface) = Handles p.name (place_of_interface p.tree interface)
 element_of p (elements.Host kind) = Hosts kind

@@ -1,7 +1,7 @@
 -- Small modules whose meaning is computed: of jumps in nested statements, and of where exceptions are raised.
 use Rattle.std.specs.Prelude.{ℕ, List, [], ◌∷◌, codes, Some, None}
 use Rattle.ash_tree.specs.declared.tree.statements.Label.TheVariants as labels
-use Rattle.ash_typed.specs.declared.types.Kind.TheVariants as kinds
+use Rattle.ash_integers.specs.declared.int_type.IntType.TheVariants as ints
 use Rattle.ash_typed.specs.declared.tree.operations.Target.TheVariants as targets
 use Rattle.ash_typed.specs.declared.tree.operations.Calculator.TheVariants as calculators
 use Rattle.ash_typed.specs.declared.tree.operations.Comparator.TheVariants as comparators
@@ -25,7 +25,7 @@ abbrev pub n : Place
 n = local 0 int
 
 abbrev pub more : ℕ → Stmt
-more k = evaluate (Update n kinds.Int (record { operator = calculators.Add; of = kinds.Int }) (number k))
+more k = evaluate (Update n ints.Int (record { operator = calculators.Add; of = ints.Int }) (number k))
 
 abbrev pub counted : ℕ → Stmt
 counted k = Declare 1 (variable int (Some (number k)) ∷ [])
@@ -35,36 +35,36 @@ case_of k ss = labelled (labels.Case k) (stmts ss)
 
 -- `for (int i = 0; i < 3; i++)`, with `i` the second local
 abbrev pub three_times : Stmt → Stmt
-three_times body = For 1 (declared_head (variable int (Some (number 0)) ∷ [])) (repeated tests.First (Some below) (Count i kinds.Int steps.IncrementAfter ∷ []) body)
+three_times body = For 1 (declared_head (variable int (Some (number 0)) ∷ [])) (repeated tests.First (Some below) (Count i ints.Int steps.IncrementAfter ∷ []) body)
   where
     i : Place
     i = local 1 int
 
     below : Expr
-    below = Operate (operations.Compare comparators.Less (operands.Integers kinds.Int)) (Read i) (number 3)
+    below = Operate (operations.Compare comparators.Less (operands.Integers ints.Int)) (Read i) (number 3)
 
 -- `int f() { int n = 0; switch (1) { case 1: switch (2) { case 2: break; } n += 1; case 3: n += 10; } return n; }`
 abbrev pub inner_switch : Program
-inner_switch = only (Some int) [] (counted 0 ∷ Switch 1 kinds.Int (number 1) (cases (case_of 1 (Switch 1 kinds.Int (number 2) (cases (case_of 2 (Break 1 ∷ []) ∷ [])) ∷ more 1 ∷ []) ∷ case_of 3 (more 10 ∷ []) ∷ [])) ∷ returning (Read n) ∷ [])
+inner_switch = only (Some int) [] (counted 0 ∷ Switch 1 ints.Int (number 1) (cases (case_of 1 (Switch 1 ints.Int (number 2) (cases (case_of 2 (Break 1 ∷ []) ∷ [])) ∷ more 1 ∷ []) ∷ case_of 3 (more 10 ∷ []) ∷ [])) ∷ returning (Read n) ∷ [])
 
 -- `int f() { int n = 0; for (int i = 0; i < 3; i++) { switch (i) { case 1: continue; } n += 1; } return n; }`
 abbrev pub continue_in_a_switch : Program
-continue_in_a_switch = only (Some int) [] (counted 0 ∷ three_times (Block 1 (stmts (Switch 1 kinds.Int (Read (local 1 int)) (cases (case_of 1 (Continue 1 ∷ []) ∷ [])) ∷ more 1 ∷ []))) ∷ returning (Read n) ∷ [])
+continue_in_a_switch = only (Some int) [] (counted 0 ∷ three_times (Block 1 (stmts (Switch 1 ints.Int (Read (local 1 int)) (cases (case_of 1 (Continue 1 ∷ []) ∷ [])) ∷ more 1 ∷ []))) ∷ returning (Read n) ∷ [])
 
 -- `int f() { int n = 0; for (int i = 0; i < 3; i++) { switch (i) { case 1: break; } n += 1; } return n; }`
 abbrev pub break_in_a_switch : Program
-break_in_a_switch = only (Some int) [] (counted 0 ∷ three_times (Block 1 (stmts (Switch 1 kinds.Int (Read (local 1 int)) (cases (case_of 1 (Break 1 ∷ []) ∷ [])) ∷ more 1 ∷ []))) ∷ returning (Read n) ∷ [])
+break_in_a_switch = only (Some int) [] (counted 0 ∷ three_times (Block 1 (stmts (Switch 1 ints.Int (Read (local 1 int)) (cases (case_of 1 (Break 1 ∷ []) ∷ [])) ∷ more 1 ∷ []))) ∷ returning (Read n) ∷ [])
 
 -- `int f() { int n = 0; for (int i = 0; i < 3; i++) { for (int i = 0; i < 3; i++) { n += 1; break; } } return n; }`,
 -- where the inner `i` is the third local
 abbrev pub break_of_the_inner_loop : Program
-break_of_the_inner_loop = only (Some int) [] (counted 0 ∷ three_times (Block 1 (stmts (For 1 (declared_head (variable int (Some (number 0)) ∷ [])) (repeated tests.First (Some below) (Count i kinds.Int steps.IncrementAfter ∷ []) (Block 1 (stmts (more 1 ∷ Break 1 ∷ [])))) ∷ []))) ∷ returning (Read n) ∷ [])
+break_of_the_inner_loop = only (Some int) [] (counted 0 ∷ three_times (Block 1 (stmts (For 1 (declared_head (variable int (Some (number 0)) ∷ [])) (repeated tests.First (Some below) (Count i ints.Int steps.IncrementAfter ∷ []) (Block 1 (stmts (more 1 ∷ Break 1 ∷ [])))) ∷ []))) ∷ returning (Read n) ∷ [])
   where
     i : Place
     i = local 2 int
 
     below : Expr
-    below = Operate (operations.Compare comparators.Less (operands.Integers kinds.Int)) (Read i) (number 3)
+    below = Operate (operations.Compare comparators.Less (operands.Integers ints.Int)) (Read i) (number 3)
 
 -- `class A {` with fields and a constructor, and `void f() { A(); }`; the class is on line 2, and the function on line 1
 abbrev pub constructing : List Initialization → List Stmt → Program
@@ -93,7 +93,7 @@ failing_argument = program (module_of [] [] (main ∷ g ∷ []))
 
 -- on three lines: `void f() {`, `while (1 / 0 == 0)`, `; }`
 abbrev pub failing_condition : Program
-failing_condition = only None [] (Repeat 2 (repeated tests.First (Some (Operate (operations.Compare comparators.Equal (operands.Integers kinds.Int)) failing (number 0))) [] (Empty 3)) ∷ [])
+failing_condition = only None [] (Repeat 2 (repeated tests.First (Some (Operate (operations.Compare comparators.Equal (operands.Integers ints.Int)) failing (number 0))) [] (Empty 3)) ∷ [])
 
 -- on three lines: `void f() {`, `for (;; 1 / 0)`, `; }`
 abbrev pub failing_step : Program

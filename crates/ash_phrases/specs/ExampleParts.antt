@@ -9,7 +9,7 @@ use Rattle.ash_host.specs.declared.event.Target.TheVariants as host_targets
 use Rattle.ash_host.specs.Calls as calls
 use Rattle.ash_host.specs.Ints.{int_bytes}
 use Rattle.ash_host.specs.Records.{HostRecord}
-use Rattle.ash_typed.specs.declared.types.Kind.TheVariants as kinds
+use Rattle.ash_integers.specs.declared.int_type.IntType.TheVariants as ints
 use Rattle.ash_typed.specs.declared.types.ObjectType.TheVariants as objects
 use Rattle.ash_typed.specs.declared.types.VarType.{VarType}
 use Rattle.ash_typed.specs.declared.types.VarType.TheVariants as vars
@@ -30,7 +30,7 @@ use Rattle.ash_phrases.specs.Ends.{End, Finished, Threw, Aborted, Outcome, load_
 -- parts of trees
 
 abbrev pub int : VarType
-int = vars.Integer kinds.Int
+int = vars.Integer ints.Int
 
 abbrev pub handle_of_class : ℕ → VarType
 handle_of_class class = vars.Handle (objects.Class class)
@@ -39,7 +39,7 @@ abbrev pub handle_of_kind : ℕ → VarType
 handle_of_kind kind = vars.Handle (objects.Host kind)
 
 abbrev pub number : ℕ → Expr
-number n = Number kinds.Int n
+number n = Number ints.Int n
 
 abbrev pub local : ℕ → VarType → Place
 local slot of = Stored (variables.Local slot of)
@@ -48,7 +48,7 @@ abbrev pub global : ℕ → VarType → Place
 global place of = Stored (variables.Global place of)
 
 abbrev pub calculate : Calculator → Expr → Expr → Expr
-calculate operator a b = Operate (operations.Calculate (record { operator = operator; of = kinds.Int })) a b
+calculate operator a b = Operate (operations.Calculate (record { operator = operator; of = ints.Int })) a b
 
 abbrev pub variable : VarType → Option Expr → Initialization
 variable of value = record { name = []; of = of; value = value }

@@ -1,7 +1,7 @@
 -- Small modules whose meaning is computed: of integers, control and calls.
 use Rattle.std.specs.Prelude.{ℕ, List, [], ◌∷◌, codes, true, false, Some, None}
 use Rattle.ash_tree.specs.declared.tree.statements.Label.TheVariants as labels
-use Rattle.ash_typed.specs.declared.types.Kind.TheVariants as kinds
+use Rattle.ash_integers.specs.declared.int_type.IntType.TheVariants as ints
 use Rattle.ash_typed.specs.declared.types.VarType.{VarType}
 use Rattle.ash_typed.specs.declared.types.VarType.TheVariants as vars
 use Rattle.ash_typed.specs.declared.tree.operations.Member.TheVariants as members
@@ -38,13 +38,13 @@ through_null = program (module_of [] (alone (named (codes "g") counter None) ∷
 
 -- `int f(int k) { switch (k) { case 1: k += 10; case 2: k += 100; break; default: k = 0; } return k; }`
 abbrev pub falling : Program
-falling = only (Some int) (int ∷ []) (Switch 1 kinds.Int (Read k) (cases (one ∷ two ∷ other ∷ [])) ∷ returning (Read k) ∷ [])
+falling = only (Some int) (int ∷ []) (Switch 1 ints.Int (Read k) (cases (one ∷ two ∷ other ∷ [])) ∷ returning (Read k) ∷ [])
   where
     k : Place
     k = local 0 int
 
     more : ℕ → Stmt
-    more n = evaluate (Update k kinds.Int (record { operator = calculators.Add; of = kinds.Int }) (number n))
+    more n = evaluate (Update k ints.Int (record { operator = calculators.Add; of = ints.Int }) (number n))
 
     one : Case
     one = labelled (labels.Case 1) (stmts (more 10 ∷ []))
@@ -83,7 +83,7 @@ right_side_first = program (module_of (p ∷ []) (alone (named (codes "o") handl
 
 -- `int f() { int s = 0; for (int i = 0; i < 5; i++) { if (i == 1) continue; if (i == 3) break; s += i; } return s; }`
 abbrev pub looping : Program
-looping = only (Some int) [] (Declare 1 (variable int (Some (number 0)) ∷ []) ∷ For 1 (declared_head (variable int (Some (number 0)) ∷ [])) (repeated tests.First (Some (compare comparators.Less 5)) (Count i kinds.Int steps.IncrementAfter ∷ []) (Block 1 (stmts inside))) ∷ returning (Read s) ∷ [])
+looping = only (Some int) [] (Declare 1 (variable int (Some (number 0)) ∷ []) ∷ For 1 (declared_head (variable int (Some (number 0)) ∷ [])) (repeated tests.First (Some (compare comparators.Less 5)) (Count i ints.Int steps.IncrementAfter ∷ []) (Block 1 (stmts inside))) ∷ returning (Read s) ∷ [])
   where
     s : Place
     s = local 0 int
@@ -92,20 +92,20 @@ looping = only (Some int) [] (Declare 1 (variable int (Some (number 0)) ∷ []) 
     i = local 1 int
 
     compare : Comparator → ℕ → Expr
-    compare operator n = Operate (operations.Compare operator (operands.Integers kinds.Int)) (Read i) (number n)
+    compare operator n = Operate (operations.Compare operator (operands.Integers ints.Int)) (Read i) (number n)
 
     inside : List Stmt
-    inside = If 1 (compare comparators.Equal 1) (Continue 1) no_branch ∷ If 1 (compare comparators.Equal 3) (Break 1) no_branch ∷ evaluate (Update s kinds.Int (record { operator = calculators.Add; of = kinds.Int }) (Read i)) ∷ []
+    inside = If 1 (compare comparators.Equal 1) (Continue 1) no_branch ∷ If 1 (compare comparators.Equal 3) (Break 1) no_branch ∷ evaluate (Update s ints.Int (record { operator = calculators.Add; of = ints.Int }) (Read i)) ∷ []
 
 -- `int f() { int i = 0; do { i++; } while (i < 3); return i; }`
 abbrev pub at_least_once : Program
-at_least_once = only (Some int) [] (Declare 1 (variable int (Some (number 0)) ∷ []) ∷ Repeat 1 (repeated tests.Last (Some below) [] (Block 1 (stmts (evaluate (Count i kinds.Int steps.IncrementAfter) ∷ [])))) ∷ returning (Read i) ∷ [])
+at_least_once = only (Some int) [] (Declare 1 (variable int (Some (number 0)) ∷ []) ∷ Repeat 1 (repeated tests.Last (Some below) [] (Block 1 (stmts (evaluate (Count i ints.Int steps.IncrementAfter) ∷ [])))) ∷ returning (Read i) ∷ [])
   where
     i : Place
     i = local 0 int
 
     below : Expr
-    below = Operate (operations.Compare comparators.Less (operands.Integers kinds.Int)) (Read i) (number 3)
+    below = Operate (operations.Compare comparators.Less (operands.Integers ints.Int)) (Read i) (number 3)
 
 -- `int n = 0; bool g() { n += 1; return true; } int h() { n += 1; return 1; }`
 -- `int f() { bool b = false && g(); int k = false ? h() : 0; return n; }`
@@ -116,7 +116,7 @@ only_what_decides = program (module_of [] (record { line = 1; values = variable 
     n = global 0 int
 
     more : Stmt
-    more = evaluate (Update n kinds.Int (record { operator = calculators.Add; of = kinds.Int }) (number 1))
+    more = evaluate (Update n ints.Int (record { operator = calculators.Add; of = ints.Int }) (number 1))
 
     g : Function
     g = function (codes "g") (Some vars.Bool) [] (more ∷ returning (Truth true) ∷ [])
@@ -139,7 +139,7 @@ on_lines = program (module_of [] [] (record { name = f; line = 1; result = Some 
 
 -- `int f(int x) { return x++ * 10 + ++x; }`
 abbrev pub counting : Program
-counting = only (Some int) (int ∷ []) (returning (calculate calculators.Add (calculate calculators.Multiply (Count x kinds.Int steps.IncrementAfter) (number 10)) (Count x kinds.Int steps.Increment)) ∷ [])
+counting = only (Some int) (int ∷ []) (returning (calculate calculators.Add (calculate calculators.Multiply (Count x ints.Int steps.IncrementAfter) (number 10)) (Count x ints.Int steps.Increment)) ∷ [])
   where
     x : Place
     x = local 0 int

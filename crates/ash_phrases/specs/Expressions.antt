@@ -2,7 +2,7 @@
 use Rattle.std.specs.Prelude.{List, [], ◌∷◌, Bool, true, false, if◌then◌else◌, pos}
 use Rattle.ash_host.specs.declared.word.Word.{Word}
 use Rattle.ash_host.specs.declared.word.Word.TheVariants as words
-use Rattle.ash_typed.specs.declared.types.Kind.{Kind}
+use Rattle.ash_integers.specs.declared.int_type.IntType.{IntType}
 use Rattle.ash_typed.specs.declared.tree.operations.Calculation.{Calculation}
 use Rattle.ash_typed.specs.declared.tree.operations.Step.{Step}
 use Rattle.ash_typed.specs.declared.tree.operations.Lazy.{Lazy}
@@ -21,17 +21,17 @@ abbrev pub store : Word → Location → Run Word
 store word location = write location word >> give word
 
 -- `p op= e` after `e` and `p`: the place is read, and what the operator makes is converted to its type and stored.
-abbrev pub update : Kind → Calculation → Word → Location → Run Word
-update kind calculation right location =
+abbrev pub update : IntType → Calculation → Word → Location → Run Word
+update int_type calculation right location =
     read location
     >>= (λ left. calculate calculation (converted_to calculation.of left) right)
-    >>= (λ word. store (converted_to kind word) location)
+    >>= (λ word. store (converted_to int_type word) location)
 
 -- `++` or `--` after its place
-abbrev pub count_at : Kind → Step → Location → Run Word
-count_at kind step location =
+abbrev pub count_at : IntType → Step → Location → Run Word
+count_at int_type step location =
     read location
-    >>= (λ old. write location (counted step kind old) >> give (given_by step old (counted step kind old)))
+    >>= (λ old. write location (counted step int_type old) >> give (given_by step old (counted step int_type old)))
 
 -- the right operand of a lazy operator, where the left one leaves open what comes out
 abbrev pub lazily : Lazy → Bool → Run Word → Run Word
@@ -46,7 +46,7 @@ element_at array index = object_of array >>= (λ number. index_in number index >
 
 abbrev mutual
   pub expression : Calls → Expr → Run Word
-  expression calls (Number kind n) = give (word_at kind (pos n))
+  expression calls (Number int_type n) = give (word_at int_type (pos n))
   expression calls (Truth b) = give (words.Bool b)
   expression calls Null = give words.Null
   expression calls (This class) = this >>= give_held
@@ -68,9 +68,9 @@ abbrev mutual
       expression calls c >>= (λ word. if is_true word then expression calls a else expression calls b)
   -- the right side comes before the place
   expression calls (Assign place e) = expression calls e >>= (λ word. location calls place >>= store word)
-  expression calls (Update place kind calculation e) =
-      expression calls e >>= (λ right. location calls place >>= update kind calculation right)
-  expression calls (Count place kind step) = location calls place >>= count_at kind step
+  expression calls (Update place int_type calculation e) =
+      expression calls e >>= (λ right. location calls place >>= update int_type calculation right)
+  expression calls (Count place int_type step) = location calls place >>= count_at int_type step
   expression calls (Call target parameters es) = arguments calls es >>= call_target calls target
 
   -- the object of a member is tested as soon as it is computed; that of an element after the index

@@ -12,7 +12,7 @@ use Rattle.ash_host.specs.declared.event.Target.TheVariants as targets
 use Rattle.ash_host.specs.Calls.{HostCall, Start, Invoke, Get, Set}
 use Rattle.ash_host.specs.Objects.{Plain, Host, object_at}
 use Rattle.ash_host.specs.Records.{HostRecord, next_record}
-use Rattle.ash_typed.specs.declared.types.Kind.TheVariants as kinds
+use Rattle.ash_integers.specs.declared.int_type.IntType.TheVariants as ints
 use Rattle.ash_typed.specs.declared.types.VarType.{VarType}
 use Rattle.ash_typed.specs.declared.types.VarType.TheVariants as vars
 use Rattle.ash_phrases.specs.declared.exception.Exception.TheVariants.{PoolEmpty, BadHostAnswer, Raised}
@@ -67,10 +67,10 @@ call_host target call =
 -- whether a word is a value of this type; hosts give no handles
 abbrev pub is_of : VarType → Word → Bool
 is_of vars.Bool (words.Bool b) = true
-is_of (vars.Integer kinds.Int) (words.Int n) = true
-is_of (vars.Integer kinds.Uint) (words.Uint n) = true
-is_of (vars.Integer kinds.Int64) (words.Int64 n) = true
-is_of (vars.Integer kinds.Uint64) (words.Uint64 n) = true
+is_of (vars.Integer ints.Int) (words.Int n) = true
+is_of (vars.Integer ints.Uint) (words.Uint n) = true
+is_of (vars.Integer ints.Int64) (words.Int64 n) = true
+is_of (vars.Integer ints.Uint64) (words.Uint64 n) = true
 is_of _ _ = false
 
 -- What is made of an answer where a result of this type is declared, or none. What gives no value gives null, which no

@@ -6,7 +6,7 @@ use Rattle.ash_host.specs.declared.event.Target.TheVariants as hosts
 use Rattle.ash_host.specs.Calls as calls
 use Rattle.ash_host.specs.Ints.{int_bytes}
 use Rattle.ash_host.specs.Records.{HostRecord}
-use Rattle.ash_typed.specs.declared.types.Kind.TheVariants as kinds
+use Rattle.ash_integers.specs.declared.int_type.IntType.TheVariants as ints
 use Rattle.ash_typed.specs.declared.types.Element.TheVariants as elements
 use Rattle.ash_typed.specs.declared.types.ObjectType.TheVariants as objects
 use Rattle.ash_typed.specs.declared.types.VarType.{VarType}
@@ -157,13 +157,13 @@ in_an_array = program (module_of [] (alone (named (codes "l") array (Some (Call 
     of_l method parameters args = Invoke l (methods.Array method) parameters (exprs args)
 
     uint : VarType
-    uint = vars.Integer kinds.Uint
+    uint = vars.Integer ints.Uint
 
     made : Expr
     made = Call (targets.Host 1) (int ∷ []) (exprs (Read (local 0 int) ∷ []))
 
     f_of : Function
-    f_of = function f (Some int) (int ∷ []) (evaluate (of_l arrays.InsertLast (counter ∷ []) (made ∷ [])) ∷ returning (Convert (record { from = kinds.Uint; to = kinds.Int }) (of_l arrays.Length [] [])) ∷ [])
+    f_of = function f (Some int) (int ∷ []) (evaluate (of_l arrays.InsertLast (counter ∷ []) (made ∷ [])) ∷ returning (Convert (record { from = ints.Uint; to = ints.Int }) (of_l arrays.Length [] [])) ∷ [])
 
     g_of : Function
     g_of = function (codes "g") None [] (evaluate (of_l arrays.RemoveLast [] []) ∷ [])
@@ -173,10 +173,10 @@ in_an_array = program (module_of [] (alone (named (codes "l") array (Some (Call 
 
 -- `array<int> a; int f(uint n) { a.resize(n); return a[0]; }`
 abbrev pub resized : Program
-resized = program (module_of [] (record { line = 1; values = variable of (Some (Call (targets.Array (elements.Integer kinds.Int)) [] (exprs []))) ∷ [] } ∷ []) (function f (Some int) (vars.Integer kinds.Uint ∷ []) (evaluate (Invoke (Read (global 0 of)) (methods.Array arrays.Resize) (vars.Integer kinds.Uint ∷ []) (exprs (Read (local 0 (vars.Integer kinds.Uint)) ∷ []))) ∷ returning (Read (Indexed (Read (global 0 of)) (Number kinds.Uint 0) (elements.Integer kinds.Int))) ∷ []) ∷ []))
+resized = program (module_of [] (record { line = 1; values = variable of (Some (Call (targets.Array (elements.Integer ints.Int)) [] (exprs []))) ∷ [] } ∷ []) (function f (Some int) (vars.Integer ints.Uint ∷ []) (evaluate (Invoke (Read (global 0 of)) (methods.Array arrays.Resize) (vars.Integer ints.Uint ∷ []) (exprs (Read (local 0 (vars.Integer ints.Uint)) ∷ []))) ∷ returning (Read (Indexed (Read (global 0 of)) (Number ints.Uint 0) (elements.Integer ints.Int))) ∷ []) ∷ []))
   where
     of : VarType
-    of = vars.Object (objects.Array (elements.Integer kinds.Int))
+    of = vars.Object (objects.Array (elements.Integer ints.Int))
 
 -- `int a = tally(3); int b = 1; int c = 1 / 0;`
 abbrev pub unfinished : Program

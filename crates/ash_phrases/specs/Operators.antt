@@ -4,15 +4,12 @@ use Rattle.ash_host.specs.declared.word.Word.{Word}
 use Rattle.ash_host.specs.declared.word.Word.TheVariants as words
 use Rattle.ash_host.specs.Records.{is_same_word}
 use Rattle.ash_integers.specs.declared.int_type.IntType.{IntType}
-use Rattle.ash_integers.specs.declared.int_type.IntType.TheVariants as ints
 use Rattle.ash_integers.specs.declared.arithmetic.Arithmetic.TheVariants as arithmetic
 use Rattle.ash_integers.specs.declared.arithmetic.DivisionFault.{DivisionFault}
 use Rattle.ash_integers.specs.declared.arithmetic.DivisionFault.TheVariants as faults
 use Rattle.ash_integers.specs.declared.shift.Shift.TheVariants as shifts
 use Rattle.ash_integers.specs.declared.comparison.Comparison.TheVariants as comparisons
 use Rattle.ash_integers.specs.Integers.{number_of, word_of, complement_of, calculated, shifted, compared}
-use Rattle.ash_typed.specs.declared.types.Kind.{Kind}
-use Rattle.ash_typed.specs.declared.types.Kind.TheVariants as kinds
 use Rattle.ash_typed.specs.declared.types.VarType.{VarType}
 use Rattle.ash_typed.specs.declared.types.VarType.TheVariants as vars
 use Rattle.ash_typed.specs.declared.tree.operations.Calculator.{Calculator}
@@ -33,24 +30,18 @@ use Rattle.ash_phrases.specs.Runs.{Run, give, raise}
 
 -- types and their words
 
-abbrev pub int_type : Kind → IntType
-int_type kinds.Int = ints.Int
-int_type kinds.Uint = ints.Uint
-int_type kinds.Int64 = ints.Int64
-int_type kinds.Uint64 = ints.Uint64
-
 -- the word of an integer type that a whole number leaves
-abbrev pub word_at : Kind → ℤ → Word
-word_at kind number = word_of (int_type kind) number
+abbrev pub word_at : IntType → ℤ → Word
+word_at int_type number = word_of int_type number
 
 -- a word of any integer type, converted
-abbrev pub converted_to : Kind → Word → Word
-converted_to kind word = word_at kind (number_of word)
+abbrev pub converted_to : IntType → Word → Word
+converted_to int_type word = word_at int_type (number_of word)
 
 -- what a variable holds before anything is written to it
 abbrev pub zero_of : VarType → Word
 zero_of vars.Bool = words.Bool false
-zero_of (vars.Integer kind) = word_at kind (pos 0)
+zero_of (vars.Integer int_type) = word_at int_type (pos 0)
 zero_of (vars.Object of) = words.Null
 zero_of (vars.Handle of) = words.Null
 
@@ -81,7 +72,7 @@ give_or_raise (Err faults.ByZero) = raise DivideByZero
 give_or_raise (Err faults.Overflow) = raise DivideOverflow
 
 abbrev pub calculate : Calculation → Word → Word → Run Word
-calculate calculation left right = give_or_raise (calculated_by calculation.operator (int_type calculation.of) left right)
+calculate calculation left right = give_or_raise (calculated_by calculation.operator calculation.of left right)
 
 -- operators that make a truth value of two
 
@@ -105,7 +96,8 @@ holds_of_words comparators.Xor left right = not (is_same_word left right)
 holds_of_words _ left right = false
 
 abbrev pub holds : Comparator → Operands → Word → Word → Bool
-holds comparator (operands.Integers kind) left right = holds_of_numbers comparator (number_of left) (number_of right)
+holds comparator (operands.Integers int_type) left right =
+    holds_of_numbers comparator (number_of left) (number_of right)
 holds comparator operands.Bools left right = holds_of_words comparator left right
 holds comparator operands.Handles left right = holds_of_words comparator left right
 
@@ -116,16 +108,16 @@ operate (operations.Compare comparator of) left right = give (words.Bool (holds 
 -- operators of one operand
 
 abbrev pub altered : Change → Word → Word
-altered (changes.Negate kind) word = word_at kind (pos 0 -ℤ number_of word)
-altered (changes.Complement kind) word = word_at kind (complement_of (number_of word))
+altered (changes.Negate int_type) word = word_at int_type (pos 0 -ℤ number_of word)
+altered (changes.Complement int_type) word = word_at int_type (complement_of (number_of word))
 altered changes.Not word = words.Bool (not (is_true word))
 
 -- what `++` and `--` leave in a place of this type, and which of its values they give
-abbrev pub counted : Step → Kind → Word → Word
-counted steps.Increment kind word = word_at kind (number_of word +ℤ pos 1)
-counted steps.IncrementAfter kind word = word_at kind (number_of word +ℤ pos 1)
-counted steps.Decrement kind word = word_at kind (number_of word -ℤ pos 1)
-counted steps.DecrementAfter kind word = word_at kind (number_of word -ℤ pos 1)
+abbrev pub counted : Step → IntType → Word → Word
+counted steps.Increment int_type word = word_at int_type (number_of word +ℤ pos 1)
+counted steps.IncrementAfter int_type word = word_at int_type (number_of word +ℤ pos 1)
+counted steps.Decrement int_type word = word_at int_type (number_of word -ℤ pos 1)
+counted steps.DecrementAfter int_type word = word_at int_type (number_of word -ℤ pos 1)
 
 abbrev pub given_by : Step → Word → Word → Word
 given_by steps.Increment old new = new

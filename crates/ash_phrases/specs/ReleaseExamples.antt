@@ -7,7 +7,7 @@ use Rattle.ash_host.specs.Calls as calls
 use Rattle.ash_host.specs.Ints.{int_bytes}
 use Rattle.ash_host.specs.Records.{HostRecord}
 use Rattle.ash_tree.specs.declared.tree.statements.Label.TheVariants as labels
-use Rattle.ash_typed.specs.declared.types.Kind.TheVariants as kinds
+use Rattle.ash_integers.specs.declared.int_type.IntType.TheVariants as ints
 use Rattle.ash_typed.specs.declared.tree.operations.Calculator.TheVariants as calculators
 use Rattle.ash_typed.specs.declared.tree.operations.Comparator.TheVariants as comparators
 use Rattle.ash_typed.specs.declared.tree.operations.Member.TheVariants as members
@@ -37,7 +37,7 @@ value_read object n = record { target = hosts.Object object; call = calls.Get 1;
 
 -- `void f() { if (Counter(1).value == 1) {} Counter@ b = Counter(2); }`
 abbrev pub after_a_condition : Program
-after_a_condition = only None [] (If 1 (Operate (operations.Compare comparators.Equal (operands.Integers kinds.Int)) (Read (counter_value (new_counter 1))) (number 1)) (Block 1 (stmts [])) no_branch ∷ declared 2 ∷ [])
+after_a_condition = only None [] (If 1 (Operate (operations.Compare comparators.Equal (operands.Integers ints.Int)) (Read (counter_value (new_counter 1))) (number 1)) (Block 1 (stmts [])) no_branch ∷ declared 2 ∷ [])
 
 -- `void f() { { Counter@ a = Counter(1); { Counter@ b = Counter(2); } } Counter@ c = Counter(3); }`
 abbrev pub after_blocks : Program
@@ -45,13 +45,13 @@ after_blocks = only None [] (Block 1 (stmts (declared 1 ∷ Block 1 (stmts (decl
 
 -- `void f() { for (int i = 0; i < 2; i++) { Counter@ a = Counter(1); { Counter@ b = Counter(1); continue; } } }`
 abbrev pub after_continue : Program
-after_continue = only None [] (For 1 (declared_head (variable int (Some (number 0)) ∷ [])) (repeated tests.First (Some below) (Count i kinds.Int steps.IncrementAfter ∷ []) (Block 1 (stmts (declared 1 ∷ Block 1 (stmts (declared 1 ∷ Continue 1 ∷ [])) ∷ [])))) ∷ [])
+after_continue = only None [] (For 1 (declared_head (variable int (Some (number 0)) ∷ [])) (repeated tests.First (Some below) (Count i ints.Int steps.IncrementAfter ∷ []) (Block 1 (stmts (declared 1 ∷ Block 1 (stmts (declared 1 ∷ Continue 1 ∷ [])) ∷ [])))) ∷ [])
   where
     i : Place
     i = local 0 int
 
     below : Expr
-    below = Operate (operations.Compare comparators.Less (operands.Integers kinds.Int)) (Read i) (number 2)
+    below = Operate (operations.Compare comparators.Less (operands.Integers ints.Int)) (Read i) (number 2)
 
 -- `Counter@ make() { Counter@ a = Counter(1); Counter@ b = Counter(2); return a; } void f() { make().add(1); }`
 abbrev pub after_a_return : Program
@@ -113,7 +113,7 @@ value_of_new n = Read (counter_value (new_counter n))
 
 -- `void f() { switch (Counter(1).value) { case 1: Counter(2); } }`
 abbrev pub after_a_switch_value : Program
-after_a_switch_value = only None [] (Switch 1 kinds.Int (value_of_new 1) (cases (labelled (labels.Case 1) (stmts (evaluate (new_counter 2) ∷ [])) ∷ [])) ∷ [])
+after_a_switch_value = only None [] (Switch 1 ints.Int (value_of_new 1) (cases (labelled (labels.Case 1) (stmts (evaluate (new_counter 2) ∷ [])) ∷ [])) ∷ [])
 
 -- `void f() { int a = Counter(1).value, b = Counter(2).value; }`
 abbrev pub after_each_variable : Program

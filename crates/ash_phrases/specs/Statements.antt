@@ -158,7 +158,7 @@ abbrev mutual
   -- the head and the loop are a block, which a `break` leaves with those of the body
   statement calls depth (For line head inside) =
       tick line >> in_block (begin calls head >> loop calls depth line inside) >>= after_break
-  statement calls depth (Switch line kind e cs) =
+  statement calls depth (Switch line int_type e cs) =
       tick line >> full (expression calls e) >>= switch (cases calls depth cs) >>= after_break
   statement calls depth (Break line) = tick line >> give Broke
   statement calls depth (Continue line) = tick line >> give Continued

@@ -20,7 +20,7 @@ use crate::run_error::{RunError, RunResult};
 use ash_host::Word;
 use ash_integers::number;
 use ash_phrases::Exception;
-use ash_typed::{ArrayMethod, Kind, VarType};
+use ash_typed::{ArrayMethod, IntType, VarType};
 use std::alloc::{AllocError, Global};
 
 /// How many elements an array has at most.
@@ -32,10 +32,10 @@ fn zero_element(of: &Element) -> Word
 {
     match of {
         Element::Bools => zero_of(VarType::Bool),
-        Element::Ints => zero_of(VarType::Integer(Kind::Int)),
-        Element::Uints => zero_of(VarType::Integer(Kind::Uint)),
-        Element::Int64s => zero_of(VarType::Integer(Kind::Int64)),
-        Element::Uint64s => zero_of(VarType::Integer(Kind::Uint64)),
+        Element::Ints => zero_of(VarType::Integer(IntType::Int)),
+        Element::Uints => zero_of(VarType::Integer(IntType::Uint)),
+        Element::Int64s => zero_of(VarType::Integer(IntType::Int64)),
+        Element::Uint64s => zero_of(VarType::Integer(IntType::Uint64)),
         Element::Handles { .. } | Element::Hosts(_) => Word::Null,
     }
 }

@@ -17,7 +17,7 @@ use crate::object::{Element, Object};
 use crate::operators::zero_of;
 use ash_host::Word;
 use ash_typed::{
-    Class, Element as TypedElement, Function, Implementation, Initialization, Interface, Kind,
+    Class, Element as TypedElement, Function, Implementation, Initialization, IntType, Interface,
     Module, ObjectType, Stmt,
 };
 use std::alloc::{AllocError, Global};
@@ -293,10 +293,10 @@ impl<F: Drop> Evaluator<'_, F> {
     {
         match of {
             TypedElement::Bool => Ok(Element::Bools),
-            TypedElement::Integer(Kind::Int) => Ok(Element::Ints),
-            TypedElement::Integer(Kind::Uint) => Ok(Element::Uints),
-            TypedElement::Integer(Kind::Int64) => Ok(Element::Int64s),
-            TypedElement::Integer(Kind::Uint64) => Ok(Element::Uint64s),
+            TypedElement::Integer(IntType::Int) => Ok(Element::Ints),
+            TypedElement::Integer(IntType::Uint) => Ok(Element::Uints),
+            TypedElement::Integer(IntType::Int64) => Ok(Element::Int64s),
+            TypedElement::Integer(IntType::Uint64) => Ok(Element::Uint64s),
             TypedElement::Class(class) => {
                 let place = place_of_class(self.tree, class)?;
                 self.handles_at(place)

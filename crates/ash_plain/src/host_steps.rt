@@ -15,7 +15,7 @@ use crate::run_error::{RunError, RunResult};
 use crate::same::is_of;
 use ash_host::{Event, HostAnswer, Target, Word};
 use ash_phrases::Exception;
-use ash_typed::{Kind, VarType};
+use ash_typed::{IntType, VarType};
 use std::alloc::AllocError;
 
 /// Whether a word is a value of this type; hosts give no handles.
@@ -24,10 +24,10 @@ fn is_of_type(of: VarType, word: Word) -> bool
 {
     match (of, word) {
         (VarType::Bool, Word::Bool(_)) => true,
-        (VarType::Integer(Kind::Int), Word::Int(_)) => true,
-        (VarType::Integer(Kind::Uint), Word::Uint(_)) => true,
-        (VarType::Integer(Kind::Int64), Word::Int64(_)) => true,
-        (VarType::Integer(Kind::Uint64), Word::Uint64(_)) => true,
+        (VarType::Integer(IntType::Int), Word::Int(_)) => true,
+        (VarType::Integer(IntType::Uint), Word::Uint(_)) => true,
+        (VarType::Integer(IntType::Int64), Word::Int64(_)) => true,
+        (VarType::Integer(IntType::Uint64), Word::Uint64(_)) => true,
         _ => false,
     }
 }
@@ -75,7 +75,7 @@ impl Activity {
         let Some(before) = self.state_of(target) else {
             return Err(RunError::NoStep);
         };
-        let Some(next) = self.world.answers.prefix() else {
+        let Some(next) = self.world.answers.front() else {
             return Err(RunError::NoStep);
         };
         if !is_of(target, call, before, next) {

@@ -3,7 +3,7 @@
 ghost use Rattle.std.specs.Prelude.{◌≡◌, pos};
 ghost use Rattle.ash_host.specs.Records.{is_same_word};
 ghost use Rattle.ash_integers.specs.Integers.{number_of};
-ghost use Rattle.ash_phrases.specs.Operators.{int_type, word_at, converted_to, zero_of, is_true, calculated_by, holds_of_numbers, holds_of_words, holds, altered, counted, given_by};
+ghost use Rattle.ash_phrases.specs.Operators.{word_at, converted_to, zero_of, is_true, calculated_by, holds_of_numbers, holds_of_words, holds, altered, counted, given_by};
 ghost use Rattle.ash_plain.specs.Phrases.{converted_by};
 
 use ash_host::Word;
@@ -11,31 +11,20 @@ use ash_integers::{
     Arithmetic, Comparison, DivisionFault, IntType, Shift, calculate, compare, complement, convert,
     negate, number, shift_by, word_from,
 };
-use ash_typed::{Calculator, Change, Comparator, Conversion, Kind, Operands, Step, VarType};
-
-fn int_type(kind: Kind) -> IntType
-    ensures { result ≡ int_type kind }
-{
-    match kind {
-        Kind::Int => IntType::Int,
-        Kind::Uint => IntType::Uint,
-        Kind::Int64 => IntType::Int64,
-        Kind::Uint64 => IntType::Uint64,
-    }
-}
+use ash_typed::{Calculator, Change, Comparator, Conversion, Operands, Step, VarType};
 
 /// A number that a script writes.
-pub(crate) fn numeral(kind: Kind, value: u64) -> Word
+pub(crate) fn numeral(kind: IntType, value: u64) -> Word
     ensures { result ≡ word_at kind (pos value) }
 {
-    word_from(int_type(kind), i128::from(value))
+    word_from(kind, i128::from(value))
 }
 
 /// A word of any integer type, converted.
-pub(crate) fn converted_to(kind: Kind, word: Word) -> Word
+pub(crate) fn converted_to(kind: IntType, word: Word) -> Word
     ensures { result ≡ converted_to kind word }
 {
-    convert(int_type(kind), word)
+    convert(kind, word)
 }
 
 /// A word, converted where a conversion is named.
@@ -54,7 +43,7 @@ pub(crate) fn zero_of(of: VarType) -> Word
 {
     match of {
         VarType::Bool => Word::Bool(false),
-        VarType::Integer(kind) => word_from(int_type(kind), 0),
+        VarType::Integer(kind) => word_from(kind, 0),
         VarType::Object(_) | VarType::Handle(_) => Word::Null,
     }
 }
@@ -72,13 +61,12 @@ pub(crate) fn is_true(word: Word) -> bool
 /// What an operator that makes an integer of two gives, or why a quotient is refused.
 pub(crate) fn calculated_by(
     calculator: Calculator,
-    of: Kind,
+    of: IntType,
     left: Word,
     right: Word,
 ) -> Result<Word, DivisionFault>
-    ensures { result ≡ calculated_by calculator (int_type of) left right }
+    ensures { result ≡ calculated_by calculator of left right }
 {
-    let of = int_type(of);
     match calculator {
         Calculator::Multiply => calculate(Arithmetic::Multiply, of, left, right),
         Calculator::Divide => calculate(Arithmetic::Divide, of, left, right),
@@ -151,20 +139,20 @@ pub(crate) fn altered(change: Change, word: Word) -> Word
     ensures { result ≡ altered change word }
 {
     match change {
-        Change::Negate(kind) => negate(int_type(kind), word),
-        Change::Complement(kind) => complement(int_type(kind), word),
+        Change::Negate(kind) => negate(kind, word),
+        Change::Complement(kind) => complement(kind, word),
         Change::Not => Word::Bool(!is_true(word)),
     }
 }
 
 /// What `++` and `--` leave in a place of this type.
-pub(crate) fn counted(step: Step, kind: Kind, word: Word) -> Word
+pub(crate) fn counted(step: Step, kind: IntType, word: Word) -> Word
     ensures { result ≡ counted step kind word }
 {
     let number = number(word);
     match step {
-        Step::Increment | Step::IncrementAfter => word_from(int_type(kind), number + 1),
-        Step::Decrement | Step::DecrementAfter => word_from(int_type(kind), number - 1),
+        Step::Increment | Step::IncrementAfter => word_from(kind, number + 1),
+        Step::Decrement | Step::DecrementAfter => word_from(kind, number - 1),
     }
 }
 

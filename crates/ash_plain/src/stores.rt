@@ -14,7 +14,7 @@ use crate::run_error::{RunError, RunResult};
 use ash_host::Word;
 use ash_integers::DivisionFault;
 use ash_phrases::Exception;
-use ash_typed::{Calculation, Kind, Operation, Step};
+use ash_typed::{Calculation, IntType, Operation, Step};
 
 impl Activity {
     /// What an operator that makes an integer of two gives. A quotient that is refused is an exception.
@@ -56,7 +56,7 @@ impl Activity {
     /// Stores what an operator makes of what a location holds, converted to its type.
     pub(crate) fn update(
         &mut self,
-        kind: Kind,
+        kind: IntType,
         calculation: Calculation,
         right: Word,
         location: Location,
@@ -69,7 +69,12 @@ impl Activity {
     }
 
     /// `++` or `--` at a location.
-    pub(crate) fn count_at(&mut self, kind: Kind, step: Step, location: Location) -> RunResult<Word>
+    pub(crate) fn count_at(
+        &mut self,
+        kind: IntType,
+        step: Step,
+        location: Location,
+    ) -> RunResult<Word>
         ensures { RunsAs (λ w. w) result (activity_seen self.new) (count_at kind step (location_seen location) (activity_seen self.old)) }
     {
         let old = self.read(location)?;

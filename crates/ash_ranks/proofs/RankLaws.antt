@@ -21,9 +21,12 @@ use Rattle.ash_typed.specs.Signatures as signatures
 use Rattle.ash_typing.specs.Types.{var_type, ty_of}
 use Rattle.ash_typing.specs.Environment.{Interface, Class, ModuleDeclarations, first_from, is_class, is_interface_named}
 use Rattle.ash_typing.specs.Environment.{type_declared}
-use Rattle.ash_typing.specs.ModuleDeclarations.{class_type, interface_type, host_object, object_named, element_of, element_by}
-use Rattle.ash_typing.specs.ModuleDeclarations.{element_named, array_named, object_ty, handle_ty, ty_named, declared, variables}
-use Rattle.ash_typing.specs.ModuleDeclarations.{interface_place, with_place, listed_in, named_class, class_head, names_in, declarations}
+use Rattle.ash_typing.specs.ModuleDeclarations.{class_type, interface_type, host_object, object_named, element_of}
+use Rattle.ash_typing.specs.ModuleDeclarations.{element_by}
+use Rattle.ash_typing.specs.ModuleDeclarations.{element_named, array_named, object_ty, handle_ty, ty_named, declared}
+use Rattle.ash_typing.specs.ModuleDeclarations.{variables}
+use Rattle.ash_typing.specs.ModuleDeclarations.{interface_place, with_place, listed_in, named_class, class_declaration}
+use Rattle.ash_typing.specs.ModuleDeclarations.{names_in, declarations}
 use Rattle.ash_typing.specs.ModuleDeclarations.{all_variables}
 use Rattle.ash_typing.specs.TypedModules.{environment, IsTyped}
 use Rattle.ash_typing.specs.Offered.{offered}
@@ -192,11 +195,11 @@ module _ (calls : List host.Registration) (is : List written.Item) where
   seen = signatures_in calls (declarations calls is)
 
   written_class : (place : ℕ) (c : signatures.ClassSignature) → slice_get seen.classes place ≡ Some c
-      → HasClass is place (λ w. signature_of_class (class_head calls (names_in is) w) ≡ c)
+      → HasClass is place (λ w. signature_of_class (class_declaration calls (names_in is) w) ≡ c)
   unfolding declarations
   written_class place c h =
       let signed = unmapped signature_of_class (declarations calls is).classes place c h in
-      let head = unmapped (class_head calls (names_in is)) (classes_of is) place signed.0 signed.1 in
+      let head = unmapped (class_declaration calls (names_in is)) (classes_of is) place signed.0 signed.1 in
       (head.0, head.1, ap signature_of_class head.2 ∙ signed.2)
 
   -- a class of the name at the place

@@ -19,11 +19,11 @@ ghost use Rattle.ash_typing.specs.TypedModules.{IsTyped};
 /// That a class of a typed module refers only to what it refers to as it is written, so that ranks of the written
 /// classes are ranks of the typed ones. It does nothing when it runs.
 pub fn typed_ranks_fall()
-    ensures refers { (calls : List Registration) (is : List Item) (typed : Module) → IsTyped calls is typed
-        → (from to : ℕ) → Refers (signatures_of (offered calls) typed) from to
+    ensures refers { (calls : List Registration) (is : List Item) (typed : Module)
+        → IsTyped calls is typed → (from to : ℕ) → Refers (signatures_of (offered calls) typed) from to
         → written.Refers (written.classes_of is) from to }
-    ensures ranks { (calls : List Registration) (is : List Item) (typed : Module) → IsTyped calls is typed
-        → (ranks : List ℕ)
+    ensures ranks { (calls : List Registration) (is : List Item) (typed : Module)
+        → IsTyped calls is typed → (ranks : List ℕ)
         → ways.AreRanks (written.Refers (written.classes_of is)) (length (written.classes_of is))
         ranks → AreRanks (signatures_of (offered calls) typed) ranks }
 {}

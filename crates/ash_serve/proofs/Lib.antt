@@ -4,4 +4,4 @@ pub mod ServingLemmas
 pub mod RunningLemmas
 pub mod DefinedLemmas
 pub mod ServiceLemmas
-pub mod CheckingLemmas
+pub mod CheckRunLemmas

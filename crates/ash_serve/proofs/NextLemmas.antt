@@ -1,9 +1,11 @@
 -- What request bytes begin with, as they are read.
-use Rattle.std.proofs.Common.{◌≡◌, ◌<◌, ◌≤◌, ℕ, ◌==◌, nat_lt, true, false, List, [], ◌∷◌, ◌++◌, length, take, drop, refl, ap, ◌∙◌, subst, arith, append_assoc, Some, None}
+use Rattle.std.proofs.Common.{◌≡◌, ◌<◌, ◌≤◌, ℕ, ◌==◌, nat_lt, true, false, List, [], ◌∷◌, ◌++◌, length, take, drop}
+use Rattle.std.proofs.Common.{refl, ap, ◌∙◌, subst, arith, append_assoc, Some, None}
 use Rattle.std.proofs.lemmas.Grind.{common_steps}
 use Rattle.std.proofs.lemmas.Bool.Decides.{nat_tests}
 use Rattle.ash_lines.specs.Reading.{is_line}
-use Rattle.ash_lines.specs.Lines.{Line, HostRequest, BadRequest, LineTooLong, cut_line, parse_line, Complete, LoadHeader, Cut, Whole, next, on_line, after_line, after_source, is_unfinished}
+use Rattle.ash_lines.specs.Lines.{Line, HostRequest, BadRequest, LineTooLong, cut_line, parse_line, Complete}
+use Rattle.ash_lines.specs.Lines.{LoadHeader, Cut, Whole, next, on_line, after_line, after_source, is_unfinished}
 use Rattle.ash_meaning.specs.State.{Load}
 use Rattle.ash_serve.specs.Serving.{Spells}
 

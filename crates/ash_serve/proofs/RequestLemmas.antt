@@ -1,10 +1,12 @@
 -- What reading and handling a request did, by what was read.
-use Rattle.std.proofs.Common.{◌≡◌, ◌<◌, ◌≤◌, ℕ, true, List, [], ◌∷◌, ◌++◌, length, refl, sym, ap, ◌∙◌, subst, arith, Ok, Err}
+use Rattle.std.proofs.Common.{◌≡◌, ◌<◌, ◌≤◌, ℕ, true, List, [], ◌∷◌, ◌++◌, length, refl, sym, ap, ◌∙◌, subst, arith, Ok}
+use Rattle.std.proofs.Common.{Err}
 use Rattle.ash_meaning.specs.State.{Load, reply_of}
 use Rattle.ash_meaning.specs.declared.request.Reply as meaning
 use Rattle.ash_lines.specs.Source.{Feed, IsFeed, Faults}
 use Rattle.ash_lines.specs.Reading.{ReadsLinePart, ReadsWholeLine, FaultsInLine, source_prefix}
-use Rattle.ash_lines.specs.Lines.{Line, HostRequest, BadRequest, LineTooLong, parse_line, Complete, LoadHeader, next, is_unfinished}
+use Rattle.ash_lines.specs.Lines.{Line, HostRequest, BadRequest, LineTooLong, parse_line, Complete, LoadHeader, next}
+use Rattle.ash_lines.specs.Lines.{is_unfinished}
 use Rattle.ash_lines.specs.Replies.{line_reply_of}
 use Rattle.ash_serve.specs.Serving.{RequestRelation, DependsOnPrefix, HandlesRequest, RepliesTo, fault_of}
 use Rattle.ash_lines.specs.declared.source.ReadFault.{ReadFault}
@@ -14,7 +16,8 @@ use Rattle.ash_serve.specs.declared.fault.RunFault.TheVariants as faults
 use Rattle.ash_lines.specs.declared.reply.LineReply as code
 use Rattle.ash_lines.specs.declared.reply.LineReply.TheVariants as code_replies
 use Rattle.ash_lines.proofs.SourceLemmas.{faults_after}
-use Rattle.ash_serve.proofs.NextLemmas.{next-cut, unfinished-line, spells-long, spells-line, spells-load, spells-unended, cut-source, cut-unended}
+use Rattle.ash_serve.proofs.NextLemmas.{next-cut, unfinished-line, spells-long, spells-line, spells-load}
+use Rattle.ash_serve.proofs.NextLemmas.{spells-unended, cut-source, cut-unended}
 
 -- a fault in a request that is unfinished
 handled-fault : {S H : Type 0} (feed : Feed S) (handles : RequestRelation H) (budget : ℕ) (s t : S) (h : H) (fault : ReadFault) (r : RunFault) (rest : List ℕ) → r ≡ fault_of fault → Faults feed s rest fault t → is_unfinished (next rest) ≡ true → HandlesRequest feed handles budget s h (Err r) t h

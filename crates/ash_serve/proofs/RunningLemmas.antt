@@ -1,13 +1,16 @@
 -- A run over a reader and a writer, from the run over their source and sink.
-use Rattle.std.proofs.Common.{◌≡◌, ◌<◌, ℕ, ◌^◌, true, is_some, length, List, [], ◌∷◌, ◌++◌, refl, sym, ap, ◌∙◌, subst, arith, append_assoc, Option, Some, None, Ok, Err, Result, inl, inr, ⊎_elim, ◌⊎◌}
+use Rattle.std.proofs.Common.{◌≡◌, ◌<◌, ℕ, ◌^◌, true, is_some, length, List, [], ◌∷◌, ◌++◌, refl, sym, ap, ◌∙◌, subst}
+use Rattle.std.proofs.Common.{arith, append_assoc, Option, Some, None, Ok, Err, Result, inl, inr, ⊎_elim, ◌⊎◌}
 use Rattle.std.proofs.lemmas.List.{append-nil}
 use Rattle.std.specs.Option.{option_to_list}
 use Rattle.std.specs.Io.Buffered.{reader_remaining}
 use Rattle.std.specs.Io.KnownBytes.{Appends, Keeps, Consumes, IsAtEnd, prepend_known}
 use Rattle.ash_lines.specs.Lines.{Line, HostRequest, Quit, BadRequest, LineTooLong, ConsistsOf}
-use Rattle.ash_lines.specs.Replies.{LineReply, HostReply, QuitReply, BadRequestReply, LineTooLongReply, reply_line, text_of}
+use Rattle.ash_lines.specs.Replies.{LineReply, HostReply, QuitReply, BadRequestReply, LineTooLongReply, reply_line}
+use Rattle.ash_lines.specs.Replies.{text_of}
 use Rattle.ash_lines.specs.Sink.{WritesAll}
-use Rattle.ash_serve.specs.Serving.{RequestRelation, Preserves, RepliesTo, RepliesToAll, Log, Serves, HandlesLine, EndsBetweenRequests}
+use Rattle.ash_serve.specs.Serving.{RequestRelation, Preserves, RepliesTo, RepliesToAll, Log, Serves, HandlesLine}
+use Rattle.ash_serve.specs.Serving.{EndsBetweenRequests}
 use Rattle.ash_serve.specs.Running.{Run, RunEnds, ReadsPrefix, ReadsProperPrefix, ReadsAll, GoOn, EndsWithQuit}
 use Rattle.ash_lines.specs.Reader.{left_of, allowance_of, reader_feed, reader_is_feed}
 use Rattle.ash_lines.specs.Writer.{writer_outlet, writer_is_outlet, appends-onward}

@@ -1,12 +1,16 @@
 -- A run, request by request.
-use Rattle.std.proofs.Common.{◌≡◌, ◌<◌, ℕ, true, false, List, [], ◌∷◌, ◌++◌, length, refl, sym, ap, ◌∙◌, subst, arith, append_assoc, Some, None, Ok, Err}
+use Rattle.std.proofs.Common.{◌≡◌, ◌<◌, ℕ, true, false, List, [], ◌∷◌, ◌++◌, length, refl, sym, ap, ◌∙◌, subst, arith}
+use Rattle.std.proofs.Common.{append_assoc, Some, None, Ok, Err}
 use Rattle.std.proofs.lemmas.List.{append-nil}
 use Rattle.std.specs.List.{AllByRecursion}
 use Rattle.ash_lines.specs.Source.{Feed, IsFeed}
 use Rattle.ash_lines.specs.Sink.{Outlet, IsOutlet, WritesAll, FailsPartway}
-use Rattle.ash_lines.specs.Lines.{Line, HostRequest, Quit, BadRequest, LineTooLong, GoesOn, Whole, next, ConsistsOf, is_unfinished}
-use Rattle.ash_lines.specs.Replies.{LineReply, HostReply, QuitReply, BadRequestReply, LineTooLongReply, line_reply_of, reply_line, text_of}
-use Rattle.ash_serve.specs.Serving.{RequestRelation, HandlesNext, HandlesLine, RepliesTo, RepliesToAll, Spells, Log, OngoingLog, Serves, EndsByFault, EndsBetweenRequests, ends_run}
+use Rattle.ash_lines.specs.Lines.{Line, HostRequest, Quit, BadRequest, LineTooLong, GoesOn, Whole, next, ConsistsOf}
+use Rattle.ash_lines.specs.Lines.{is_unfinished}
+use Rattle.ash_lines.specs.Replies.{LineReply, HostReply, QuitReply, BadRequestReply, LineTooLongReply, line_reply_of}
+use Rattle.ash_lines.specs.Replies.{reply_line, text_of}
+use Rattle.ash_serve.specs.Serving.{RequestRelation, HandlesNext, HandlesLine, RepliesTo, RepliesToAll, Spells, Log}
+use Rattle.ash_serve.specs.Serving.{OngoingLog, Serves, EndsByFault, EndsBetweenRequests, ends_run}
 use Rattle.ash_serve.specs.declared.fault.RunFault.{RunFault}
 use Rattle.ash_serve.specs.declared.fault.RunFault.TheVariants as faults
 use Rattle.ash_lines.specs.declared.reply.LineReply as code

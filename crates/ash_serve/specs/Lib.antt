@@ -3,5 +3,5 @@ pub mod Serving
 pub mod LongSources
 pub mod Running
 pub mod Program
-pub mod Checking
+pub mod CheckRun
 pub mod Service

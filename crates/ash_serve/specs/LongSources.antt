@@ -8,4 +8,5 @@ use Rattle.ash_serve.specs.Serving.{DependsOnPrefix}
 
 pub handles_by_prefix : {D : Type 0} (device : Device D) → DependsOnPrefix (Handles device)
 unfolding source_prefix
-handles_by_prefix device budget name source old new reply h = handles_prefix device budget name (source_prefix source) source old reply new refl h
+handles_by_prefix device budget name source old new reply h =
+    handles_prefix device budget name (source_prefix source) source old reply new refl h

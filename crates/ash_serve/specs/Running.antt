@@ -1,5 +1,6 @@
 -- A run over a reader and a writer, by their bytes alone, where these are known.
-use Rattle.std.specs.Prelude.{◌≡◌, ◌<◌, ◌≤◌, ◌⊎◌, ℕ, ◌^◌, true, List, [], ◌∷◌, ◌++◌, length, Option, Result, Ok, Err, IfSome}
+use Rattle.std.specs.Prelude.{◌≡◌, ◌<◌, ◌≤◌, ◌⊎◌, ℕ, ◌^◌, true, List, [], ◌∷◌, ◌++◌, length, Option, Result, Ok, Err}
+use Rattle.std.specs.Prelude.{IfSome}
 use Rattle.std.specs.List.{AllByRecursion}
 use Rattle.std.specs.Io.KnownBytes.{Appends, Keeps}
 use Rattle.ash_meaning.specs.State.{Request, Reply}
@@ -57,7 +58,8 @@ GoOnToLast lines = (others : List Line) × (last : Line) × (lines ≡ others ++
 
 -- How a run ended, by its outcome. What was written is the text of the replies. Where a write failed it is that of all
 -- but the last, and a prefix of the last: no request was handled before the replies to those before it were written.
-abbrev pub RunEnds : {H : Type 0} → Option (List ℕ) → RequestRelation H → ℕ → H → Option (List ℕ) → Result (Unit {0}) RunFault → H → Option (List ℕ) → Type 0
+abbrev pub RunEnds : {H : Type 0} → Option (List ℕ) → RequestRelation H → ℕ → H → Option (List ℕ)
+    → Result (Unit {0}) RunFault → H → Option (List ℕ) → Type 0
 RunEnds input handles budget old before (Ok _) new after =
     (run : Run handles budget old new) × ReadsPrefix input run.read × Appends before after (text_of run.replies)
     × (run.rest ≡ []) × ((ReadsAll input run.read × GoOn run.lines) ⊎ EndsWithQuit run.lines)
@@ -72,6 +74,7 @@ RunEnds input handles budget old before (Err faults.Read) new after =
     × (is_unfinished (next run.rest) ≡ true) × GoOn run.lines
 RunEnds input handles budget old before (Err faults.Write) new after =
     (run : Run handles budget old new) × ReadsPrefix input run.read × (run.rest ≡ [])
-    × (written : List LineReply) × (last : LineReply) × (out : List ℕ) × (lost : List ℕ) × (run.replies ≡ written ++ last ∷ [])
+    × (written : List LineReply) × (last : LineReply) × (out : List ℕ) × (lost : List ℕ)
+    × (run.replies ≡ written ++ last ∷ [])
     × Appends before after (text_of written ++ out) × (reply_line last ≡ out ++ lost) × GoOnToLast run.lines
 RunEnds input handles budget old before (Err faults.NoMemory) new after = (new ≡ old) × Keeps before after

@@ -2,7 +2,7 @@
 use Rattle.std.specs.Prelude.{◌≡◌, ◌==◌, if◌then◌else◌, ℕ, pos, List, [], ◌∷◌, codes, Option, Some, option_map, Result, Ok, Err}
 use Rattle.ash_host.specs.Ints.{int_bytes}
 use Rattle.ash_host.specs.Records.{HostRecord}
-use Rattle.ash_typed.specs.declared.types.Kind.TheVariants as kinds
+use Rattle.ash_integers.specs.declared.int_type.IntType.TheVariants as ints
 use Rattle.ash_typed.specs.declared.tree.operations.Calculator.TheVariants as calculators
 use Rattle.ash_typed.specs.Tree.{Read, Update, Place}
 use Rattle.ash_typed.specs.StatementTree.{Stmt}
@@ -31,7 +31,7 @@ adding = parts.module_of [] (parts.alone (parts.named (codes "n") parts.int (Som
     n = parts.global 0 parts.int
 
     more : Stmt
-    more = parts.evaluate (Update n kinds.Int (record { operator = calculators.Add; of = kinds.Int }) (Read (parts.local 0 parts.int)))
+    more = parts.evaluate (Update n ints.Int (record { operator = calculators.Add; of = ints.Int }) (Read (parts.local 0 parts.int)))
 
 -- `Counter@ g = Counter(7);`
 abbrev pub with_counter : Module

@@ -1,7 +1,7 @@
 -- Small modules of integers and services, which requests load and call.
 use Rattle.std.specs.Prelude.{ℕ, ◌+◌, List, [], ◌∷◌, codes, map, Some, None}
 use Rattle.std.specs.List.{range_with_len}
-use Rattle.ash_typed.specs.declared.types.Kind.TheVariants as kinds
+use Rattle.ash_integers.specs.declared.int_type.IntType.TheVariants as ints
 use Rattle.ash_typed.specs.declared.types.VarType.{VarType}
 use Rattle.ash_typed.specs.declared.types.VarType.TheVariants as vars
 use Rattle.ash_typed.specs.declared.tree.operations.Calculator.{Calculator}
@@ -34,7 +34,7 @@ dividing = functions (function (codes "a") (Some int) [] (returning (calculate c
 
 -- `bool p() { return 1 | 2 == 2; }`, where `|` comes first
 abbrev pub bits_first : Module
-bits_first = functions (function (codes "p") (Some vars.Bool) [] (returning (Operate (operations.Compare comparators.Equal (operands.Integers kinds.Int)) (calculate calculators.BitOr (number 1) (number 2)) (number 2)) ∷ []) ∷ [])
+bits_first = functions (function (codes "p") (Some vars.Bool) [] (returning (Operate (operations.Compare comparators.Equal (operands.Integers ints.Int)) (calculate calculators.BitOr (number 1) (number 2)) (number 2)) ∷ []) ∷ [])
 
 -- on six lines: `int n = 0;`, `int f(int d) {`, `n = 1; tally(4);`, `return 10 / d;`, `}`, `int t() { return total(); }`
 abbrev pub failing_late : Module
@@ -60,30 +60,30 @@ nothing = module_of [] [] []
 
 -- `uint64 x = 18446744073709551615;`
 abbrev pub greatest : Module
-greatest = module_of [] (alone (named (codes "x") (vars.Integer kinds.Uint64) (Some (Number kinds.Uint64 18446744073709551615))) ∷ []) []
+greatest = module_of [] (alone (named (codes "x") (vars.Integer ints.Uint64) (Some (Number ints.Uint64 18446744073709551615))) ∷ []) []
 
 -- `uint x = 4000000000; uint f() { return x / 2; } bool g() { return x > -1; } int64 h() { return -2147483648; }`
 -- Unsigned and signed meet at `int`, and the sign makes an `int` of a `uint`.
 abbrev pub signs : Module
-signs = module_of [] (alone (named (codes "x") uint (Some (Number kinds.Uint 4000000000))) ∷ []) (half ∷ above ∷ least ∷ [])
+signs = module_of [] (alone (named (codes "x") uint (Some (Number ints.Uint 4000000000))) ∷ []) (half ∷ above ∷ least ∷ [])
   where
     uint : VarType
-    uint = vars.Integer kinds.Uint
+    uint = vars.Integer ints.Uint
 
     x : Expr
     x = Read (global 0 uint)
 
     negated : Expr → Expr
-    negated e = Alter (changes.Negate kinds.Int) e
+    negated e = Alter (changes.Negate ints.Int) e
 
     half : Function
-    half = function f (Some uint) [] (returning (Operate (operations.Calculate (record { operator = calculators.Divide; of = kinds.Uint })) x (Number kinds.Uint 2)) ∷ [])
+    half = function f (Some uint) [] (returning (Operate (operations.Calculate (record { operator = calculators.Divide; of = ints.Uint })) x (Number ints.Uint 2)) ∷ [])
 
     above : Function
-    above = function (codes "g") (Some vars.Bool) [] (returning (Operate (operations.Compare comparators.Greater (operands.Integers kinds.Int)) (Convert (record { from = kinds.Uint; to = kinds.Int }) x) (negated (number 1))) ∷ [])
+    above = function (codes "g") (Some vars.Bool) [] (returning (Operate (operations.Compare comparators.Greater (operands.Integers ints.Int)) (Convert (record { from = ints.Uint; to = ints.Int }) x) (negated (number 1))) ∷ [])
 
     least : Function
-    least = function (codes "h") (Some (vars.Integer kinds.Int64)) [] (returning (Convert (record { from = kinds.Int; to = kinds.Int64 }) (negated (Convert (record { from = kinds.Uint; to = kinds.Int }) (Number kinds.Uint 2147483648)))) ∷ [])
+    least = function (codes "h") (Some (vars.Integer ints.Int64)) [] (returning (Convert (record { from = ints.Int; to = ints.Int64 }) (negated (Convert (record { from = ints.Uint; to = ints.Int }) (Number ints.Uint 2147483648)))) ∷ [])
 
 -- `int a(int x) { return x >> 28; } int b(int x) { return x >>> 28; } int c(int x) { return x << 33; }`
 abbrev pub shifting : Module

@@ -3,7 +3,7 @@ use Rattle.std.specs.Prelude.{ℕ, List, [], ◌∷◌, codes, map, Some, None}
 use Rattle.std.specs.List.{range_with_len}
 use Rattle.ash_host.specs.declared.word.Word.{Word}
 use Rattle.ash_host.specs.Objects.{Script}
-use Rattle.ash_typed.specs.declared.types.Kind.TheVariants as kinds
+use Rattle.ash_integers.specs.declared.int_type.IntType.TheVariants as ints
 use Rattle.ash_typed.specs.declared.types.Element.TheVariants as elements
 use Rattle.ash_typed.specs.declared.types.ObjectType.TheVariants as objects
 use Rattle.ash_typed.specs.declared.types.VarType.{VarType}
@@ -82,13 +82,13 @@ through_an_interface = record { interfaces = i ∷ []; classes = a ∷ b ∷ [];
 
 -- `array<int> a; void f(uint n) { a.resize(n); }`
 abbrev pub resizing : Module
-resizing = module_of [] (alone (named (codes "a") of (Some (Call (targets.Array (elements.Integer kinds.Int)) [] (exprs [])))) ∷ []) (function f None (uint ∷ []) (evaluate (Invoke (Read (global 0 of)) (methods.Array arrays.Resize) (uint ∷ []) (exprs (Read (local 0 uint) ∷ []))) ∷ []) ∷ [])
+resizing = module_of [] (alone (named (codes "a") of (Some (Call (targets.Array (elements.Integer ints.Int)) [] (exprs [])))) ∷ []) (function f None (uint ∷ []) (evaluate (Invoke (Read (global 0 of)) (methods.Array arrays.Resize) (uint ∷ []) (exprs (Read (local 0 uint) ∷ []))) ∷ []) ∷ [])
   where
     of : VarType
-    of = vars.Object (objects.Array (elements.Integer kinds.Int))
+    of = vars.Object (objects.Array (elements.Integer ints.Int))
 
     uint : VarType
-    uint = vars.Integer kinds.Uint
+    uint = vars.Integer ints.Uint
 
 -- objects as they are shown
 

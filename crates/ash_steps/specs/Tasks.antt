@@ -14,7 +14,7 @@ use Rattle.ash_typed.specs.declared.types.VarType.TheVariants as vars
 use Rattle.ash_typed.specs.StatementTree.{Initialization}
 use Rattle.ash_typed.specs.Modules.{Function, Class, Module}
 use Rattle.ash_typed.specs.SoundModules.{names_of_globals}
-use Rattle.ash_phrases.specs.Operators.{int_type, word_at}
+use Rattle.ash_phrases.specs.Operators.{word_at}
 use Rattle.ash_phrases.specs.Classes.{places_of_classes, dotted}
 use Rattle.ash_steps.specs.declared.argument.Argument.{Argument}
 use Rattle.ash_steps.specs.declared.argument.Argument.TheVariants as arguments
@@ -57,7 +57,7 @@ both _ _ = None
 -- an argument as a word of a parameter's type, where the type holds it
 abbrev pub argument_of : VarType → Argument → Option Word
 argument_of vars.Bool (arguments.Truth b) = Some (words.Bool b)
-argument_of (vars.Integer kind) (arguments.Number z) = if int_eq (reduced (int_type kind) z) z then Some (word_at kind z) else None
+argument_of (vars.Integer int_type) (arguments.Number z) = if int_eq (reduced int_type z) z then Some (word_at int_type z) else None
 argument_of _ _ = None
 
 -- as many arguments as parameters, each of its type
@@ -69,7 +69,7 @@ arguments_of _ _ = None
 -- a function is called from outside where it takes and gives primitives alone
 abbrev pub is_primitive : VarType → Bool
 is_primitive vars.Bool = true
-is_primitive (vars.Integer kind) = true
+is_primitive (vars.Integer int_type) = true
 is_primitive _ = false
 
 abbrev pub is_callable : Function → Bool

@@ -50,11 +50,6 @@ pub fn worked_runs()
 
 /// What requests reply that load and call small modules of integers.
 pub fn worked_integer_runs()
-    ensures enough_ticks { RepliesFrom begin (integers.giving_one ∷ []) 2 (Load m (0 ∷ []) ∷ Call m f [] ∷ []) 0 []
-        (Answered (Finished None) 1 [] ∷ Answered (Finished (Some (Word.Int (pos 1)))) 2 [] ∷ []) }
-    ensures one_tick_too_few { RepliesFrom begin (integers.giving_one ∷ []) 1
-        (Load m (0 ∷ []) ∷ Call m f [] ∷ []) 0 []
-        (Answered (Finished None) 1 [] ∷ Answered (Aborted f 1) 2 [] ∷ []) }
     ensures wrapped_sum { RepliesOf (integers.dividing ∷ []) (Load m (0 ∷ []) ∷ Call m (codes "a") [] ∷ []) 0 []
         (Answered (Finished None) 1 [] ∷ Answered (Finished (Some (Word.Int (negsuc (2 ^ 31 - 1))))) 2 [] ∷ []) }
     ensures quotients { RepliesOf (integers.dividing ∷ [])
@@ -84,9 +79,6 @@ pub fn worked_integer_runs()
         (Answered (Threw Exception.DivideByZero (codes "(init)") 1) 1 (Called (Target.Service 0) 1 ∷ [])
         ∷ Answered (Finished None) 2 []
         ∷ Answered (Finished (Some (Word.Int (pos 3)))) 3 (Called (Target.Service 0) 2 ∷ []) ∷ []) }
-    ensures unending_loop { RepliesFrom begin (integers.unending ∷ []) 100
-        (Load m (0 ∷ []) ∷ Call m (codes "g") [] ∷ []) 0 []
-        (Answered (Finished None) 1 [] ∷ Answered (Aborted (codes "g") 1) 2 [] ∷ []) }
     ensures empty_module { RepliesOf (integers.nothing ∷ []) (Load m (0 ∷ []) ∷ []) 0 []
         (Answered (Finished None) 1 [] ∷ []) }
     ensures greatest_number { RepliesOf (integers.greatest ∷ []) (Load m (0 ∷ []) ∷ Global m (codes "x") ∷ []) 0 []
@@ -111,15 +103,6 @@ pub fn worked_integer_runs()
         (Answered (Finished None) 1 [] ∷ Refused NoFunction ∷ Refused BadArguments ∷ Refused BadArguments
         ∷ Refused NoModule ∷ Refused NoModule ∷ Refused NoGlobal ∷ Refused NoObject ∷ Refused ModuleTaken
         ∷ Refused BadName ∷ Number 1 ∷ Done ∷ []) }
-    ensures seventeenth_module { RepliesFrom (full_of_modules begin) (integers.nothing ∷ []) 20
-        (Load (codes "q") (0 ∷ []) ∷ Load (codes "p") (0 ∷ []) ∷ Discard (codes "p") ∷ Load (codes "q") (0 ∷ []) ∷ [])
-        0 []
-        (Refused TooManyModules ∷ Refused ModuleTaken ∷ Answered (Finished None) 1 []
-        ∷ Answered (Finished None) 2 [] ∷ []) }
-    ensures last_answer { RepliesFrom (spent begin) (integers.nothing ∷ []) 20
-        (Load m (0 ∷ []) ∷ Call m f [] ∷ Discard m ∷ Global m (codes "q") ∷ Seq ∷ []) 0 []
-        (Refused SequenceSpent ∷ Refused SequenceSpent ∷ Refused SequenceSpent ∷ Refused NoModule
-        ∷ Number (2 ^ 64 - 1) ∷ []) }
 {}
 
 /// What requests reply that load and call small modules with objects, and show these.
@@ -177,6 +160,27 @@ pub fn worked_object_runs()
         ∷ Answered (Threw Exception.IndexOutOfBounds (codes "h") 1) 4 []
         ∷ Answered (Finished None) 5 (Dropped 2 ∷ [])
         ∷ Answered (Threw Exception.IndexOutOfBounds (codes "g") 1) 6 [] ∷ []) }
+{}
+
+/// What requests reply at the limits: of ticks, modules, answers, the length of arrays, numbers and objects.
+pub fn worked_limit_runs()
+    ensures enough_ticks { RepliesFrom begin (integers.giving_one ∷ []) 2 (Load m (0 ∷ []) ∷ Call m f [] ∷ []) 0 []
+        (Answered (Finished None) 1 [] ∷ Answered (Finished (Some (Word.Int (pos 1)))) 2 [] ∷ []) }
+    ensures one_tick_too_few { RepliesFrom begin (integers.giving_one ∷ []) 1
+        (Load m (0 ∷ []) ∷ Call m f [] ∷ []) 0 []
+        (Answered (Finished None) 1 [] ∷ Answered (Aborted f 1) 2 [] ∷ []) }
+    ensures unending_loop { RepliesFrom begin (integers.unending ∷ []) 100
+        (Load m (0 ∷ []) ∷ Call m (codes "g") [] ∷ []) 0 []
+        (Answered (Finished None) 1 [] ∷ Answered (Aborted (codes "g") 1) 2 [] ∷ []) }
+    ensures seventeenth_module { RepliesFrom (full_of_modules begin) (integers.nothing ∷ []) 20
+        (Load (codes "q") (0 ∷ []) ∷ Load (codes "p") (0 ∷ []) ∷ Discard (codes "p") ∷ Load (codes "q") (0 ∷ []) ∷ [])
+        0 []
+        (Refused TooManyModules ∷ Refused ModuleTaken ∷ Answered (Finished None) 1 []
+        ∷ Answered (Finished None) 2 [] ∷ []) }
+    ensures last_answer { RepliesFrom (spent begin) (integers.nothing ∷ []) 20
+        (Load m (0 ∷ []) ∷ Call m f [] ∷ Discard m ∷ Global m (codes "q") ∷ Seq ∷ []) 0 []
+        (Refused SequenceSpent ∷ Refused SequenceSpent ∷ Refused SequenceSpent ∷ Refused NoModule
+        ∷ Number (2 ^ 64 - 1) ∷ []) }
     ensures longest_array { RepliesOf (objects.resizing ∷ [])
         (Load m (0 ∷ []) ∷ Call m f (Argument.Number (pos 4096) ∷ []) ∷ Call m f (Argument.Number (pos 4097) ∷ [])
         ∷ Object 1 ∷ []) 0 []

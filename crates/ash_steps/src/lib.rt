@@ -17,4 +17,4 @@ mod examples;
 pub mod laws;
 
 pub use argument::Argument;
-pub use examples::{worked_integer_runs, worked_object_runs, worked_runs};
+pub use examples::{worked_integer_runs, worked_limit_runs, worked_object_runs, worked_runs};

@@ -1,7 +1,7 @@
 -- Which scripts can be run so far, and the typed tree of each.
 --
 -- Such a script declares globals, one `int` in each declaration, and functions from `int`s to an `int`. A tree does not
--- tell `int` from `int32`, which are one type, nor a `;` that is alone between two items: scripts that differ by no
+-- distinguish `int` from `int32`, which are one type, and has no `;` between two items: scripts that differ by no
 -- more are the same here. The globals and the functions share one space of names, in which each name is in it once;
 -- there are at most 256 globals. In the parameters of a function each name is in it once too. Items see each other in
 -- any order. Each function has a `return` among its statements.

@@ -1,10 +1,8 @@
 -- Which variable each name of a script is, and which statements and expressions can be run so far.
 --
 -- Statements assign to a variable by `=` or `+=`, or return a value. Values are numbers, variables, sums, differences
--- and
--- products of values, and values in brackets. The parameters of a function are a space of names of their own, and one
--- of
--- them hides a global or a function of its name.
+-- and products of values, and values in brackets. The parameters of a function are a space of names of their own, and
+-- one of them hides a global or a function of its name.
 use Rattle.std.specs.Prelude.{ℕ, Bool, true, not, ◌&&◌, ◌-◌, ◌^◌, min, pos, nat_eq, nat_le, if◌then◌else◌, List, []}
 use Rattle.std.specs.Prelude.{◌∷◌, position, Option, Some, None, option_map}
 use Rattle.std.specs.List.{list_any}

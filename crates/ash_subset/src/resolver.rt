@@ -165,7 +165,8 @@ fn resolve_function(
     source: &written::Function,
 ) -> Result<Option<Function>, AllocError>
     ensures { IfOk result (λ found.
-        option_map function_of found ≡ function_in (texts globals.now) (written_function source.now)) }
+        option_map function_of found
+        ≡ function_in (texts globals.now) (written_function source.now)) }
 {
     let parameters = names_of_parameters(alloc, &source.parameters)?;
     if !are_distinct(&parameters) || !has_return(&source.body) {

@@ -73,7 +73,8 @@ impl Scope<'_> {
         source: &written::Expr,
     ) -> Result<Option<Action>, AllocError>
         ensures { IfOk result (λ found.
-            option_map action_of found ≡ assignment_in (scope_of self.now) (written_expr source.now)) }
+            option_map action_of found
+            ≡ assignment_in (scope_of self.now) (written_expr source.now)) }
     {
         let written::ExprKind::Assign {
             target,
@@ -102,7 +103,8 @@ impl Scope<'_> {
 
     fn returned(&self, alloc: Global, source: &written::Expr) -> Result<Option<Action>, AllocError>
         ensures { IfOk result (λ found.
-            option_map action_of found ≡ return_in (scope_of self.now) (Some (written_expr source.now))) }
+            option_map action_of found
+            ≡ return_in (scope_of self.now) (Some (written_expr source.now))) }
     {
         let Some(value) = self.value(alloc, source)? else {
             return Ok(None);

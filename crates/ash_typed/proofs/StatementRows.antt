@@ -6,7 +6,7 @@ use Rattle.ash_typed.specs.declared.tree.statements.StmtKind.{Row_of-Stmt, end_o
 use Rattle.ash_typed.specs.declared.tree.statements.StmtKind.{items-the_row-Stmt, Row_of-Case, end_of-Case}
 use Rattle.ash_typed.specs.declared.tree.statements.StmtKind.{more_of-Case, items-the_row-Case}
 use Rattle.ash_typed.specs.declared.tree.statements.StmtKind.TheViews as views
-use Rattle.ash_typed.specs.declared.types.Kind.{Kind}
+use Rattle.ash_integers.specs.declared.int_type.IntType.{IntType}
 use Rattle.ash_typed.specs.declared.tree.statements.Stmt as code_stmt
 use Rattle.ash_typed.specs.declared.tree.statements.Case as code_case
 use Rattle.ash_typed.specs.declared.tree.expressions.Expr as code_expr
@@ -26,6 +26,6 @@ pub block_is : (line : ℕ) (ss : Vec code_stmt.Stmt Global)
     → stmt_at line (views.Block ss) ≡ Block line (body_of ss.items)
 block_is line ss = search (rules, views.the_lemmas, stmts_of-row)
 
-pub switch_is : (line : ℕ) (of : Kind) (e : code_expr.Expr) (cs : Vec code_case.Case Global)
+pub switch_is : (line : ℕ) (of : IntType) (e : code_expr.Expr) (cs : Vec code_case.Case Global)
     → stmt_at line (views.Switch of e cs) ≡ Switch line of (expr_of e) (cases (map case_of cs.items))
 switch_is line of e cs = search (rules, views.the_lemmas, cases_of-row)

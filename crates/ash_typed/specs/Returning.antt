@@ -3,7 +3,7 @@
 use Rattle.std.specs.Prelude.{ℕ, Option}
 use Rattle.ash_tree.specs.declared.tree.statements.Label.{Label}
 use Rattle.ash_tree.specs.declared.tree.statements.Label.TheVariants as labels
-use Rattle.ash_typed.specs.declared.types.Kind.{Kind}
+use Rattle.ash_integers.specs.declared.int_type.IntType.{IntType}
 use Rattle.ash_typed.specs.Tree.{Expr}
 use Rattle.ash_typed.specs.StatementTree.{Stmt, Block, If, Branch, branch, Switch, Break, Return, Stmts, stmt, Case}
 use Rattle.ash_typed.specs.StatementTree.{labelled, Cases, no_case, next_case}
@@ -35,7 +35,7 @@ mutual
     returned : {line : ℕ} {e : Option Expr} → Returns (Return line e)
     in_block : {line : ℕ} {ss : Stmts} → AnyReturns ss → Returns (Block line ss)
     in_both : {line : ℕ} {c : Expr} {s t : Stmt} → Returns s → Returns t → Returns (If line c s (branch t))
-    in_switch : {line : ℕ} {k : Kind} {e : Expr} {cs : Cases}
+    in_switch : {line : ℕ} {k : IntType} {e : Expr} {cs : Cases}
         → HasDefault cs
         → (BreaksOut cs → ⊥)
         → LastReturns cs

@@ -4,8 +4,8 @@ use Rattle.std.specs.Prelude.{◌≡◌, ◌<◌, ℕ, length, List, [], ◌++�
 use Rattle.std.specs.List.{Contains}
 use Rattle.ash_tree.specs.declared.tree.types.Primitive.{Primitive}
 use Rattle.ash_tree.specs.declared.tree.types.Primitive.TheVariants as primitives
-use Rattle.ash_typed.specs.declared.types.Kind.{Kind}
-use Rattle.ash_typed.specs.declared.types.Kind.TheVariants as kinds
+use Rattle.ash_integers.specs.declared.int_type.IntType.{IntType}
+use Rattle.ash_integers.specs.declared.int_type.IntType.TheVariants as ints
 use Rattle.ash_typed.specs.declared.types.Element.{Element}
 use Rattle.ash_typed.specs.declared.types.Element.TheVariants as elements
 use Rattle.ash_typed.specs.declared.types.ObjectType.{ObjectType}
@@ -34,10 +34,10 @@ pub record Host : Type 0 where
 
 abbrev pub type_of_primitive : Primitive → VarType
 type_of_primitive primitives.Bool = vars.Bool
-type_of_primitive primitives.Int = vars.Integer kinds.Int
-type_of_primitive primitives.Int64 = vars.Integer kinds.Int64
-type_of_primitive primitives.Uint = vars.Integer kinds.Uint
-type_of_primitive primitives.Uint64 = vars.Integer kinds.Uint64
+type_of_primitive primitives.Int = vars.Integer ints.Int
+type_of_primitive primitives.Int64 = vars.Integer ints.Int64
+type_of_primitive primitives.Uint = vars.Integer ints.Uint
+type_of_primitive primitives.Uint64 = vars.Integer ints.Uint64
 
 -- what a module declares
 
@@ -100,7 +100,7 @@ signatures_of host m = record {
 
 pub data IsElement (s : Signatures) : Element → Type 0 where
   truths : IsElement s elements.Bool
-  integers : {kind : Kind} → IsElement s (elements.Integer kind)
+  integers : {int_type : IntType} → IsElement s (elements.Integer int_type)
   of_class : {class : ℕ} → class < length s.classes → IsElement s (elements.Class class)
   of_interface : {interface : ℕ} → interface < length s.interfaces → IsElement s (elements.Interface interface)
   of_host : {kind : ℕ} → Contains s.host.kinds kind → IsElement s (elements.Host kind)
@@ -118,14 +118,14 @@ IsNoInterface _ = Unit {0}
 -- A variable may be of this type: none has an object of an interface.
 pub data IsVariableType (s : Signatures) : VarType → Type 0 where
   truth : IsVariableType s vars.Bool
-  integer : {kind : Kind} → IsVariableType s (vars.Integer kind)
+  integer : {int_type : IntType} → IsVariableType s (vars.Integer int_type)
   object : {o : ObjectType} → IsObjectType s o → IsNoInterface o → IsVariableType s (vars.Object o)
   handle : {o : ObjectType} → IsObjectType s o → IsVariableType s (vars.Handle o)
 
 -- A parameter or a result may be of this type: objects are passed by handles.
 pub data IsPassedType (s : Signatures) : VarType → Type 0 where
   passed_truth : IsPassedType s vars.Bool
-  passed_integer : {kind : Kind} → IsPassedType s (vars.Integer kind)
+  passed_integer : {int_type : IntType} → IsPassedType s (vars.Integer int_type)
   passed_handle : {o : ObjectType} → IsObjectType s o → IsPassedType s (vars.Handle o)
 
 abbrev pub IsResultType : Signatures → Option VarType → Type 0

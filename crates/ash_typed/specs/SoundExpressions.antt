@@ -4,8 +4,8 @@
 -- `IsWellTyped env e of`: in this environment the expression `e` is well typed, and gives a value of this type, or
 -- null, or no value.
 use Rattle.std.specs.Prelude.{◌≡◌, ℕ, Bool, List, [], ◌∷◌, Option, Some, slice_get}
-use Rattle.ash_typed.specs.declared.types.Kind.{Kind}
-use Rattle.ash_typed.specs.declared.types.Kind.TheVariants as kinds
+use Rattle.ash_integers.specs.declared.int_type.IntType.{IntType}
+use Rattle.ash_integers.specs.declared.int_type.IntType.TheVariants as ints
 use Rattle.ash_typed.specs.declared.types.Element.{Element}
 use Rattle.ash_typed.specs.declared.types.ObjectType.{ObjectType}
 use Rattle.ash_typed.specs.declared.types.ObjectType.TheVariants as objects
@@ -38,7 +38,8 @@ pub record Environment : Type 0 where
 
 mutual
   pub data IsWellTyped (env : Environment) : Expr → ValueType → Type 0 where
-    number : {kind : Kind} {n : ℕ} → IsWithin kind n → IsWellTyped env (Number kind n) (value (vars.Integer kind))
+    number : {int_type : IntType} {n : ℕ} → IsWithin int_type n
+        → IsWellTyped env (Number int_type n) (value (vars.Integer int_type))
     truth : {b : Bool} → IsWellTyped env (Truth b) (value vars.Bool)
     null : IsWellTyped env Null null_value
     this : {class : ℕ}
@@ -53,7 +54,7 @@ mutual
         → IsMethod env.signatures o method parameters result
         → AreArguments env parameters es
         → IsWellTyped env (Invoke object method parameters es) (value_of_result result)
-    convert : {from to : Kind} {e : Expr}
+    convert : {from to : IntType} {e : Expr}
         → IsWellTyped env e (value (vars.Integer from))
         → IsWellTyped env (Convert (record { from = from; to = to }) e) (value (vars.Integer to))
     cast : {to from : ObjectType} {e : Expr}
@@ -64,12 +65,12 @@ mutual
         → IsChange change of
         → IsWellTyped env e (value of)
         → IsWellTyped env (Alter change e) (value of)
-    calculate : {operator : Calculator} {of : Kind} {a b : Expr}
+    calculate : {operator : Calculator} {of : IntType} {a b : Expr}
         → IsWellTyped env a (value (vars.Integer of))
         → IsWellTyped env b (value (vars.Integer of))
         → IsWellTyped env (Operate (operations.Calculate (record { operator = operator; of = of })) a b)
         (value (vars.Integer of))
-    shift : {operator : Calculator} {of count : Kind} {a b : Expr}
+    shift : {operator : Calculator} {of count : IntType} {a b : Expr}
         → IsShift operator
         → IsWellTyped env a (value (vars.Integer of))
         → IsWellTyped env b (value (vars.Integer count))
@@ -107,18 +108,20 @@ mutual
         → IsAssigned of
         → Fits env of e
         → IsWellTyped env (Assign place e) (value (as_value of))
-    update : {place : Place} {kind of : Kind} {operator : Calculator} {e : Expr}
-        → HasPlace env place (vars.Integer kind)
+    update : {place : Place} {int_type of : IntType} {operator : Calculator} {e : Expr}
+        → HasPlace env place (vars.Integer int_type)
         → IsWellTyped env e (value (vars.Integer of))
-        → IsWellTyped env (Update place kind (record { operator = operator; of = of }) e) (value (vars.Integer kind))
-    update_by_shift : {place : Place} {kind of count : Kind} {operator : Calculator} {e : Expr}
+        → IsWellTyped env (Update place int_type (record { operator = operator; of = of }) e)
+        (value (vars.Integer int_type))
+    update_by_shift : {place : Place} {int_type of count : IntType} {operator : Calculator} {e : Expr}
         → IsShift operator
-        → HasPlace env place (vars.Integer kind)
+        → HasPlace env place (vars.Integer int_type)
         → IsWellTyped env e (value (vars.Integer count))
-        → IsWellTyped env (Update place kind (record { operator = operator; of = of }) e) (value (vars.Integer kind))
-    count : {place : Place} {kind : Kind} {step : Step}
-        → HasPlace env place (vars.Integer kind)
-        → IsWellTyped env (Count place kind step) (value (vars.Integer kind))
+        → IsWellTyped env (Update place int_type (record { operator = operator; of = of }) e)
+        (value (vars.Integer int_type))
+    count : {place : Place} {int_type : IntType} {step : Step}
+        → HasPlace env place (vars.Integer int_type)
+        → IsWellTyped env (Count place int_type step) (value (vars.Integer int_type))
     call : {target : Target} {parameters : List VarType} {result : Option VarType} {es : Exprs}
         → IsTarget env.signatures target parameters result
         → AreArguments env parameters es
@@ -138,7 +141,7 @@ mutual
         → HasPlace env (Held object held) of
     element : {array index : Expr} {of : Element}
         → IsWellTyped env array (value (vars.Handle (objects.Array of)))
-        → IsWellTyped env index (value (vars.Integer kinds.Uint))
+        → IsWellTyped env index (value (vars.Integer ints.Uint))
         → HasPlace env (Indexed array index of) (type_of_element of)
 
   -- What the expression gives may be stored in a variable of the type.

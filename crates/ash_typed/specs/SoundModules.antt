@@ -24,7 +24,7 @@ outside s = record { signatures = s; this = None; locals = [] }
 abbrev pub body_scope : Environment → Function → Scope
 body_scope env f = record {
   env = record { signatures = env.signatures; this = env.this; locals = f.parameters };
-  gives = f.result;
+  result = f.result;
   may_break = false;
   may_continue = false;
 }
@@ -48,8 +48,8 @@ pub record IsInterface (s : Signatures) (classes : ℕ) (i : Interface) : Type 0
   pub few : length i.methods ≤ 32
   pub methods : AllByRecursion (IsSignature s) i.methods
 
--- Interfaces in the order of the source, of which the first has at least so many classes before it: none has more of them
--- than a later one. So each interface and each class has a place of its own among all of a module.
+-- Interfaces in the order of the source, of which the first has at least so many classes before it: none has more of
+-- them than a later one. So each interface and each class has a place of its own among all of a module.
 abbrev pub AreInOrder : ℕ → List Interface → Type 0
 AreInOrder least [] = Unit {0}
 AreInOrder least (i ∷ is) = (least ≤ i.classes_before) × AreInOrder i.classes_before is

@@ -3,8 +3,8 @@
 use Rattle.std.specs.Prelude.{◌≡◌, ◌<◌, ◌^◌, ℕ, List, [], ◌∷◌, Option, Some, map, option_map, slice_get}
 use Rattle.std.specs.List.{Contains}
 use Rattle.ash_tree.specs.declared.tree.types.Primitive.{Primitive}
-use Rattle.ash_typed.specs.declared.types.Kind.{Kind}
-use Rattle.ash_typed.specs.declared.types.Kind.TheVariants as kinds
+use Rattle.ash_integers.specs.declared.int_type.IntType.{IntType}
+use Rattle.ash_integers.specs.declared.int_type.IntType.TheVariants as ints
 use Rattle.ash_typed.specs.declared.types.Element.{Element}
 use Rattle.ash_typed.specs.declared.types.ObjectType.{ObjectType}
 use Rattle.ash_typed.specs.declared.types.ObjectType.TheVariants as objects
@@ -32,11 +32,11 @@ use Rattle.ash_typed.specs.Signatures.{HostSignature, type_of_primitive, ClassSi
 use Rattle.ash_typed.specs.Signatures.{IsObjectType}
 
 -- The type holds this number, which is not negative: each number of a tree has 64 bits.
-abbrev pub IsWithin : Kind → ℕ → Type 0
-IsWithin kinds.Int n = n < 2 ^ 31
-IsWithin kinds.Uint n = n < 2 ^ 32
-IsWithin kinds.Int64 n = n < 2 ^ 63
-IsWithin kinds.Uint64 n = Unit {0}
+abbrev pub IsWithin : IntType → ℕ → Type 0
+IsWithin ints.Int n = n < 2 ^ 31
+IsWithin ints.Uint n = n < 2 ^ 32
+IsWithin ints.Int64 n = n < 2 ^ 63
+IsWithin ints.Uint64 n = Unit {0}
 
 -- members and methods
 
@@ -53,7 +53,7 @@ pub data IsMember (s : Signatures) : ObjectType → Member → VarType → Type 
 -- `parameters_of_array_method of method` is what a method of arrays takes.
 abbrev pub parameters_of_array_method : Element → ArrayMethod → List VarType
 parameters_of_array_method of arrays.Length = []
-parameters_of_array_method of arrays.Resize = vars.Integer kinds.Uint ∷ []
+parameters_of_array_method of arrays.Resize = vars.Integer ints.Uint ∷ []
 parameters_of_array_method of arrays.InsertLast = type_of_element of ∷ []
 parameters_of_array_method of arrays.RemoveLast = []
 parameters_of_array_method of arrays.IsEmpty = []
@@ -98,7 +98,7 @@ pub data IsTarget (s : Signatures) : Target → List VarType → Option VarType 
       → IsTarget s (targets.Array of) [] (Some (vars.Handle (objects.Array of)))
   sized_array : {of : Element}
       → IsElement s of
-      → IsTarget s (targets.Array of) (vars.Integer kinds.Uint ∷ []) (Some (vars.Handle (objects.Array of)))
+      → IsTarget s (targets.Array of) (vars.Integer ints.Uint ∷ []) (Some (vars.Handle (objects.Array of)))
 
 -- operators
 
@@ -110,12 +110,12 @@ pub data IsShift : Calculator → Type 0 where
 
 -- The operator compares two of these operands.
 pub data Compares : Comparator → Operands → Type 0 where
-  less : {kind : Kind} → Compares comparators.Less (operands.Integers kind)
-  less_or_equal : {kind : Kind} → Compares comparators.LessOrEqual (operands.Integers kind)
-  greater : {kind : Kind} → Compares comparators.Greater (operands.Integers kind)
-  greater_or_equal : {kind : Kind} → Compares comparators.GreaterOrEqual (operands.Integers kind)
-  equal : {kind : Kind} → Compares comparators.Equal (operands.Integers kind)
-  not_equal : {kind : Kind} → Compares comparators.NotEqual (operands.Integers kind)
+  less : {int_type : IntType} → Compares comparators.Less (operands.Integers int_type)
+  less_or_equal : {int_type : IntType} → Compares comparators.LessOrEqual (operands.Integers int_type)
+  greater : {int_type : IntType} → Compares comparators.Greater (operands.Integers int_type)
+  greater_or_equal : {int_type : IntType} → Compares comparators.GreaterOrEqual (operands.Integers int_type)
+  equal : {int_type : IntType} → Compares comparators.Equal (operands.Integers int_type)
+  not_equal : {int_type : IntType} → Compares comparators.NotEqual (operands.Integers int_type)
   same_truth : Compares comparators.Equal operands.Bools
   other_truth : Compares comparators.NotEqual operands.Bools
   xor : Compares comparators.Xor operands.Bools
@@ -124,20 +124,20 @@ pub data Compares : Comparator → Operands → Type 0 where
 
 -- Each of these operands gives this.
 pub data IsOperand : Operands → ValueType → Type 0 where
-  integer : {kind : Kind} → IsOperand (operands.Integers kind) (value (vars.Integer kind))
+  integer : {int_type : IntType} → IsOperand (operands.Integers int_type) (value (vars.Integer int_type))
   truth : IsOperand operands.Bools (value vars.Bool)
   object : {o : ObjectType} → IsOperand operands.Handles (value (vars.Handle o))
   no_object : IsOperand operands.Handles null_value
 
 -- Minus gives a signed type.
-pub data IsSigned : Kind → Type 0 where
-  int : IsSigned kinds.Int
-  int64 : IsSigned kinds.Int64
+pub data IsSigned : IntType → Type 0 where
+  int : IsSigned ints.Int
+  int64 : IsSigned ints.Int64
 
 -- An operator before its operand takes the first type and gives the second.
 pub data IsChange : Change → VarType → Type 0 where
-  negate : {kind : Kind} → IsSigned kind → IsChange (changes.Negate kind) (vars.Integer kind)
-  complement : {kind : Kind} → IsChange (changes.Complement kind) (vars.Integer kind)
+  negate : {int_type : IntType} → IsSigned int_type → IsChange (changes.Negate int_type) (vars.Integer int_type)
+  complement : {int_type : IntType} → IsChange (changes.Complement int_type) (vars.Integer int_type)
   not : IsChange changes.Not vars.Bool
 
 -- An object is cast to a class or to an interface.
@@ -149,5 +149,5 @@ pub data IsCastType (s : Signatures) : ObjectType → Type 0 where
 -- A place of the type is assigned to: it is one of primitives or of handles, since objects are not assigned.
 pub data IsAssigned : VarType → Type 0 where
   truth : IsAssigned vars.Bool
-  integer : {kind : Kind} → IsAssigned (vars.Integer kind)
+  integer : {int_type : IntType} → IsAssigned (vars.Integer int_type)
   handle : {o : ObjectType} → IsAssigned (vars.Handle o)

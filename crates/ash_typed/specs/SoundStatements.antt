@@ -8,8 +8,8 @@ use Rattle.std.specs.Prelude.{◌++◌, Option, Some, None}
 use Rattle.std.specs.List.{AllByRecursion}
 use Rattle.ash_tree.specs.declared.tree.statements.Label.{Label}
 use Rattle.ash_tree.specs.declared.tree.statements.Label.TheVariants as labels
-use Rattle.ash_typed.specs.declared.types.Kind.{Kind}
-use Rattle.ash_typed.specs.declared.types.Kind.TheVariants as kinds
+use Rattle.ash_integers.specs.declared.int_type.IntType.{IntType}
+use Rattle.ash_integers.specs.declared.int_type.IntType.TheVariants as ints
 use Rattle.ash_typed.specs.declared.types.Element.{Element}
 use Rattle.ash_typed.specs.declared.types.ObjectType.{ObjectType}
 use Rattle.ash_typed.specs.declared.types.ObjectType.TheVariants as objects
@@ -32,7 +32,7 @@ use Rattle.ash_typed.specs.SoundExpressions.{Environment, IsWellTyped, Fits}
 -- next turn of a loop.
 pub record Scope : Type 0 where
   pub env : Environment
-  pub gives : Option VarType
+  pub result : Option VarType
   pub may_break : Bool
   pub may_continue : Bool
 
@@ -42,16 +42,16 @@ with_locals env types = record { signatures = env.signatures; this = env.this; l
 abbrev pub declaring : Scope → List VarType → Scope
 declaring scope types = record {
   env = with_locals scope.env types;
-  gives = scope.gives;
+  result = scope.result;
   may_break = scope.may_break;
   may_continue = scope.may_continue;
 }
 
 abbrev pub in_loop : Scope → Scope
-in_loop scope = record { env = scope.env; gives = scope.gives; may_break = true; may_continue = true }
+in_loop scope = record { env = scope.env; result = scope.result; may_break = true; may_continue = true }
 
 abbrev pub in_switch : Scope → Scope
-in_switch scope = record { env = scope.env; gives = scope.gives; may_break = true; may_continue = scope.may_continue }
+in_switch scope = record { env = scope.env; result = scope.result; may_break = true; may_continue = scope.may_continue }
 
 -- variables
 
@@ -111,11 +111,11 @@ pub data IsHead (env : Environment) : Head → List VarType → Type 0 where
 -- labels
 
 -- The type holds the number that is this much below zero.
-abbrev pub IsWithinMinus : Kind → ℕ → Type 0
-IsWithinMinus kinds.Int n = n ≤ 2 ^ 31
-IsWithinMinus kinds.Uint n = n ≡ 0
-IsWithinMinus kinds.Int64 n = n ≤ 2 ^ 63
-IsWithinMinus kinds.Uint64 n = n ≡ 0
+abbrev pub IsWithinMinus : IntType → ℕ → Type 0
+IsWithinMinus ints.Int n = n ≤ 2 ^ 31
+IsWithinMinus ints.Uint n = n ≡ 0
+IsWithinMinus ints.Int64 n = n ≤ 2 ^ 63
+IsWithinMinus ints.Uint64 n = n ≡ 0
 
 abbrev pub minus : ℕ → ℤ
 minus zero = pos 0
@@ -126,22 +126,22 @@ constant_of (labels.Case n) = Some (pos n)
 constant_of (labels.CaseMinus n) = Some (minus n)
 constant_of labels.Default = None
 
-abbrev pub IsConstant : Kind → Label → Type 0
-IsConstant kind (labels.Case n) = IsWithin kind n
-IsConstant kind (labels.CaseMinus n) = IsWithinMinus kind n
-IsConstant kind labels.Default = ⊥
+abbrev pub IsConstant : IntType → Label → Type 0
+IsConstant int_type (labels.Case n) = IsWithin int_type n
+IsConstant int_type (labels.CaseMinus n) = IsWithinMinus int_type n
+IsConstant int_type labels.Default = ⊥
 
 abbrev pub Differs : Label → Label → Type 0
 Differs l other = constant_of l ≢ constant_of other
 
 -- The constant of a label after these is of the type, and no label before it has the constant; `default` is the last
 -- one.
-pub data IsLabel (kind : Kind) : List Label → Label → Cases → Type 0 where
+pub data IsLabel (int_type : IntType) : List Label → Label → Cases → Type 0 where
   constant : {before : List Label} {l : Label} {after : Cases}
-      → IsConstant kind l
+      → IsConstant int_type l
       → AllByRecursion (Differs l) before
-      → IsLabel kind before l after
-  otherwise : {before : List Label} → IsLabel kind before labels.Default no_case
+      → IsLabel int_type before l after
+  otherwise : {before : List Label} → IsLabel int_type before labels.Default no_case
 
 -- statements
 
@@ -171,10 +171,10 @@ mutual
         → IsHead scope.env head types
         → IsLoop (declaring scope types) inside
         → IsStmt scope (For line head inside)
-    switch : {scope : Scope} {line : ℕ} {kind : Kind} {e : Expr} {cs : Cases}
-        → IsWellTyped scope.env e (value (vars.Integer kind))
-        → AreCases (in_switch scope) kind [] cs
-        → IsStmt scope (Switch line kind e cs)
+    switch : {scope : Scope} {line : ℕ} {int_type : IntType} {e : Expr} {cs : Cases}
+        → IsWellTyped scope.env e (value (vars.Integer int_type))
+        → AreCases (in_switch scope) int_type [] cs
+        → IsStmt scope (Switch line int_type e cs)
     break_out : {scope : Scope} {line : ℕ}
         → scope.may_break ≡ true
         → IsStmt scope (Break line)
@@ -182,10 +182,10 @@ mutual
         → scope.may_continue ≡ true
         → IsStmt scope (Continue line)
     return_nothing : {scope : Scope} {line : ℕ}
-        → scope.gives ≡ None
+        → scope.result ≡ None
         → IsStmt scope (Return line None)
     return_value : {scope : Scope} {line : ℕ} {of : VarType} {e : Expr}
-        → scope.gives ≡ Some of
+        → scope.result ≡ Some of
         → Fits scope.env of e
         → IsStmt scope (Return line (Some e))
 
@@ -209,13 +209,13 @@ mutual
         → AreStmts scope (stmt s ss)
 
   -- Labels come after those before them, with the statements after each, none of which declares variables.
-  pub data AreCases : Scope → Kind → List Label → Cases → Type 0 where
-    no_cases : {scope : Scope} {kind : Kind} {before : List Label} → AreCases scope kind before no_case
-    more_cases : {scope : Scope} {kind : Kind} {before : List Label} {l : Label} {ss : Stmts} {cs : Cases}
-        → IsLabel kind before l cs
+  pub data AreCases : Scope → IntType → List Label → Cases → Type 0 where
+    no_cases : {scope : Scope} {int_type : IntType} {before : List Label} → AreCases scope int_type before no_case
+    more_cases : {scope : Scope} {int_type : IntType} {before : List Label} {l : Label} {ss : Stmts} {cs : Cases}
+        → IsLabel int_type before l cs
         → AreLabelled scope ss
-        → AreCases scope kind (before ++ l ∷ []) cs
-        → AreCases scope kind before (next_case (labelled l ss) cs)
+        → AreCases scope int_type (before ++ l ∷ []) cs
+        → AreCases scope int_type before (next_case (labelled l ss) cs)
 
   pub data AreLabelled : Scope → Stmts → Type 0 where
     none_labelled : {scope : Scope} → AreLabelled scope no_stmt

@@ -2,7 +2,7 @@
 -- first token.
 use Rattle.std.specs.Prelude.{ℕ, List, [], ◌∷◌, Option}
 use Rattle.ash_tree.specs.declared.tree.statements.Label.{Label}
-use Rattle.ash_typed.specs.declared.types.Kind.{Kind}
+use Rattle.ash_integers.specs.declared.int_type.IntType.{IntType}
 use Rattle.ash_typed.specs.declared.types.VarType.{VarType}
 use Rattle.ash_typed.specs.declared.tree.statements.Test.{Test}
 use Rattle.ash_typed.specs.Tree.{Expr}
@@ -29,7 +29,7 @@ mutual
     If : ℕ → Expr → Stmt → Branch → Stmt
     Repeat : ℕ → Loop → Stmt
     For : ℕ → Head → Loop → Stmt
-    Switch : ℕ → Kind → Expr → Cases → Stmt
+    Switch : ℕ → IntType → Expr → Cases → Stmt
     Break : ℕ → Stmt
     Continue : ℕ → Stmt
     Return : ℕ → Option Expr → Stmt

@@ -1,7 +1,7 @@
 -- The typed tree of an expression is given here without where its parts lie in memory. Operators group to the left, and
 -- a suffix is applied to what is before it.
 use Rattle.std.specs.Prelude.{ℕ, List, [], ◌∷◌, Bool, Option, Some, None}
-use Rattle.ash_typed.specs.declared.types.Kind.{Kind}
+use Rattle.ash_integers.specs.declared.int_type.IntType.{IntType}
 use Rattle.ash_typed.specs.declared.types.Element.{Element}
 use Rattle.ash_typed.specs.declared.types.ObjectType.{ObjectType}
 use Rattle.ash_typed.specs.declared.types.VarType.{VarType}
@@ -18,7 +18,7 @@ use Rattle.ash_typed.specs.declared.tree.operations.Step.{Step}
 
 mutual
   pub data Expr : Type 0 where
-    Number : Kind → ℕ → Expr
+    Number : IntType → ℕ → Expr
     Truth : Bool → Expr
     Null : Expr
     This : ℕ → Expr
@@ -33,8 +33,8 @@ mutual
     Lazily : Lazy → Expr → Expr → Expr
     Conditional : Expr → Expr → Expr → Expr
     Assign : Place → Expr → Expr
-    Update : Place → Kind → Calculation → Expr → Expr
-    Count : Place → Kind → Step → Expr
+    Update : Place → IntType → Calculation → Expr → Expr
+    Count : Place → IntType → Step → Expr
     Call : Target → List VarType → Exprs → Expr
 
   -- A place can be written to.

@@ -1,6 +1,6 @@
 -- These definitions say what a typed expression gives, which its tree alone says.
 use Rattle.std.specs.Prelude.{Option, Some, None}
-use Rattle.ash_typed.specs.declared.types.Kind.TheVariants as kinds
+use Rattle.ash_integers.specs.declared.int_type.IntType.TheVariants as ints
 use Rattle.ash_typed.specs.declared.types.Element.{Element}
 use Rattle.ash_typed.specs.declared.types.Element.TheVariants as elements
 use Rattle.ash_typed.specs.declared.types.ObjectType.TheVariants as objects
@@ -33,7 +33,7 @@ type_of_member (members.Property id of) = of
 
 abbrev pub type_of_element : Element → VarType
 type_of_element elements.Bool = vars.Bool
-type_of_element (elements.Integer kind) = vars.Integer kind
+type_of_element (elements.Integer int_type) = vars.Integer int_type
 type_of_element (elements.Class class) = vars.Handle (objects.Class class)
 type_of_element (elements.Interface interface) = vars.Handle (objects.Interface interface)
 type_of_element (elements.Host kind) = vars.Handle (objects.Host kind)
@@ -45,7 +45,7 @@ type_of_place (Indexed array index of) = type_of_element of
 
 -- `result_of_array_method method` is what a method of arrays gives.
 abbrev pub result_of_array_method : ArrayMethod → Option VarType
-result_of_array_method arrays.Length = Some (vars.Integer kinds.Uint)
+result_of_array_method arrays.Length = Some (vars.Integer ints.Uint)
 result_of_array_method arrays.Resize = None
 result_of_array_method arrays.InsertLast = None
 result_of_array_method arrays.RemoveLast = None
@@ -88,8 +88,8 @@ value_of_result None = no_value
 value_of_result (Some of) = value (as_value of)
 
 abbrev pub altered_type : Change → VarType
-altered_type (changes.Negate kind) = vars.Integer kind
-altered_type (changes.Complement kind) = vars.Integer kind
+altered_type (changes.Negate int_type) = vars.Integer int_type
+altered_type (changes.Complement int_type) = vars.Integer int_type
 altered_type changes.Not = vars.Bool
 
 -- `chosen_type t u` is what `c ? a : b` gives, by its branches, which are of one type: one may be null.
@@ -98,7 +98,7 @@ chosen_type null_value of = of
 chosen_type of other = of
 
 abbrev pub type_of : Expr → ValueType
-type_of (Number kind n) = value (vars.Integer kind)
+type_of (Number int_type n) = value (vars.Integer int_type)
 type_of (Truth b) = value vars.Bool
 type_of Null = null_value
 type_of (This class) = value (vars.Handle (objects.Class class))
@@ -111,6 +111,6 @@ type_of (Operate operation a b) = value (result_of_operation operation)
 type_of (Lazily operator a b) = value vars.Bool
 type_of (Conditional c a b) = chosen_type (type_of a) (type_of b)
 type_of (Assign place e) = value (as_value (type_of_place place))
-type_of (Update place kind calculation e) = value (vars.Integer kind)
-type_of (Count place kind step) = value (vars.Integer kind)
+type_of (Update place int_type calculation e) = value (vars.Integer int_type)
+type_of (Count place int_type step) = value (vars.Integer int_type)
 type_of (Call target parameters es) = value_of_result (result_of_target target)

@@ -14,7 +14,7 @@ use Rattle.ash_typed.specs.Tree.{expr, converted}
 
 abbrev mutual
   pub expr_of : code.Expr → Expr
-  expr_of (variants.Number kind value) = Number kind value
+  expr_of (variants.Number int_type value) = Number int_type value
   expr_of (variants.Bool b) = Truth b
   expr_of variants.Null = Null
   expr_of (variants.This class) = This class

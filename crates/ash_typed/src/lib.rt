@@ -6,7 +6,8 @@
 //! `specs/SoundModules.antt` says which trees are so, of the tree alone. `specs/` has the same trees without where
 //! their parts lie in memory, and `nodes` makes them. The rules of typing, which say which script has which typed tree,
 //! are in `ash_typing`, above this crate, with the proof that what they type is sound: what walks typed trees alone
-//! does not load them. The crate uses `ash_tree`, for the labels that a script writes.
+//! does not load them. The crate uses `ash_tree`, for the labels that a script writes, and `ash_integers`, for the
+//! integer types.
 //!
 //! In reading order: `types`, `tree`: `operations`, `expressions`, `statements`, `items`; `nodes`, `places`,
 //! `soundness`.
@@ -18,6 +19,7 @@ mod soundness;
 mod tree;
 mod types;
 
+pub use ash_integers::IntType;
 pub use soundness::types_of_expressions;
 pub use tree::expressions::{Expr, Link, Operand, Place};
 pub use tree::items::{Class, Function, Implementation, Interface, Module, Signature, Variables};
@@ -26,4 +28,4 @@ pub use tree::operations::{
     Operands, Operation, Step, Target, Variable,
 };
 pub use tree::statements::{Case, Head, Initialization, Loop, Stmt, StmtKind, Test};
-pub use types::{Element, Kind, ObjectType, VarType};
+pub use types::{Element, ObjectType, VarType};

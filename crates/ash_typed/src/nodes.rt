@@ -16,7 +16,8 @@ use crate::tree::operations::{
     Calculation, Change, Conversion, Lazy, Member, Method, Step, Target,
 };
 use crate::tree::statements::{Case, Head, Loop, Stmt, StmtKind, Test};
-use crate::types::{Element, Kind, ObjectType, VarType};
+use crate::types::{Element, ObjectType, VarType};
+use ash_integers::IntType;
 use ash_tree::Label;
 use std::alloc::{AllocError, Global};
 
@@ -249,7 +250,7 @@ pub fn assign(alloc: Global, place: Place, value: Expr) -> Result<Expr, AllocErr
 pub fn update(
     alloc: Global,
     place: Place,
-    of: Kind,
+    of: IntType,
     calculation: Calculation,
     value: Expr,
 ) -> Result<Expr, AllocError>
@@ -266,7 +267,7 @@ pub fn update(
 }
 
 /// `++` or `--`
-pub fn count(place: Place, of: Kind, step: Step) -> Expr
+pub fn count(place: Place, of: IntType, step: Step) -> Expr
     ensures { expr_of result ≡ Count (place_of place) of step }
 {
     Expr::Step { place, of, step }
@@ -317,13 +318,14 @@ pub fn for_loop(line: usize, head: Head, inside: Loop) -> Stmt
 }
 
 /// `switch (value) { cases }`, of this integer type
-pub fn switch(line: usize, of: Kind, value: Expr, labels: Vec<Case>) -> Stmt
-    ensures { stmt_of result ≡ Switch line of (expr_of value) (cases (map case_of labels.items)) }
+pub fn switch(line: usize, int_type: IntType, value: Expr, labels: Vec<Case>) -> Stmt
+    ensures { stmt_of result
+        ≡ Switch line int_type (expr_of value) (cases (map case_of labels.items)) }
 {
     Stmt {
         line,
         kind: StmtKind::Switch {
-            kind: of,
+            of: int_type,
             value,
             cases: labels,
         },

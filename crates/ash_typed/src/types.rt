@@ -1,23 +1,12 @@
 //! Types of variables (AngelScript manual, "Data types").
 
-/// An integer type.
-#[derive(Clone, Copy, Debug)]
-pub enum Kind {
-    /// `int`: 32 bits, signed
-    Int,
-    /// `uint`: 32 bits, unsigned
-    Uint,
-    /// `int64`: 64 bits, signed
-    Int64,
-    /// `uint64`: 64 bits, unsigned
-    Uint64,
-}
+use ash_integers::IntType;
 
 /// What the elements of an array are of.
 #[derive(Clone, Copy, Debug)]
 pub enum Element {
     Bool,
-    Integer(Kind),
+    Integer(IntType),
     /// Handles of objects of a class, by its place.
     Class(usize),
     /// Handles of objects of the classes that list an interface, by its place.
@@ -43,7 +32,7 @@ pub enum ObjectType {
 #[derive(Clone, Copy)]
 pub enum VarType {
     Bool,
-    Integer(Kind),
+    Integer(IntType),
     /// An object that the variable itself is: `T x`.
     Object(ObjectType),
     /// A handle of an object: `T@ x`.

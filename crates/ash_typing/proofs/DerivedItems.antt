@@ -8,7 +8,7 @@ use Rattle.ash_tree.specs.declared.tree.places.Place.{Place}
 use Rattle.ash_tree.specs.declared.tree.statements.Label.{Label}
 use Rattle.ash_tree.specs.Tree as written
 use Rattle.ash_tree.specs.Tokens.{Tokens}
-use Rattle.ash_tree.specs.Statements.{IsDecl, bare, valued, term_at, AreMoreDecls, no_more_decls, more_decls, IsVars, vars}
+use Rattle.ash_tree.specs.Statements.{IsDecl, bare, valued, made, AreMoreDecls, no_more_decls, more_decls, IsVars, vars}
 use Rattle.ash_tree.specs.Statements.{IsFirst, no_first, first_vars, first_expr, IsTest, no_test, test, IsResult}
 use Rattle.ash_tree.specs.Statements.{no_result, value, IsLabel, case, case_minus, default, IsNested, nested, AreLocals}
 use Rattle.ash_tree.specs.Statements.{no_locals, local_vars, local_stmt, IsBlock, block, IsStmt, inner_block, empty}
@@ -26,7 +26,7 @@ decl_in : (script : Tokens) {free depth : ℕ} {from left : Tokens} {d : written
     → AreIn script from → DeclIn script d × AreIn script left
 decl_in script bare h = ((h.0, tt), h.1)
 decl_in script (valued a) h = let x = assign_in script a h.1.1 in ((h.0, x.0), x.1)
-decl_in script (term_at a) h = let x = args_in script a h.1 in ((h.0, x.0), x.1)
+decl_in script (made a) h = let x = args_in script a h.1 in ((h.0, x.0), x.1)
 
 more_decls_in : (script : Tokens) {free depth : ℕ} {from left : Tokens} {ds : List written.Decl}
     → AreMoreDecls free depth from ds left → AreIn script from → AllByRecursion (DeclIn script) ds × AreIn script left

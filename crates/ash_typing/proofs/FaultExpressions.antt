@@ -189,7 +189,7 @@ cast_in script at to t h k z = bind (handle_in script t.at t.ty k z) (λ of u. f
 
 index_at_in : (script : Script) (i : Typed) → HasStart script.tokens i.at
     → (may_be_integer i.ty ≡ false → Mismatch script i.at) → Fine script (index_in i)
-index_at_in script i h z = bind (integer_in script i.at i.ty h z) (λ kind u. fine tt)
+index_at_in script i h z = bind (integer_in script i.at i.ty h z) (λ int_type u. fine tt)
 
 indexed_at_in : (script : Script) (t i : Typed) (of : Ty) (e : Element) → HasStart script.tokens t.at
     → HasStart script.tokens i.at → (may_be_integer i.ty ≡ false → Mismatch script i.at)
@@ -223,7 +223,7 @@ unassigned : (script : Script) (env : Environment) (p : place.Place) (e : writte
     → Unassigned script env.declarations.classes t u (operator_of op)
 unassigned script env p e op v t u r q w = record {
   unfit = λ o b. mismatches.assigned r q w o b;
-  unmet = λ by o at b. mismatches.updated r q w o b;
+  not_unified = λ by o at b. mismatches.updated r q w o b;
   uncounted = λ by o b. mismatches.updated_place r q o b;
 }
 

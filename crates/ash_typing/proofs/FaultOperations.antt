@@ -24,11 +24,12 @@ use Rattle.ash_typed.specs.declared.tree.operations.Step.{Step}
 use Rattle.ash_typed.specs.declared.tree.operations.Step.TheVariants as steps
 use Rattle.ash_typed.specs.Tree.{Null, Place}
 use Rattle.ash_typing.specs.TypingResult.{TypingResult, broken}
-use Rattle.ash_typing.specs.Types.{common, takes, assumed, meets, operator_class_of, binary_of, ty_of}
+use Rattle.ash_typing.specs.Types.{common, takes, assumed_type, common_operands, operator_class_of, binary_of, ty_of}
 use Rattle.ash_typing.specs.Coercions.{fits}
 use Rattle.ash_typing.specs.Environment.{Environment, Class, Known, Callee, variable_in, callee_in}
 use Rattle.ash_typing.specs.Terms.{assignable, operator_of, is_stored}
-use Rattle.ash_typing.specs.Expressions.{Typed, UnifiedOperands, term_at, coerced_for_assignment, integer_of, bool_of, handle_of, adapted, unified_as, unify_operands}
+use Rattle.ash_typing.specs.Expressions.{Typed, UnifiedOperands, term_at, coerced_for_assignment, integer_of, bool_of}
+use Rattle.ash_typing.specs.Expressions.{handle_of, adapted, unified_as, unify_operands}
 use Rattle.ash_typing.specs.Expressions.{operate, counted, handle_at, unary_at, converting, convert_at, is_void, chosen}
 use Rattle.ash_typing.specs.Expressions.{choice, updated, stored, assigned_to, assigned, all_coerced, arguments_at}
 use Rattle.ash_typing.specs.Expressions.{called, callee_at, known_at, this_at, call_typed, all_typed}
@@ -52,7 +53,8 @@ ListAt script count r = Answers script (λ (ts : List Typed). AllAt script.token
 
 -- what an operand has to be
 
-pub coerced_for_assignment_in : (script : Script) (classes : List Class) (of : Ty) (t : Typed) → HasStart script.tokens t.at
+pub coerced_for_assignment_in : (script : Script) (classes : List Class) (of : Ty) (t : Typed)
+    → HasStart script.tokens t.at
     → (fits classes of t.ty ≡ false → Mismatch script t.at) → Fine script (coerced_for_assignment classes of t)
 unfolding coerced_for_assignment
 coerced_for_assignment_in script classes of t h w = either (fits classes of t.ty) (λ b. fine tt) (λ b. mismatch h (w b))
@@ -83,32 +85,33 @@ adapted_in : (script : Tokens) (s : OperatorClass) (a : Form) (of : Ty) (t : Typ
 unfolding adapted
 adapted_in script s a of t h = h
 
-met_as_in : (script : Script) (s : OperatorClass) (a b : Typed) (o : Option Operands) → HasStart script.tokens a.at
+unified_as_in : (script : Script) (s : OperatorClass) (a b : Typed) (o : Option Operands) → HasStart script.tokens a.at
     → HasStart script.tokens b.at → ((at : ℕ) → unified_as s a b o ≡ broken rules.TypeMismatch at → Mismatch script at)
     → Answers script (λ (m : UnifiedOperands). HasStart script.tokens m.left.at) (unified_as s a b o)
-met_as_in script s a b (Some o) h k w = fine h
-met_as_in script s a b None h k w =
+unified_as_in script s a b (Some o) h k w = fine h
+unified_as_in script s a b None h k w =
     mismatch (choose_start script.tokens (takes s a.ty) b.at a.at k h) (w (if takes s a.ty then b.at else a.at) refl)
 
 -- an operator does not take two operands
-abbrev pub Unmet : Script → BinaryOp → Typed → Typed → Type 0
-Unmet script op a b = (at : ℕ) → unify_operands op a b ≡ broken rules.TypeMismatch at → Mismatch script at
+abbrev pub NotUnified : Script → BinaryOp → Typed → Typed → Type 0
+NotUnified script op a b = (at : ℕ) → unify_operands op a b ≡ broken rules.TypeMismatch at → Mismatch script at
 
-met_in : (script : Script) (op : BinaryOp) (a b : Typed) → HasStart script.tokens a.at → HasStart script.tokens b.at
-    → Unmet script op a b → Answers script (λ (m : UnifiedOperands). HasStart script.tokens m.left.at) (unify_operands op a b)
+unified_in : (script : Script) (op : BinaryOp) (a b : Typed) → HasStart script.tokens a.at → HasStart script.tokens b.at
+    → NotUnified script op a b
+    → Answers script (λ (m : UnifiedOperands). HasStart script.tokens m.left.at) (unify_operands op a b)
 unfolding unify_operands
-met_in script op a b h k w =
+unified_in script op a b h k w =
     let s = operator_class_of op in
     let x = adapted s b.form b.ty a in
     let y = adapted s a.form a.ty b in
-    met_as_in script s x y (meets s (assumed s y.ty x.ty) (assumed s x.ty y.ty))
+    unified_as_in script s x y (common_operands s (assumed_type s y.ty x.ty) (assumed_type s x.ty y.ty))
     (adapted_in script.tokens s b.form b.ty a h) (adapted_in script.tokens s a.form a.ty b k) w
 
 pub operate_in : (script : Script) (op : BinaryOp) (a b : Typed) → HasStart script.tokens a.at
     → HasStart script.tokens b.at
-    → Unmet script op a b → At script (operate op a b)
+    → NotUnified script op a b → At script (operate op a b)
 unfolding operate
-operate_in script op a b h k w = bind (met_in script op a b h k w) (λ m left. fine left)
+operate_in script op a b h k w = bind (unified_in script op a b h k w) (λ m left. fine left)
 
 -- operators before an operand
 
@@ -117,7 +120,7 @@ pub counted_in : (script : Script) (at : ℕ) (step : Step) (t : Typed) (p : Opt
     → (may_be_integer t.ty ≡ false → Mismatch script t.at) → At script (counted at step t p)
 unfolding counted
 counted_in script at step t None h k w z = no_place k (w refl)
-counted_in script at step t (Some p) h k w z = bind (integer_in script t.at t.ty k z) (λ kind u. fine h)
+counted_in script at step t (Some p) h k w z = bind (integer_in script t.at t.ty k z) (λ int_type u. fine h)
 
 handle_at_in : (script : Script) (left : Bool) (at : ℕ) (t : Typed) → HasStart script.tokens at
     → HasStart script.tokens t.at → (may_be_object t.ty ≡ false → Mismatch script t.at)
@@ -130,9 +133,9 @@ pub unary_in : (script : Script) (left : Bool) (at : ℕ) (op : UnaryOp) (t : Ty
     → (counts op ≡ true → assignable t.form t.tree ≡ None → (m : Meaning) → Wrong script rules.NotAssignable t.at m)
     → (takes_operand op t.ty ≡ false → Mismatch script t.at) → At script (unary_at left at op t)
 unfolding unary_at
-unary_in script left at unary.Plus t h k w z = bind (integer_in script t.at t.ty k z) (λ kind u. fine h)
-unary_in script left at unary.Minus t h k w z = bind (integer_in script t.at t.ty k z) (λ kind u. fine h)
-unary_in script left at unary.BitNot t h k w z = bind (integer_in script t.at t.ty k z) (λ kind u. fine h)
+unary_in script left at unary.Plus t h k w z = bind (integer_in script t.at t.ty k z) (λ int_type u. fine h)
+unary_in script left at unary.Minus t h k w z = bind (integer_in script t.at t.ty k z) (λ int_type u. fine h)
+unary_in script left at unary.BitNot t h k w z = bind (integer_in script t.at t.ty k z) (λ int_type u. fine h)
 unary_in script left at unary.Not t h k w z = bind (bool_in script t.at t.ty k z) (λ b u. fine h)
 unary_in script left at unary.Increment t h k w z =
     counted_in script at steps.Increment t (assignable t.form t.tree) h k (w refl) z
@@ -142,7 +145,7 @@ unary_in script left at unary.Handle t h k w z = handle_at_in script left at t h
 
 converting_in : (script : Script) (at : ℕ) (of : Ty) (t : Typed) → HasStart script.tokens at
     → HasStart script.tokens t.at → (converts of t.ty ≡ false → Mismatch script t.at) → At script (converting at of t)
-converting_in script at (ty.Integer j) t h k z = bind (integer_in script t.at t.ty k z) (λ kind u. fine h)
+converting_in script at (ty.Integer j) t h k z = bind (integer_in script t.at t.ty k z) (λ int_type u. fine h)
 converting_in script at _ t h k z = bind (bool_in script t.at t.ty k z) (λ b u. fine h)
 
 pub convert_in : (script : Script) (at : ℕ) (to : Primitive) (t : Typed) → HasStart script.tokens at
@@ -169,23 +172,24 @@ choice_in script c a b h k l y z =
 -- what is assigned to a typed place does not fit
 pub record Unassigned (script : Script) (classes : List Class) (t v : Typed) (c : Option Calculator) : Type 0 where
   pub unfit : c ≡ None → fits classes t.ty v.ty ≡ false → Mismatch script v.at
-  pub unmet : (by : Calculator) → c ≡ Some by → Unmet script (binary_of by) (term_at t.at t.ty Null) v
+  pub not_unified : (by : Calculator) → c ≡ Some by → NotUnified script (binary_of by) (term_at t.at t.ty Null) v
   pub uncounted : (by : Calculator) → c ≡ Some by → may_be_integer t.ty ≡ false → Mismatch script t.at
 
 updated_in : (script : Script) (at : ℕ) (of : Ty) (p : Place) (c : Calculator) (v : Typed) → HasStart script.tokens at
-    → HasStart script.tokens v.at → Unmet script (binary_of c) (term_at at of Null) v
+    → HasStart script.tokens v.at → NotUnified script (binary_of c) (term_at at of Null) v
     → (may_be_integer of ≡ false → Mismatch script at) → At script (updated at of p c v)
 updated_in script at of p c v h k y z =
-    bind (met_in script (binary_of c) (term_at at of Null) v h k y) (λ m left.
-    bind (integer_in script at of h z) (λ kind u. fine h))
+    bind (unified_in script (binary_of c) (term_at at of Null) v h k y) (λ m left.
+    bind (integer_in script at of h z) (λ int_type u. fine h))
 
 stored_in : (script : Script) (classes : List Class) (t : Typed) (p : Place) (c : Option Calculator) (v : Typed)
     → HasStart script.tokens t.at → HasStart script.tokens v.at → Unassigned script classes t v c
     → At script (stored classes t.at t.ty p c v)
 unfolding stored
-stored_in script classes t p None v h k z = bind (coerced_for_assignment_in script classes t.ty v k (z.unfit refl)) (λ e u. fine h)
+stored_in script classes t p None v h k z =
+    bind (coerced_for_assignment_in script classes t.ty v k (z.unfit refl)) (λ e u. fine h)
 stored_in script classes t p (Some c) v h k z =
-    updated_in script t.at t.ty p c v h k (z.unmet c refl) (z.uncounted c refl)
+    updated_in script t.at t.ty p c v h k (z.not_unified c refl) (z.uncounted c refl)
 
 assigned_to_in : (script : Script) (classes : List Class) (t : Typed) (op : AssignOp) (v : Typed) (p : Option Place)
     → HasStart script.tokens t.at → HasStart script.tokens v.at → assignable t.form t.tree ≡ p

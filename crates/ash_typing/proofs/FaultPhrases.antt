@@ -21,7 +21,8 @@ abbrev pub Sees : List Registration → List written.Item → Environment → Ty
 Sees calls is env = (env.declarations ≡ declarations calls is) × (env.registered ≡ calls)
 
 -- a statement changes only the locals that are seen after it
-seen_after : (calls : List Registration) (is : List written.Item) (scope : Scope) (s : written.Stmt) → Sees calls is scope.env
+seen_after : (calls : List Registration) (is : List written.Item) (scope : Scope) (s : written.Stmt)
+    → Sees calls is scope.env
     → Sees calls is (after scope s).env
 seen_after calls is scope (written.Declare p v) h = h
 seen_after calls is scope _ h = h

@@ -10,13 +10,13 @@ use Rattle.ash_tree.specs.Tokens.{Tokens}
 use Rattle.ash_tree.specs.declared.tree.places.Place as place
 use Rattle.ash_tree.specs.declared.tree.statements.Label.{Label}
 use Rattle.ash_tree.specs.declared.tree.statements.Label.TheVariants as labels
-use Rattle.ash_typed.specs.declared.types.Kind.{Kind}
+use Rattle.ash_integers.specs.declared.int_type.IntType.{IntType}
 use Rattle.ash_typing.specs.declared.types.Ty.{Ty}
 use Rattle.ash_typed.specs.StatementTree.{Stmt, Head}
 use Rattle.ash_typing.specs.TypingResult.{TypingResult}
 use Rattle.ash_typing.specs.Environment.{Environment, Class}
 use Rattle.ash_typing.specs.Expressions.{Typed, typed, all_typed, is_void}
-use Rattle.ash_typing.specs.Switches.{kind_in, is_within, constant_typed, label_typed}
+use Rattle.ash_typing.specs.Switches.{integer_type_in, is_within, constant_typed, label_typed}
 use Rattle.ash_typing.specs.Labels.{is_same_constant, is_last}
 use Rattle.ash_typing.specs.Scopes.{Scope, block_of, loop_of, switch_of, after}
 use Rattle.ash_typing.specs.Statements.{head_typed, condition_is, if_typed, if_else_typed, while_typed, do_while_typed}
@@ -69,13 +69,15 @@ unfolding if_else_typed
 if_else_in script line condition inner other h k l z =
     bind_by h (λ c a at. bind k (λ s u. bind l (λ t w. bind (condition_in script c at (z c a)) (λ yes v. fine tt))))
 
-while_in : (script : Script) (line : ℕ) (condition : TypingResult Typed) (body : TypingResult Stmt) → At script condition
+while_in : (script : Script) (line : ℕ) (condition : TypingResult Typed) (body : TypingResult Stmt)
+    → At script condition
     → Fine script body → Unconditional script condition → Fine script (while_typed line condition body)
 unfolding while_typed
 while_in script line condition body h k z =
     bind_by h (λ c a at. bind k (λ s u. bind (condition_in script c at (z c a)) (λ yes v. fine tt)))
 
-do_while_in : (script : Script) (line : ℕ) (body : TypingResult Stmt) (condition : TypingResult Typed) → Fine script body
+do_while_in : (script : Script) (line : ℕ) (body : TypingResult Stmt) (condition : TypingResult Typed)
+    → Fine script body
     → At script condition → Unconditional script condition → Fine script (do_while_typed line body condition)
 unfolding do_while_typed
 do_while_in script line body condition k h z =
@@ -137,38 +139,40 @@ return_in : (script : Script) (scope : Scope) (p : place.Place) (e : Option writ
     → OccursIn script (phrases.Statement scope (written.Return p e)) → Fine script (return_typed scope p e)
 unfolding return_typed
 return_in script scope p None h k r =
-    either (gives_nothing scope.gives) (λ b. fine tt)
+    either (gives_nothing scope.result) (λ b. fine tt)
     (λ b. faulty (reserved words.Return, h, refl, meaning.mismatch (mismatches.returned_nothing r b)))
 return_in script scope p (Some e) h k r =
     bind_by (typed_in script scope.env false e k (phrases.returned r)) (λ t a l.
-    bind (returned_in script scope.env.declarations.classes scope.gives p.at t h l (λ b. mismatches.returned_value r b)
+    bind (returned_in script scope.env.declarations.classes scope.result p.at t h l (λ b. mismatches.returned_value r b)
     (λ b. mismatches.returned r a b))
     (λ value u. fine tt))
 
 -- labels, each with the statements after it and the other labels
-abbrev pub AtLabel : Script → Scope → Option Kind → List Label → place.Place → Label → written.Stmts → written.Cases
+abbrev pub AtLabel : Script → Scope → Option IntType → List Label → place.Place → Label → written.Stmts → written.Cases
     → Type 0
-AtLabel script scope kind before p l ss cs =
-    OccursIn script (phrases.Cases scope kind before (written.next_case (written.labelled p l ss) cs))
+AtLabel script scope int_type before p l ss cs =
+    OccursIn script (phrases.Cases scope int_type before (written.next_case (written.labelled p l ss) cs))
 
-constant_in : (script : Script) (scope : Scope) (kind : Option Kind) (before : List Label) (p : place.Place) (l : Label)
-    (ss : written.Stmts) (cs : written.Cases) (m : Meaning) → HasToken script.tokens m p.at → begins_constant m ≡ true
-    → AtLabel script scope kind before p l ss cs → Fine script (constant_typed kind before p.at l)
+constant_in : (script : Script) (scope : Scope) (int_type : Option IntType) (before : List Label) (p : place.Place)
+    (l : Label) (ss : written.Stmts) (cs : written.Cases) (m : Meaning) → HasToken script.tokens m p.at
+    → begins_constant m ≡ true → AtLabel script scope int_type before p l ss cs
+    → Fine script (constant_typed int_type before p.at l)
 unfolding constant_typed
-constant_in script scope kind before p l ss cs m h k r =
-    either (is_within kind l)
+constant_in script scope int_type before p l ss cs m h k r =
+    either (is_within int_type l)
     (λ a. either (list_any (is_same_constant l) before) (λ b. faulty (m, h, k, meaning.duplicate r b)) (λ b. fine tt))
     (λ a. faulty (m, h, k, meaning.out_of_range r a))
 
-label_in : (script : Script) (scope : Scope) (kind : Option Kind) (before : List Label) (p : place.Place) (l : Label)
-    (ss : written.Stmts) (cs : written.Cases) → LabelIn script.tokens p l → AtLabel script scope kind before p l ss cs
-    → Fine script (label_typed kind before (is_last cs) p.at l)
+label_in : (script : Script) (scope : Scope) (int_type : Option IntType) (before : List Label) (p : place.Place)
+    (l : Label) (ss : written.Stmts) (cs : written.Cases) → LabelIn script.tokens p l
+    → AtLabel script scope int_type before p l ss cs
+    → Fine script (label_typed int_type before (is_last cs) p.at l)
 unfolding label_typed
-label_in script scope kind before p (labels.Case n) ss cs h r =
-    constant_in script scope kind before p (labels.Case n) ss cs (number n) h refl r
-label_in script scope kind before p (labels.CaseMinus n) ss cs h r =
-    constant_in script scope kind before p (labels.CaseMinus n) ss cs (sign signs.Minus) h refl r
-label_in script scope kind before p labels.Default ss cs h r =
+label_in script scope int_type before p (labels.Case n) ss cs h r =
+    constant_in script scope int_type before p (labels.Case n) ss cs (number n) h refl r
+label_in script scope int_type before p (labels.CaseMinus n) ss cs h r =
+    constant_in script scope int_type before p (labels.CaseMinus n) ss cs (sign signs.Minus) h refl r
+label_in script scope int_type before p labels.Default ss cs h r =
     either (is_last cs) (λ b. fine tt) (λ b. faulty (reserved words.Default, h, refl, meaning.early_default r b))
 
 -- the condition of a `for`, where it has one
@@ -240,8 +244,8 @@ mutual
       for_unconditional script scope p f s c es t r (typed_by inside.env c t a) b)
   stmt_in script scope (written.Switch p e cs) h r =
       bind_by (typed_in script scope.env false e h.1 (phrases.switch_value r)) (λ v q k.
-      bind (cases_in script (switch_of scope) (kind_in v.ty) [] cs h.2 (phrases.cases r q)) (λ rows u.
-      bind (integer_in script v.at v.ty k (λ b. mismatches.switch_value r q b)) (λ kind w. fine tt)))
+      bind (cases_in script (switch_of scope) (integer_type_in v.ty) [] cs h.2 (phrases.cases r q)) (λ rows u.
+      bind (integer_in script v.at v.ty k (λ b. mismatches.switch_value r q b)) (λ int_type w. fine tt)))
   stmt_in script scope (written.Break p) h r = break_in script scope p h r
   stmt_in script scope (written.Continue p) h r = continue_in script scope p h r
   stmt_in script scope (written.Return p e) h r = return_in script scope p e h.0 h.1 r
@@ -253,11 +257,11 @@ mutual
       bind (stmt_in script scope s h.0 (phrases.statement r)) (λ t u.
       bind (stmts_in script (after scope s) ss h.1 (phrases.other_statements r)) (λ ts v. fine tt))
 
-  cases_in : (script : Script) (scope : Scope) (kind : Option Kind) (before : List Label) (cs : written.Cases)
-      → CasesIn script.tokens cs → OccursIn script (phrases.Cases scope kind before cs)
-      → Fine script (cases_typed scope kind before cs)
-  cases_in script scope kind before written.no_case h r = fine tt
-  cases_in script scope kind before (written.next_case (written.labelled p l ss) cs) h r =
-      bind (label_in script scope kind before p l ss cs (h.0).0 r) (λ label u.
+  cases_in : (script : Script) (scope : Scope) (int_type : Option IntType) (before : List Label) (cs : written.Cases)
+      → CasesIn script.tokens cs → OccursIn script (phrases.Cases scope int_type before cs)
+      → Fine script (cases_typed scope int_type before cs)
+  cases_in script scope int_type before written.no_case h r = fine tt
+  cases_in script scope int_type before (written.next_case (written.labelled p l ss) cs) h r =
+      bind (label_in script scope int_type before p l ss cs (h.0).0 r) (λ label u.
       bind (stmts_in script scope ss (h.0).1 (phrases.labelled r)) (λ body v.
-      bind (cases_in script scope kind (before ++ l ∷ []) cs h.1 (phrases.other_cases r)) (λ rest w. fine tt)))
+      bind (cases_in script scope int_type (before ++ l ∷ []) cs h.1 (phrases.other_cases r)) (λ rest w. fine tt)))

@@ -20,7 +20,8 @@ use Rattle.ash_typing.specs.Types.{ty_of}
 use Rattle.ash_typing.specs.Environment.{Environment, Declared, Class, Callee, array_built, construction}
 use Rattle.ash_typing.specs.Expressions.{Typed, all_typed, at_element}
 use Rattle.ash_typing.specs.Terms.{array_parameters}
-use Rattle.ash_typing.specs.ModuleDeclarations.{declared, element_by, element_named, array_named, object_ty, handle_ty, ty_named}
+use Rattle.ash_typing.specs.ModuleDeclarations.{declared, element_by, element_named, array_named, object_ty, handle_ty}
+use Rattle.ash_typing.specs.ModuleDeclarations.{ty_named}
 use Rattle.ash_typing.specs.ModuleDeclarations.{ty_in}
 use Rattle.ash_typing.specs.Declarations.{at_type, at_type_name, known_ty, constructed, begun, stored_first, begun_with}
 use Rattle.ash_typing.specs.Declarations.{begun_by_one, begun_by, initialized, decl_typed}
@@ -37,7 +38,8 @@ use Rattle.ash_typing.specs.FaultMeaning.{argument_count, initial_count, is_cons
 use Rattle.ash_typing.proofs.FaultAnswers.{Script, OccursIn, Wrong, Mismatch, Answers, fine, faulty, Fine, name_taken}
 use Rattle.ash_typing.proofs.FaultAnswers.{bind, bind_by, bind_to, either, type_named, Miswritten, miswritten}
 use Rattle.ash_typing.proofs.FaultPhrases.{sees}
-use Rattle.ash_typing.proofs.FaultOperations.{AllAt, Miscalls, Unfit, coerced_for_assignment_in, called_with_in, called_in}
+use Rattle.ash_typing.proofs.FaultOperations.{AllAt, Miscalls, Unfit, coerced_for_assignment_in, called_with_in}
+use Rattle.ash_typing.proofs.FaultOperations.{called_in}
 use Rattle.ash_typing.proofs.FaultExpressions.{element_unnamed, typed_in, all_in}
 
 -- types
@@ -150,7 +152,8 @@ unfolding ty_named
 written_at script env (written.Prim p k) h = primitive_written script k p.at
 written_at script env (written.Object p text) h = object_written script (type_named env text) p.at (text, h)
 written_at script env (written.Handle p text) h = handle_written script (type_named env text) p.at
-written_at script env (written.Array p of) h = array_written script (element_named env.registered env.declarations of) p.at h.0
+written_at script env (written.Array p of) h =
+    array_written script (element_named env.registered env.declarations of) p.at h.0
 written_at script env (written.ArrayHandle p of) h =
     handle_written script (array_named env.registered env.declarations of) p.at
 

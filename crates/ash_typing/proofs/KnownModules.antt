@@ -11,11 +11,15 @@ use Rattle.ash_typed.specs.declared.types.ObjectType.TheVariants.{Class as OfCla
 use Rattle.ash_typed.specs.declared.types.ObjectType.TheVariants.{Array as OfArray}
 use Rattle.ash_typing.specs.declared.types.Ty.{Ty}
 use Rattle.ash_typing.specs.declared.types.Ty.TheVariants as ty
-use Rattle.ash_typing.specs.Environment.{Environment, ModuleDeclarations, Interface, Class, first_from, is_class, is_interface_named}
+use Rattle.ash_typing.specs.Environment.{Environment, ModuleDeclarations, Interface, Class, first_from, is_class}
+use Rattle.ash_typing.specs.Environment.{is_interface_named}
 use Rattle.ash_typing.specs.Environment.{inside}
-use Rattle.ash_typing.specs.ModuleDeclarations.{object_named, element_by, element_named, array_named, object_ty, handle_ty, ty_named}
-use Rattle.ash_typing.specs.ModuleDeclarations.{result_named, variables, parameter_ty, function_head, signature_head, names_in}
-use Rattle.ash_typing.specs.ModuleDeclarations.{declarations, ty_in, interface_head, class_head, named_interface, named_class}
+use Rattle.ash_typing.specs.ModuleDeclarations.{object_named, element_by, element_named, array_named, object_ty}
+use Rattle.ash_typing.specs.ModuleDeclarations.{handle_ty, ty_named}
+use Rattle.ash_typing.specs.ModuleDeclarations.{result_named, variables, parameter_ty, function_declaration, signature_declaration}
+use Rattle.ash_typing.specs.ModuleDeclarations.{names_in}
+use Rattle.ash_typing.specs.ModuleDeclarations.{declarations, ty_in, interface_declaration, class_declaration, named_interface}
+use Rattle.ash_typing.specs.ModuleDeclarations.{named_class}
 use Rattle.ash_typing.specs.ModuleDeclarations.{all_variables, constructed_by}
 use Rattle.ash_typing.specs.Declarations.{Initialization, known_ty}
 use Rattle.ash_typing.specs.Typing.{IsKnown, IsVariableType, IsResultType, IsKnownVariable, IsKnownFunction}
@@ -30,7 +34,7 @@ use Rattle.ash_typing.specs.TypedModules.{IsSignature, IsInterface, AreInterface
 use Rattle.ash_typing.specs.TypedModules.{environment}
 use Rattle.ash_typing.proofs.Bindings.{bind_ok}
 use Rattle.ash_typing.proofs.TakenNames.{all_append}
-use Rattle.ash_typing.proofs.StatementsSound.{decls_known}
+use Rattle.ash_typing.proofs.StatementPartsSound.{decls_known}
 use Rattle.ash_typing.proofs.TypingKnown.{variable_is_result}
 use Rattle.ash_typing.proofs.TypedVariables.{known_sound}
 use Rattle.ash_typing.proofs.TypedRoutines.{passed_variable, parameters_sound, result_sound}
@@ -266,14 +270,15 @@ result_known : (calls : List host.Registration) (named : ModuleDeclarations) (of
 result_known calls named None h = refl
 result_known calls named (Some of) h = variable_is_result (ty_named calls named of) h
 
-head_known : (calls : List host.Registration) (named : ModuleDeclarations) (f : written.Function) → KnownFunction (ty_named calls named) f
-    → IsKnownFunction (function_head calls named f)
+head_known : (calls : List host.Registration) (named : ModuleDeclarations) (f : written.Function)
+    → KnownFunction (ty_named calls named) f
+    → IsKnownFunction (function_declaration calls named f)
 head_known calls named f h =
     record { result = result_known calls named f.result h.0; parameters = types_known calls named f.parameters h.1 }
 
 signatures_seen : (calls : List host.Registration) (named : ModuleDeclarations) (ms : List written.InterfaceMethod)
     → AllByRecursion (KnownSignature (ty_named calls named)) ms
-    → AllByRecursion IsKnownFunction (map (signature_head calls named) ms)
+    → AllByRecursion IsKnownFunction (map (signature_declaration calls named) ms)
 signatures_seen calls named [] h = tt
 signatures_seen calls named (m ∷ ms) h = (
   record {
@@ -285,7 +290,7 @@ signatures_seen calls named (m ∷ ms) h = (
 
 interfaces_seen : (calls : List host.Registration) (named : ModuleDeclarations) (is : List written.Interface)
     → AllByRecursion (KnownInterface (ty_named calls named)) is
-    → AllByRecursion IsKnownInterface (map (interface_head calls named) is)
+    → AllByRecursion IsKnownInterface (map (interface_declaration calls named) is)
 interfaces_seen calls named [] h = tt
 interfaces_seen calls named (i ∷ is) h =
     (record { methods = signatures_seen calls named i.methods h.0 }, interfaces_seen calls named is h.1)
@@ -300,7 +305,7 @@ variables_known calls named (v ∷ vs) h =
 
 functions_known : (calls : List host.Registration) (named : ModuleDeclarations) (fs : List written.Function)
     → AllByRecursion (KnownFunction (ty_named calls named)) fs
-    → AllByRecursion IsKnownFunction (map (function_head calls named) fs)
+    → AllByRecursion IsKnownFunction (map (function_declaration calls named) fs)
 functions_known calls named [] h = tt
 functions_known calls named (f ∷ fs) h = (head_known calls named f h.0, functions_known calls named fs h.1)
 
@@ -312,7 +317,7 @@ construction_known calls named (c ∷ cs) h = types_known calls named c.paramete
 
 classes_known : (calls : List host.Registration) (named : ModuleDeclarations) (cs : List written.Class)
     → AllByRecursion (KnownClass (ty_named calls named)) cs
-    → AllByRecursion IsKnownClass (map (class_head calls named) cs)
+    → AllByRecursion IsKnownClass (map (class_declaration calls named) cs)
 classes_known calls named [] h = tt
 classes_known calls named (c ∷ cs) h = (
   record {
@@ -327,13 +332,13 @@ classes_known calls named (c ∷ cs) h = (
 
 -- what is found, by its place
 abbrev object_at : {A : Type 0} → (ℕ → ObjectType) → Option (ℕ × A) → Option ObjectType
-object_at {A} term_at found = option_map (λ (f : ℕ × A). term_at f.0) found
+object_at {A} of_place found = option_map (λ (f : ℕ × A). of_place f.0) found
 
-same_first : {A : Type 0} (term_at : ℕ → ObjectType) (i : ℕ) (b : Bool) (c d : A) (x y : Option (ℕ × A))
-    → object_at term_at x ≡ object_at term_at y
-    → object_at term_at (cond b (Some (i, c)) x) ≡ object_at term_at (cond b (Some (i, d)) y)
-same_first term_at i true c d x y h = refl
-same_first term_at i false c d x y h = h
+same_first : {A : Type 0} (of_place : ℕ → ObjectType) (i : ℕ) (b : Bool) (c d : A) (x y : Option (ℕ × A))
+    → object_at of_place x ≡ object_at of_place y
+    → object_at of_place (cond b (Some (i, c)) x) ≡ object_at of_place (cond b (Some (i, d)) y)
+same_first of_place i true c d x y h = refl
+same_first of_place i false c d x y h = h
 
 abbrev class_from : List ℕ → ℕ → List Class → Option ObjectType
 class_from name i cs = object_at OfClass (first_from (is_class name) i cs)
@@ -342,19 +347,19 @@ abbrev interface_from : List ℕ → ℕ → List Interface → Option ObjectTyp
 interface_from name i ts = object_at OfInterface (first_from (is_interface_named name) i ts)
 
 same_class : (calls : List host.Registration) (named : ModuleDeclarations) (name : List ℕ) (i : ℕ) (cs : List written.Class)
-    → class_from name i (map (class_head calls named) cs) ≡ class_from name i (map named_class cs)
+    → class_from name i (map (class_declaration calls named) cs) ≡ class_from name i (map named_class cs)
 same_class calls named name i [] = refl
 same_class calls named name i (c ∷ cs) =
     same_first OfClass i (bytes_eq name c.name) _ _
-    (first_from (is_class name) (i + 1) (map (class_head calls named) cs))
+    (first_from (is_class name) (i + 1) (map (class_declaration calls named) cs))
     (first_from (is_class name) (i + 1) (map named_class cs)) (same_class calls named name (i + 1) cs)
 
 same_interface : (calls : List host.Registration) (named : ModuleDeclarations) (name : List ℕ) (i : ℕ) (is : List written.Interface)
-    → interface_from name i (map (interface_head calls named) is) ≡ interface_from name i (map named_interface is)
+    → interface_from name i (map (interface_declaration calls named) is) ≡ interface_from name i (map named_interface is)
 same_interface calls named name i [] = refl
 same_interface calls named name i (x ∷ is) =
     same_first OfInterface i (bytes_eq name x.name) _ _
-    (first_from (is_interface_named name) (i + 1) (map (interface_head calls named) is))
+    (first_from (is_interface_named name) (i + 1) (map (interface_declaration calls named) is))
     (first_from (is_interface_named name) (i + 1) (map named_interface is)) (same_interface calls named name (i + 1) is)
 
 pub same_object : (calls : List host.Registration) (is : List written.Item) (name : List ℕ)
@@ -385,7 +390,8 @@ same_type calls is (written.Handle p name) = ap handle_ty (same_object calls is 
 same_type calls is (written.Array p of) = ap object_ty (same_array calls is of)
 same_type calls is (written.ArrayHandle p of) = ap handle_ty (same_array calls is of)
 
-pub module_known : (calls : List host.Registration) (is : List written.Item) → KnownItems (ty_in (environment calls is)) is
+pub module_known : (calls : List host.Registration) (is : List written.Item)
+    → KnownItems (ty_in (environment calls is)) is
     → IsKnown (environment calls is)
 unfolding declarations
 module_known calls is h =

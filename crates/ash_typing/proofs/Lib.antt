@@ -11,6 +11,7 @@ pub mod Bindings
 pub mod TakenNames
 pub mod TypedVariables
 pub mod StatementsComplete
+pub mod StatementPartsSound
 pub mod StatementsSound
 pub mod TypedRoutines
 pub mod TypedInterfaces

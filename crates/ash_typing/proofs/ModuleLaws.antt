@@ -21,11 +21,11 @@ sound calls is typed h =
     let w = bind_ok (items_typed env (nothing calls) is) _ typed h in
     let known = module_known calls is (items_known env is (nothing calls) w.0 w.1) in
     let go = items_sound env known is (nothing calls) w.0 tt (omega arith) w.1 in
-    let term_at : typed
+    let typed_is : typed
     ≡ (walked_with (nothing calls) (item_names is) (length (variable_names (globals_of is))) go.interfaces
-    go.classes go.functions go.globals).typed = sym (ok_is _ typed w.2) ∙ ap module_walked go.term_at in
+    go.classes go.functions go.globals).typed = sym (ok_is _ typed w.2) ∙ ap module_walked go.after_is in
     let few = go.few in
-    subst (IsTyped calls is) (sym term_at) (record {
+    subst (IsTyped calls is) (sym typed_is) (record {
       differ = go.can.distinct;
       free = go.can.free;
       few_types = omega arith;

@@ -26,7 +26,7 @@ use Rattle.ash_typing.specs.Implementations.{methods_of_class, methods_of_interf
 use Rattle.ash_typing.specs.TypedModules.{AreFields, IsFunction, IsListed, HasConstructor, IsClass, AreClasses}
 use Rattle.ash_typing.specs.Nesting.{ConstructorDeclaresInBlocks, ClassDeclaresInBlocks}
 use Rattle.ash_typing.specs.Soundness.{signature_of, signatures_of_interface, signature_of_class, seen_in}
-use Rattle.ash_typing.proofs.TypingTypes.{equal_kinds}
+use Rattle.ash_typing.proofs.TypingTypes.{equal_integer_types}
 use Rattle.ash_typing.proofs.TypingKnown.{at_some, if_get, if_first, variable_is_known, result_is_known}
 use Rattle.ash_typing.proofs.TypedClasses.{count_names}
 use Rattle.ash_typing.proofs.SoundnessTypes.{equal_objects}
@@ -40,7 +40,7 @@ equal_types : (t u : Ty) → is_known t ≡ true → is_known u ≡ true → is_
 equal_types ty.Unknown u h k e = absurd (cc)
 equal_types t ty.Unknown h k e = absurd (cc)
 equal_types ty.Bool ty.Bool h k e = refl
-equal_types (ty.Integer j) (ty.Integer i) h k e = ap (λ kind. ty.Integer kind) (equal_kinds j i e)
+equal_types (ty.Integer j) (ty.Integer i) h k e = ap (λ int_type. ty.Integer int_type) (equal_integer_types j i e)
 equal_types (ty.Object o) (ty.Object p) h k e = ap (λ of. ty.Object of) (equal_objects o p e)
 equal_types (ty.Handle o) (ty.Handle p) h k e = ap (λ of. ty.Handle of) (equal_objects o p e)
 equal_types ty.Null ty.Null h k e = refl

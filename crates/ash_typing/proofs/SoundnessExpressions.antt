@@ -5,8 +5,8 @@ use Rattle.std.proofs.lemmas.Option.{none-some, same_Some}
 use Rattle.std.proofs.Common.{◌≡◌, ℕ, length, List, [], ◌∷◌, Bool, true, false, cond, map, Option, Some, nat_eq, refl}
 use Rattle.std.proofs.Common.{sym, ap, subst, ◌∙◌}
 use Rattle.ash_tree.specs.Tree as written
-use Rattle.ash_typed.specs.declared.types.Kind.{Kind}
-use Rattle.ash_typed.specs.declared.types.Kind.TheVariants as kinds
+use Rattle.ash_integers.specs.declared.int_type.IntType.{IntType}
+use Rattle.ash_integers.specs.declared.int_type.IntType.TheVariants as ints
 use Rattle.ash_typed.specs.declared.types.ObjectType.{ObjectType}
 use Rattle.ash_typed.specs.declared.types.ObjectType.TheVariants as objects
 use Rattle.ash_typed.specs.declared.types.VarType.{VarType}
@@ -32,8 +32,9 @@ use Rattle.ash_typing.specs.declared.forms.Callable.{Callable}
 use Rattle.ash_typing.specs.declared.forms.Callable.TheVariants as callables
 use Rattle.ash_typing.specs.declared.forms.Form.{Form}
 use Rattle.ash_typing.specs.declared.forms.Form.TheVariants as form
-use Rattle.ash_typing.specs.declared.forms.OperatorClass.TheVariants as sort
-use Rattle.ash_typing.specs.Types.{signed, object_of, result_type, operator_class_of, binary_of, meets, outcome, ty_of_element}
+use Rattle.ash_typing.specs.declared.forms.OperatorClass.TheVariants as operator_class
+use Rattle.ash_typing.specs.Types.{signed, object_of, result_type, operator_class_of, binary_of, common_operands, operator_result}
+use Rattle.ash_typing.specs.Types.{ty_of_element}
 use Rattle.ash_typing.specs.Types.{var_type}
 use Rattle.ash_typing.specs.Environment.{Environment, Known, Callee, Invoked, variable_in, callee_in, member_in}
 use Rattle.ash_typing.specs.Environment.{method_in}
@@ -50,7 +51,7 @@ use Rattle.ash_typing.specs.Typing.{operated, no_suffixes, suffixed, field, meth
 use Rattle.ash_typing.specs.Typing.{decrement_after}
 use Rattle.ash_typing.specs.Soundness.{seen_in}
 use Rattle.ash_typing.proofs.TypingKnown.{at_some, known_type, variable_is_known, element_known, adapted_known}
-use Rattle.ash_typing.proofs.TypingKnown.{outcome_known, variable_known, callee_known, member_known, method_known}
+use Rattle.ash_typing.proofs.TypingKnown.{operator_result_known, variable_known, callee_known, member_known, method_known}
 use Rattle.ash_typing.proofs.TypingCallees.{variable_value, result_value}
 use Rattle.ash_typing.proofs.TypingTypes.{value_type_of_object}
 use Rattle.ash_typing.proofs.SoundnessLookUps.{IsPlaceOf, IsSoundMethod, variable_sound, member_sound, element_type}
@@ -97,7 +98,7 @@ assigned_place env form.HandlePlace tree of at h e = place_is env tree of at h e
 assigned_place env (form.Number n) tree of at h e = absurd (none-some at e)
 assigned_place env form.Value tree of at h e = absurd (none-some at e)
 
-integer_place : (env : Environment) (t : Term) (at : Place) (k : Kind) → IsSound env t
+integer_place : (env : Environment) (t : Term) (at : Place) (k : IntType) → IsSound env t
     → assignable t.form t.tree ≡ Some at → t.ty ≡ ty.Integer k → sound.HasPlace (seen_in env) at (vars.Integer k)
 integer_place env t at k h e l =
     subst (λ of. sound.HasPlace (seen_in env) at (var_type of)) l (assigned_place env t.form t.tree t.ty at h.place e)
@@ -125,11 +126,11 @@ handle_sound : (env : Environment) (t : Term) (o : ObjectType) → object_of t.t
     → sound.IsWellTyped (seen_in env) t.tree (value (vars.Handle o))
 handle_sound env t o e h = subst (sound.IsWellTyped (seen_in env) t.tree) (value_type_of_object t.ty o e) h
 
-signed_is : (k : Kind) → operations.IsSigned (signed k)
-signed_is kinds.Int = operations.int
-signed_is kinds.Uint = operations.int
-signed_is kinds.Int64 = operations.int64
-signed_is kinds.Uint64 = operations.int64
+signed_is : (k : IntType) → operations.IsSigned (signed k)
+signed_is ints.Int = operations.int
+signed_is ints.Uint = operations.int
+signed_is ints.Int64 = operations.int64
+signed_is ints.Uint64 = operations.int64
 
 -- arguments
 
@@ -144,12 +145,12 @@ arguments_sound env (argument {of = of} {t = t} e rest) known h =
     sound.argument (fits_sound env of t (variable_is_known of known.0) h.0.1 h.0.0 e)
     (arguments_sound env rest known.1 h.1)
 
-called_sound : (env : Environment) (target : Callable) (parameters : List VarType) (gives : Option VarType)
-    (trees : Exprs) → IsCalled env target parameters gives → sound.AreArguments (seen_in env) parameters trees
-    → sound.IsWellTyped (seen_in env) (call_of target parameters trees) (value_of_result gives)
-called_sound env (callables.OwnMethod class place result) parameters gives trees h args =
+called_sound : (env : Environment) (target : Callable) (parameters : List VarType) (returned : Option VarType)
+    (trees : Exprs) → IsCalled env target parameters returned → sound.AreArguments (seen_in env) parameters trees
+    → sound.IsWellTyped (seen_in env) (call_of target parameters trees) (value_of_result returned)
+called_sound env (callables.OwnMethod class place result) parameters returned trees h args =
     sound.invoke (sound.this h.0) h.1 args
-called_sound env (callables.Target target) parameters gives trees h args = sound.call h args
+called_sound env (callables.Target target) parameters returned trees h args = sound.call h args
 
 -- a call of what takes these parameters
 pub call_sound : (env : Environment) (callee : Callee) (parameters : List Ty) (trees : Exprs)
@@ -163,8 +164,8 @@ call_sound env callee parameters trees r takes args =
 
 array_if : (env : Environment) (of : Element) (b : Bool) → IsElement (seen_in env).signatures of
     → operations.IsTarget (seen_in env).signatures (targets.Array of)
-    (map var_type (cond b [] (ty.Integer kinds.Uint ∷ []))) (Some (vars.Handle (objects.Array of)))
-    × AllByRecursion IsVariableType (cond b [] (ty.Integer kinds.Uint ∷ []))
+    (map var_type (cond b [] (ty.Integer ints.Uint ∷ []))) (Some (vars.Handle (objects.Array of)))
+    × AllByRecursion IsVariableType (cond b [] (ty.Integer ints.Uint ∷ []))
 array_if env of true h = (operations.empty_array h, tt)
 array_if env of false h = (operations.sized_array h, (refl, tt))
 
@@ -181,33 +182,33 @@ cast_is env o to_interface h = operations.to_interface h
 
 -- updates
 
-arithmetic_right : (env : Environment) (a b : Ty) (f : Form) (y : Expr) (j : Kind) → GivesType env y b
-    → meets sort.Arithmetic a b ≡ Some (operands.Integers j)
+arithmetic_right : (env : Environment) (a b : Ty) (f : Form) (y : Expr) (j : IntType) → GivesType env y b
+    → common_operands operator_class.Arithmetic a b ≡ Some (operands.Integers j)
     → GivesType env (converted (conversion (ty.Integer j) b) y) (ty.Integer j)
 arithmetic_right env (ty.Integer m) (ty.Integer n) f y j h e = integer_sound env n j y h
 arithmetic_right env _ _ f y j h e = absurd (none-some (operands.Integers j) e)
 
 shift_right : (env : Environment) (a b : Ty) (y : Expr) (o : Operands) → GivesType env y b
-    → meets sort.Shift a b ≡ Some o → (k : Kind) × GivesType env y (ty.Integer k)
+    → common_operands operator_class.Shift a b ≡ Some o → (k : IntType) × GivesType env y (ty.Integer k)
 shift_right env (ty.Integer m) (ty.Integer n) y o h e = (n, h)
 shift_right env _ _ y o h e = absurd (none-some o e)
 
-by_arithmetic : (env : Environment) (c : Calculator) (a : Ty) (u : Term) (j k : Kind) (at : Place)
+by_arithmetic : (env : Environment) (c : Calculator) (a : Ty) (u : Term) (j k : IntType) (at : Place)
     → sound.HasPlace (seen_in env) at (vars.Integer k) → GivesType env u.tree u.ty
-    → meets sort.Arithmetic a u.ty ≡ Some (operands.Integers j)
+    → common_operands operator_class.Arithmetic a u.ty ≡ Some (operands.Integers j)
     → GivesType env (Update at k (record { operator = c; of = j }) (converted_to (ty.Integer j) u)) (ty.Integer k)
 by_arithmetic env c a u j k at p h e = sound.update p (arithmetic_right env a u.ty u.form u.tree j h e)
 
-by_shift : (env : Environment) (c : Calculator) (a : Ty) (u : Term) (j k : Kind) (at : Place) → operations.IsShift c
+by_shift : (env : Environment) (c : Calculator) (a : Ty) (u : Term) (j k : IntType) (at : Place) → operations.IsShift c
     → sound.HasPlace (seen_in env) at (vars.Integer k) → GivesType env u.tree u.ty
-    → meets sort.Shift a u.ty ≡ Some (operands.Integers j)
+    → common_operands operator_class.Shift a u.ty ≡ Some (operands.Integers j)
     → GivesType env (Update at k (record { operator = c; of = j }) u.tree) (ty.Integer k)
 by_shift env c a u j k at s p h e =
     sound.update_by_shift s p (shift_right env a u.ty u.tree (operands.Integers j) h e).1
 
-updated_sound : (env : Environment) (c : Calculator) (a : Ty) (u : Term) (j k : Kind) (at : Place)
+updated_sound : (env : Environment) (c : Calculator) (a : Ty) (u : Term) (j k : IntType) (at : Place)
     → sound.HasPlace (seen_in env) at (vars.Integer k) → GivesType env u.tree u.ty
-    → meets (operator_class_of (binary_of c)) a u.ty ≡ Some (operands.Integers j)
+    → common_operands (operator_class_of (binary_of c)) a u.ty ≡ Some (operands.Integers j)
     → GivesType env
     (Update at k (record { operator = c; of = j }) (right_by (operator_class_of (binary_of c)) (operands.Integers j) u))
     (ty.Integer k)
@@ -264,17 +265,17 @@ invoked_sound env t o text m trees known h i args =
     (at_some (λ m. IsResultType m.result) (method_in env o text) m (method_known env o text known) i))
     (sound.invoke h (at_some (IsSoundMethod env o) (method_in env o text) m (method_sound env o text known) i).0 args)
 
-element_place : (env : Environment) (t u : Term) (of : Element) (k : Kind) → object_of t.ty ≡ Some (objects.Array of)
+element_place : (env : Environment) (t u : Term) (of : Element) (k : IntType) → object_of t.ty ≡ Some (objects.Array of)
     → GivesType env t.tree t.ty → u.ty ≡ ty.Integer k → GivesType env u.tree u.ty
-    → IsSound env (read_term (ty_of_element of) (Read (Indexed t.tree (converted_to (ty.Integer kinds.Uint) u) of)))
+    → IsSound env (read_term (ty_of_element of) (Read (Indexed t.tree (converted_to (ty.Integer ints.Uint) u) of)))
 element_place env t u of k e h i g =
-    read_sound env (Read (Indexed t.tree (converted_to (ty.Integer kinds.Uint) u) of)) (ty_of_element of)
+    read_sound env (Read (Indexed t.tree (converted_to (ty.Integer ints.Uint) u) of)) (ty_of_element of)
     (element_known of) (
       _,
       refl,
-      subst (sound.HasPlace (seen_in env) (Indexed t.tree (converted_to (ty.Integer kinds.Uint) u) of))
+      subst (sound.HasPlace (seen_in env) (Indexed t.tree (converted_to (ty.Integer ints.Uint) u) of))
           (sym (element_type of))
-          (sound.element (handle_sound env t (objects.Array of) e h) (converted_sound env u k kinds.Uint i g)),
+          (sound.element (handle_sound env t (objects.Array of) e h) (converted_sound env u k ints.Uint i g)),
     )
 
 -- expressions
@@ -348,7 +349,7 @@ mutual
       (fits_sound env t.ty u (known_type h known) (known_type k known) (term_sound k known).gives l)))
   term_sound {env} (update {c = c} {t = t} {u = u} {at = at} {j = j} {k = k} f h i s l m n) known =
       let right = adapted_to (operator_class_of (binary_of c)) (term t.ty Null) u in
-      let term_at = updated_sound env c (adapted_to (operator_class_of (binary_of c)) u (term t.ty Null)).ty right j k at
+      let assigned = updated_sound env c (adapted_to (operator_class_of (binary_of c)) u (term t.ty Null)).ty right j k at
       (integer_place env t at k (term_sound h known) i l)
       (adapted_sound env (operator_class_of (binary_of c)) (term t.ty Null) u (term_sound m known).gives) n in
       plain env t.ty
@@ -356,7 +357,7 @@ mutual
       (right_of (binary_of c) (operands.Integers j) (term t.ty Null) u))
       (subst (GivesType env
       (Update at k (record { operator = c; of = j })
-      (right_of (binary_of c) (operands.Integers j) (term t.ty Null) u))) (sym l) term_at)
+      (right_of (binary_of c) (operands.Integers j) (term t.ty Null) u))) (sym l) assigned)
 
   pub terms_sound : {env : Environment} {es : written.Exprs} {ts : List Term} → AllHaveType env es ts → IsKnown env
       → AllByRecursion (IsArgument env) ts
@@ -370,8 +371,8 @@ mutual
       let s = operator_class_of op in
       let left = adapted_to s u t in
       let right = adapted_to s t u in
-      links_sound rest known (outcome_known s o)
-      (plain env (outcome s o) (applied op o (left_of op o t u) (right_of op o t u))
+      links_sound rest known (operator_result_known s o)
+      (plain env (operator_result s o) (applied op o (left_of op o t u) (right_of op o t u))
       (operated_sound env op o left right (adapted_known s u t k) (adapted_known s t u (known_type e known))
       (adapted_sound env s u t h.gives) (adapted_sound env s t u (term_sound e known).gives) m))
 

@@ -89,7 +89,7 @@ body_returns env of r t is = go is.returns
 pub routine_sound : (env : Environment) (of : Ty) (r : Routine) (t : modules.Function) → IsKnown env → IsKnownType of
     → signatures.IsResultType (seen_in env).signatures (result_type of) → BodyDeclaresInBlocks r.body
     → IsRoutine env of r t → sound.IsFunction (seen_in env) t
-routine_sound env of r t known gives result nest is =
+routine_sound env of r t known known_of result nest is =
     let locals = parameters_known env r.parameters is.passed in
     let scope : IsKnownScope (body_scope (with_locals env (map (parameter_of env) r.parameters)) of) = record {
       env = record {
@@ -99,7 +99,7 @@ routine_sound env of r t known gives result nest is =
         globals = known.globals;
         locals = locals;
       };
-      gives = gives;
+      result = known_of;
     } in
     record {
       parameters =
@@ -107,11 +107,11 @@ routine_sound env of r t known gives result nest is =
           (parameters_passed env r.parameters is.passed);
       result = subst (signatures.IsResultType (seen_in env).signatures) (sym is.result) result;
       body = subst₂
-          (λ (locals : List VarType) (gives : Option VarType).
+          (λ (locals : List VarType) (returned : Option VarType).
           sound_statements.AreStmts
           (record {
             env = record { signatures = (seen_in env).signatures; this = env.this; locals = locals };
-            gives = gives;
+            result = returned;
             may_break = false;
             may_continue = false;
           }) t.body) (types_of env r.parameters ∙ sym is.parameters) (sym is.result) (stmts_sound is.body scope nest);
@@ -196,15 +196,18 @@ before_within count (written.AFunction f ∷ is) = before_within count is
 before_within count (written.AGlobal v ∷ is) = before_within count is
 
 -- interfaces are in the order of the source
-pub interfaces_in_order : (env : Environment) (least count : ℕ) (is : List written.Item) (ts : List modules.Interface) → least ≤ count → AreInterfaces env (interfaces_of is) (classes_before count is) ts → AreInOrder least ts
+pub interfaces_in_order : (env : Environment) (least count : ℕ) (is : List written.Item) (ts : List modules.Interface)
+    → least ≤ count → AreInterfaces env (interfaces_of is) (classes_before count is) ts → AreInOrder least ts
 interfaces_in_order env least count [] [] few h = tt
 interfaces_in_order env least count [] (t ∷ ts) few h = absurd h
 interfaces_in_order env least count (written.AnInterface i ∷ is) [] few h = absurd h
 interfaces_in_order env least count (written.AnInterface i ∷ is) (t ∷ ts) few h =
     let same : count ≡ t.classes_before = sym h.0.before in
     (subst (λ n. least ≤ n) same few, subst (λ n. AreInOrder n ts) same (interfaces_in_order env count count is ts (omega arith) h.1))
-interfaces_in_order env least count (written.AClass c ∷ is) ts few h = interfaces_in_order env least (count + 1) is ts (omega arith) h
-interfaces_in_order env least count (written.AFunction f ∷ is) ts few h = interfaces_in_order env least count is ts few h
+interfaces_in_order env least count (written.AClass c ∷ is) ts few h =
+    interfaces_in_order env least (count + 1) is ts (omega arith) h
+interfaces_in_order env least count (written.AFunction f ∷ is) ts few h =
+    interfaces_in_order env least count is ts few h
 interfaces_in_order env least count (written.AGlobal v ∷ is) ts few h = interfaces_in_order env least count is ts few h
 
 -- variables

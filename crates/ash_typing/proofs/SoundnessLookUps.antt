@@ -137,7 +137,7 @@ primitives_known (p ∷ ps) = (primitive_known p, primitives_known ps)
 
 pub element_type : (of : Element) → var_type (ty_of_element of) ≡ type_of_element of
 element_type elements.Bool = refl
-element_type (elements.Integer kind) = refl
+element_type (elements.Integer int_type) = refl
 element_type (elements.Class class) = refl
 element_type (elements.Interface interface) = refl
 element_type (elements.Host kind) = refl
@@ -177,7 +177,8 @@ this_is classes (Some i) = go (slice_get classes i) refl
 abbrev IsSoundMember : Environment → ObjectType → Member × Ty → Type 0
 IsSoundMember env o found = operations.IsMember (seen_in env).signatures o found.0 (var_type found.1)
 
-field_sound : (env : Environment) (class : ℕ) (c : Class) (text : List ℕ) → slice_get env.declarations.classes class ≡ Some c
+field_sound : (env : Environment) (class : ℕ) (c : Class) (text : List ℕ)
+    → slice_get env.declarations.classes class ≡ Some c
     → IfSome (field_in class c text) (IsSoundMember env (OfClass class))
 field_sound env class c text h =
     if_map (IsSoundMember env (OfClass class))

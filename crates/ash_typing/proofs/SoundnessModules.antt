@@ -19,7 +19,8 @@ use Rattle.ash_typing.proofs.TypedClasses.{count_names}
 use Rattle.ash_typing.proofs.ModuleLaws.{typed_known}
 use Rattle.ash_typing.proofs.SoundnessLookUps.{mapped}
 use Rattle.ash_typing.proofs.SoundnessSignatures.{same_signatures}
-use Rattle.ash_typing.proofs.SoundnessItems.{functions_sound, interfaces_sound, interfaces_length, before_within, interfaces_in_order}
+use Rattle.ash_typing.proofs.SoundnessItems.{functions_sound, interfaces_sound, interfaces_length, before_within}
+use Rattle.ash_typing.proofs.SoundnessItems.{interfaces_in_order}
 use Rattle.ash_typing.proofs.SoundnessItems.{globals_sound, zip_length}
 use Rattle.ash_typing.proofs.SoundnessNaming.{functions_differ, globals_differ}
 use Rattle.ash_typing.proofs.SoundnessClasses.{classes_sound, classes_length}
@@ -40,7 +41,8 @@ globals_length env (v ∷ vs) (t ∷ ts) h =
     ∙ zip_length (IsDeclared env (ty_in env v.of)) v.decls t.values h.0.values) (globals_length env vs ts h.1)
     ∙ sym (count_names v (variable_names vs))
 
-pub module_sound : (calls : List host.Registration) (is : List written.Item) (m : modules.Module) → ItemsDeclareInBlocks is
+pub module_sound : (calls : List host.Registration) (is : List written.Item) (m : modules.Module)
+    → ItemsDeclareInBlocks is
     → IsTyped calls is m → sound.IsSound (offered calls) m
 module_sound calls is m nest typed =
     let env = environment calls is in

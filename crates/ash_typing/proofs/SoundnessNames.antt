@@ -25,13 +25,15 @@ use Rattle.ash_typing.specs.declared.types.Ty.TheVariants as ty
 use Rattle.ash_typing.specs.declared.forms.Callable.{Callable}
 use Rattle.ash_typing.specs.declared.forms.Callable.TheVariants as callables
 use Rattle.ash_typing.specs.Types.{var_type, result_type}
-use Rattle.ash_typing.specs.Environment.{Environment, Function, Interface, Class, ModuleDeclarations, Callee, first_from, is_called}
+use Rattle.ash_typing.specs.Environment.{Environment, Function, Interface, Class, ModuleDeclarations, Callee}
+use Rattle.ash_typing.specs.Environment.{first_from, is_called}
 use Rattle.ash_typing.specs.Environment.{is_class, is_interface_named, this_class, service_function, host_type}
 use Rattle.ash_typing.specs.Environment.{factory_in, factory_parameters, host_method, named_in, own_method_in, class_in}
 use Rattle.ash_typing.specs.Environment.{function_in, callee_beside, callee_in, method_in, class_method}
 use Rattle.ash_typing.specs.Environment.{interface_method, method_of_class, method_of_interface, method_of_array}
 use Rattle.ash_typing.specs.Environment.{method_of_kind, array_method_of, is_array_method, host_member_in, name_of_kind}
-use Rattle.ash_typing.specs.ModuleDeclarations.{object_named, class_type, interface_type, host_object, element_of, element_by}
+use Rattle.ash_typing.specs.ModuleDeclarations.{object_named, class_type, interface_type, host_object, element_of}
+use Rattle.ash_typing.specs.ModuleDeclarations.{element_by}
 use Rattle.ash_typing.specs.ModuleDeclarations.{element_named}
 use Rattle.ash_typing.specs.Typing.{IsKnown, IsKnownFunction, IsKnownInterface, IsKnownClass, IsVariableType}
 use Rattle.ash_typing.specs.Offered.{host_signature, kind_in, factory_at, method_at, function_at}
@@ -129,11 +131,11 @@ method_sound env (OfArray of) text known = let found =
 
 -- it takes these parameters and gives this
 abbrev pub IsCalled : Environment → Callable → List VarType → Option VarType → Type 0
-IsCalled env (callables.OwnMethod class method result) parameters gives =
+IsCalled env (callables.OwnMethod class method result) parameters returned =
     (env.this ≡ Some class)
-    × operations.IsMethod (seen_in env).signatures (OfClass class) (methods.Script class method result) parameters gives
-IsCalled env (callables.Target target) parameters gives =
-    operations.IsTarget (seen_in env).signatures target parameters gives
+    × operations.IsMethod (seen_in env).signatures (OfClass class) (methods.Script class method result) parameters returned
+IsCalled env (callables.Target target) parameters returned =
+    operations.IsTarget (seen_in env).signatures target parameters returned
 
 abbrev pub IsCalledWith : Environment → Callee → List Ty → Type 0
 IsCalledWith env callee parameters =
@@ -143,7 +145,8 @@ IsCalledWith env callee parameters =
 abbrev pub IsSoundCallee : Environment → Callee → Type 0
 IsSoundCallee env callee = IfSome callee.parameters (IsCalledWith env callee)
 
-pub class_takes : (env : Environment) (class : ℕ) (c : Class) → IsKnown env → slice_get env.declarations.classes class ≡ Some c
+pub class_takes : (env : Environment) (class : ℕ) (c : Class) → IsKnown env
+    → slice_get env.declarations.classes class ≡ Some c
     → operations.IsTarget (seen_in env).signatures (targets.Class class) (map var_type c.parameters)
     (result_type (ty.Handle (OfClass class))) × AllByRecursion IsVariableType c.parameters
 class_takes env class c known e = (
@@ -338,7 +341,8 @@ object_element s (OfArray of) h = tt
 pub element_sound : (calls : List host.Registration) (declarations : ModuleDeclarations) (of : written.Element)
     → IfSome (element_named calls declarations of) (IsElement (signatures_in calls declarations))
 unfolding element_named
-element_sound calls declarations (written.PrimElement p primitive) = primitive_element (signatures_in calls declarations) primitive
+element_sound calls declarations (written.PrimElement p primitive) =
+    primitive_element (signatures_in calls declarations) primitive
 element_sound calls declarations (written.HandleElement p name) =
     if_then (IsObjectType (signatures_in calls declarations)) (IsElement (signatures_in calls declarations)) element_by
     (object_named calls declarations name) (object_element (signatures_in calls declarations)) (object_sound calls declarations name)

@@ -1,4 +1,4 @@
--- The grammar lets variables be declared in blocks and in declarations of loops alone.
+-- The grammar lets variables be declared in blocks and in heads of loops alone.
 use Rattle.std.specs.List.{AllByRecursion}
 use Rattle.std.proofs.Common.{ℕ, List}
 use Rattle.ash_tree.specs.Tree.{Stmt, stmts, Case, cases, Function, Member, Class, Item}

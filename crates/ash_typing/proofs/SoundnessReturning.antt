@@ -3,7 +3,7 @@ use Rattle.std.proofs.Common.{◌≡◌, ◌||◌, ◌&&◌, ◌⊎◌, inl, inr
 use Rattle.ash_tree.specs.declared.tree.statements.Label.{Label}
 use Rattle.ash_tree.specs.declared.tree.statements.Label.TheVariants as labels
 use Rattle.ash_tree.specs.Tree as written
-use Rattle.ash_typed.specs.declared.types.Kind.{Kind}
+use Rattle.ash_integers.specs.declared.int_type.IntType.{IntType}
 use Rattle.ash_typed.specs.StatementTree.{Stmt, Stmts, labelled, Cases, no_case, next_case}
 use Rattle.ash_typed.specs.Returning as typed
 use Rattle.ash_typing.specs.Returning.{breaks, any_breaks, breaks_out, is_default, has_default, last_of, returns}
@@ -62,7 +62,7 @@ mutual
   any_written (more_stmts {s = s} {ss = ss} h rest) (typed.later_breaks b) =
       or_right (breaks s) (any_breaks ss) (any_written rest b)
 
-out_written : {scope : Scope} {k : Kind} {before : List Label} {cs : written.Cases} {rows : Cases}
+out_written : {scope : Scope} {k : IntType} {before : List Label} {cs : written.Cases} {rows : Cases}
     → AreCases scope k before cs rows → typed.BreaksOut rows → breaks_out cs ≡ true
 out_written no_more_cases b = elim b [ ]
 out_written (more_cases {ss = ss} {cs = cs} l h rest) (typed.first_case b) =
@@ -78,7 +78,7 @@ default_here labels.Default ts rows h = typed.first_label
 default_here (labels.Case n) ts rows h = absurd (cc)
 default_here (labels.CaseMinus n) ts rows h = absurd (cc)
 
-default_typed : {scope : Scope} {k : Kind} {before : List Label} {cs : written.Cases} {rows : Cases}
+default_typed : {scope : Scope} {k : IntType} {before : List Label} {cs : written.Cases} {rows : Cases}
     → AreCases scope k before cs rows → has_default cs ≡ true → typed.HasDefault rows
 default_typed no_more_cases h = absurd (cc)
 default_typed (more_cases {l = l} {cs = cs} {ts = ts} {rows = rows} is ss rest) h =
@@ -90,7 +90,7 @@ default_typed (more_cases {l = l} {cs = cs} {ts = ts} {rows = rows} is ss rest) 
     go (inr e) more = typed.later_label (more e)
 
 -- the last label is the last one typed
-no_rows : {scope : Scope} {k : Kind} {before : List Label} {cs : written.Cases} {rows : Cases}
+no_rows : {scope : Scope} {k : IntType} {before : List Label} {cs : written.Cases} {rows : Cases}
     → AreCases scope k before cs rows → cs ≡ written.no_case → rows ≡ no_case
 no_rows no_more_cases e = refl
 no_rows (more_cases l ss rest) e = absurd (cc)
@@ -135,7 +135,7 @@ mutual
       ⊎_elim (λ e. typed.first_returns (return_typed i e))
       (λ e. typed.later_returns (any_typed rest e)) (or_cases (returns s) (any_returns ss) h)
 
-  cases_typed : {scope : Scope} {k : Kind} {before : List Label} {cs : written.Cases} {rows : Cases}
+  cases_typed : {scope : Scope} {k : IntType} {before : List Label} {cs : written.Cases} {rows : Cases}
       → AreCases scope k before cs rows → last_returns cs ≡ true → typed.LastReturns rows
   cases_typed no_more_cases h = absurd (cc)
   cases_typed (more_cases {l = l} {ss = ss} {cs = cs} {ts = ts} {rows = rows} is i rest) h =

@@ -11,8 +11,10 @@ use Rattle.ash_typing.specs.declared.types.Ty.{Ty}
 use Rattle.ash_typing.specs.Types.{var_type, result_type}
 use Rattle.ash_typing.specs.Environment.{Environment, ModuleDeclarations, inside, type_declared}
 use Rattle.ash_typing.specs.ModuleDeclarations.{object_named, ty_named, result_named, declared, variables, parameter_ty}
-use Rattle.ash_typing.specs.ModuleDeclarations.{function_head, signature_head, interface_head, class_head, interface_place}
-use Rattle.ash_typing.specs.ModuleDeclarations.{with_place, listed_in, names_in, declarations, ty_in, result_in, all_variables}
+use Rattle.ash_typing.specs.ModuleDeclarations.{function_declaration, signature_declaration, interface_declaration, class_declaration}
+use Rattle.ash_typing.specs.ModuleDeclarations.{interface_place}
+use Rattle.ash_typing.specs.ModuleDeclarations.{with_place, listed_in, names_in, declarations, ty_in, result_in}
+use Rattle.ash_typing.specs.ModuleDeclarations.{all_variables}
 use Rattle.ash_typing.specs.ModuleDeclarations.{constructed_by}
 use Rattle.ash_tree.specs.Items.{classes_of, interfaces_of, classes_before, functions_of, globals_of, fields_of}
 use Rattle.ash_tree.specs.Items.{methods_of, constructors_of}
@@ -47,47 +49,53 @@ pub record NamesAgree (env : Environment) (calls : List host.Registration) (name
   pub types : (of : written.Named) → ty_in env of ≡ ty_named calls named of
   pub names : (name : List ℕ) → object_named env.registered env.declarations name ≡ object_named calls named name
 
-within_class : {env : Environment} {calls : List host.Registration} {named : ModuleDeclarations} → NamesAgree env calls named → (place : ℕ)
+within_class : {env : Environment} {calls : List host.Registration} {named : ModuleDeclarations}
+    → NamesAgree env calls named → (place : ℕ)
     → NamesAgree (inside env place) calls named
 within_class agree place = record { types = agree.types; names = agree.names }
 
 -- functions and signatures
 
-same_result : {env : Environment} {calls : List host.Registration} {named : ModuleDeclarations} → NamesAgree env calls named
+same_result : {env : Environment} {calls : List host.Registration} {named : ModuleDeclarations}
+    → NamesAgree env calls named
     → (of : Option written.Named) → result_in env of ≡ result_named calls named of
 same_result agree None = refl
 same_result agree (Some of) = agree.types of
 
-same_parameters : {env : Environment} {calls : List host.Registration} {named : ModuleDeclarations} → NamesAgree env calls named
+same_parameters : {env : Environment} {calls : List host.Registration} {named : ModuleDeclarations}
+    → NamesAgree env calls named
     → (ps : List written.Parameter) → map (type_of_parameter env) ps ≡ map var_type (map (parameter_ty calls named) ps)
 same_parameters agree [] = refl
 same_parameters agree (p ∷ ps) = ap₂ (λ of rest. var_type of ∷ rest) (agree.types p.of) (same_parameters agree ps)
 
-same_function : {env : Environment} {calls : List host.Registration} {named : ModuleDeclarations} → NamesAgree env calls named
+same_function : {env : Environment} {calls : List host.Registration} {named : ModuleDeclarations}
+    → NamesAgree env calls named
     → (f : written.Function) (t : modules.Function) → IsFunction env f t
-    → signatures.signature_of t ≡ signature_of (function_head calls named f)
+    → signatures.signature_of t ≡ signature_of (function_declaration calls named f)
 same_function agree f t is = λ i. record {
   name = is.routine.name i;
   result = (is.routine.result ∙ ap result_type (same_result agree f.result)) i;
   parameters = (is.routine.parameters ∙ same_parameters agree f.parameters) i;
 }
 
-same_signature : {env : Environment} {calls : List host.Registration} {named : ModuleDeclarations} → NamesAgree env calls named
+same_signature : {env : Environment} {calls : List host.Registration} {named : ModuleDeclarations}
+    → NamesAgree env calls named
     → (m : written.InterfaceMethod) (t : modules.Signature) → IsSignature env m t
-    → t ≡ signature_of (signature_head calls named m)
+    → t ≡ signature_of (signature_declaration calls named m)
 same_signature agree m t is = λ i. record {
   name = is.name i;
   result = (is.result ∙ ap result_type (same_result agree m.result)) i;
   parameters = (is.parameters ∙ same_parameters agree m.parameters) i;
 }
 
-same_methods : {env : Environment} {calls : List host.Registration} {named : ModuleDeclarations} → NamesAgree env calls named
+same_methods : {env : Environment} {calls : List host.Registration} {named : ModuleDeclarations}
+    → NamesAgree env calls named
     → (fs : List written.Function) (ts : List modules.Function) → AllZip (IsFunction env) fs ts
-    → map signatures.signature_of ts ≡ map signature_of (map (function_head calls named) fs)
+    → map signatures.signature_of ts ≡ map signature_of (map (function_declaration calls named) fs)
 same_methods {env} {calls} {named} agree fs ts h =
     zip_same (IsFunction env) signatures.signature_of
-    (λ f. signature_of (function_head calls named f)) (same_function agree) fs ts h
-    ∙ sym (map-map signature_of (function_head calls named) fs)
+    (λ f. signature_of (function_declaration calls named f)) (same_function agree) fs ts h
+    ∙ sym (map-map signature_of (function_declaration calls named) fs)
 
 -- variables
 
@@ -101,7 +109,8 @@ same_variables env of ds vs h =
         → signatures.type_declared v ≡ type_declared (declared of d)
     one d v (is_declared i) = refl
 
-same_decls : {env : Environment} {calls : List host.Registration} {named : ModuleDeclarations} → NamesAgree env calls named
+same_decls : {env : Environment} {calls : List host.Registration} {named : ModuleDeclarations}
+    → NamesAgree env calls named
     → (v : written.Vars) (vs : List Initialization) → AllZip (IsDeclared env (ty_in env v.of)) v.decls vs
     → map signatures.type_declared vs ≡ map type_declared (variables calls named v)
 same_decls {env} agree v vs h =
@@ -110,7 +119,8 @@ same_decls {env} agree v vs h =
 
 -- classes
 
-same_fields : {env : Environment} {calls : List host.Registration} {named : ModuleDeclarations} → NamesAgree env calls named
+same_fields : {env : Environment} {calls : List host.Registration} {named : ModuleDeclarations}
+    → NamesAgree env calls named
     → (vs : List written.Vars) (ts : List Initialization) → AreFields env vs ts
     → map signatures.type_declared ts ≡ map type_declared (all_variables calls named vs)
 same_fields agree [] ts h = ap (map signatures.type_declared) h
@@ -119,7 +129,8 @@ same_fields {env} {calls} {named} agree (v ∷ vs) ts h =
     ∙ ap₂ (λ xs ys. xs ++ ys) (same_decls agree v h.0 h.3) (same_fields agree vs h.1 h.4)
     ∙ sym (map-append type_declared (variables calls named v) (all_variables calls named vs))
 
-same_construction : {env : Environment} {calls : List host.Registration} {named : ModuleDeclarations} → NamesAgree env calls named
+same_construction : {env : Environment} {calls : List host.Registration} {named : ModuleDeclarations}
+    → NamesAgree env calls named
     → (class : List ℕ) (cs : List written.Constructor) (t : Option modules.Function) → HasConstructor env class cs t
     → signatures.parameters_of t ≡ map var_type (constructed_by calls named cs)
 same_construction agree class [] None h = refl
@@ -128,7 +139,8 @@ same_construction agree class (c ∷ []) None h = absurd h
 same_construction agree class (c ∷ []) (Some t) h = h.routine.parameters ∙ same_parameters agree c.parameters
 same_construction agree class (c ∷ (d ∷ cs)) t h = absurd h
 
-same_listed : {env : Environment} {calls : List host.Registration} {named : ModuleDeclarations} → NamesAgree env calls named
+same_listed : {env : Environment} {calls : List host.Registration} {named : ModuleDeclarations}
+    → NamesAgree env calls named
     → (place : ℕ) (ns : List written.TypeName) (is : List modules.Implementation) → AllZip (IsListed env place) ns is
     → map signatures.place_of_interface is ≡ listed_in calls named ns
 same_listed agree place [] [] h = refl
@@ -139,9 +151,10 @@ same_listed {env} {calls} {named} agree place (n ∷ ns) (i ∷ is) h =
     ∙ ap (λ (o : Option ObjectType). with_place (interface_place o) (listed_in calls named ns))
     (sym h.0.interface ∙ agree.names n.name)
 
-same_class : {env : Environment} {calls : List host.Registration} {named : ModuleDeclarations} → NamesAgree env calls named
+same_class : {env : Environment} {calls : List host.Registration} {named : ModuleDeclarations}
+    → NamesAgree env calls named
     → (place : ℕ) (c : written.Class) (t : modules.Class) → IsClass env place c t
-    → signatures.signature_of_class t ≡ signature_of_class (class_head calls named c)
+    → signatures.signature_of_class t ≡ signature_of_class (class_declaration calls named c)
 same_class {env} {calls} {named} agree place c t is =
     let inner = within_class agree place in
     let interfaces = same_listed agree place c.interfaces t.interfaces is.interfaces in
@@ -152,22 +165,24 @@ same_class {env} {calls} {named} agree place c t is =
 
 -- modules
 
-same_interface : {env : Environment} {calls : List host.Registration} {named : ModuleDeclarations} → NamesAgree env calls named
+same_interface : {env : Environment} {calls : List host.Registration} {named : ModuleDeclarations}
+    → NamesAgree env calls named
     → (i : written.Interface) (classes : ℕ) (t : modules.Interface) → IsInterface env i classes t
-    → signatures.methods_of_interface t ≡ signatures_of_interface (interface_head calls named i)
+    → signatures.methods_of_interface t ≡ signatures_of_interface (interface_declaration calls named i)
 same_interface {env} {calls} {named} agree i classes t is =
     sym (map-itself t.methods)
     ∙ zip_same (IsSignature env) (λ m. m)
-    (λ m. signature_of (signature_head calls named m)) (same_signature agree) i.methods t.methods is.methods
-    ∙ sym (map-map signature_of (signature_head calls named) i.methods)
+    (λ m. signature_of (signature_declaration calls named m)) (same_signature agree) i.methods t.methods is.methods
+    ∙ sym (map-map signature_of (signature_declaration calls named) i.methods)
   where
     map-itself : (ms : List modules.Signature) → map (λ (m : modules.Signature). m) ms ≡ ms
     map-itself [] = refl
     map-itself (m ∷ ms) = ap (λ rest. m ∷ rest) (map-itself ms)
 
-same_interfaces : {env : Environment} {calls : List host.Registration} {named : ModuleDeclarations} → NamesAgree env calls named
+same_interfaces : {env : Environment} {calls : List host.Registration} {named : ModuleDeclarations}
+    → NamesAgree env calls named
     → (is : List written.Interface) (ns : List ℕ) (ts : List modules.Interface) → AreInterfaces env is ns ts
-    → map signatures.methods_of_interface ts ≡ map signatures_of_interface (map (interface_head calls named) is)
+    → map signatures.methods_of_interface ts ≡ map signatures_of_interface (map (interface_declaration calls named) is)
 same_interfaces agree [] [] [] h = refl
 same_interfaces agree [] [] (t ∷ ts) h = absurd h
 same_interfaces agree [] (n ∷ ns) ts h = absurd h
@@ -176,16 +191,18 @@ same_interfaces agree (i ∷ is) (n ∷ ns) [] h = absurd h
 same_interfaces agree (i ∷ is) (n ∷ ns) (t ∷ ts) h =
     ap₂ (λ x xs. x ∷ xs) (same_interface agree i n t h.0) (same_interfaces agree is ns ts h.1)
 
-same_classes : {env : Environment} {calls : List host.Registration} {named : ModuleDeclarations} → NamesAgree env calls named
+same_classes : {env : Environment} {calls : List host.Registration} {named : ModuleDeclarations}
+    → NamesAgree env calls named
     → (place : ℕ) (cs : List written.Class) (ts : List modules.Class) → AreClasses env place cs ts
-    → map signatures.signature_of_class ts ≡ map signature_of_class (map (class_head calls named) cs)
+    → map signatures.signature_of_class ts ≡ map signature_of_class (map (class_declaration calls named) cs)
 same_classes agree place [] [] h = refl
 same_classes agree place [] (t ∷ ts) h = absurd h
 same_classes agree place (c ∷ cs) [] h = absurd h
 same_classes agree place (c ∷ cs) (t ∷ ts) h =
     ap₂ (λ x xs. x ∷ xs) (same_class agree place c t h.0) (same_classes agree (place + 1) cs ts h.1)
 
-same_globals : {env : Environment} {calls : List host.Registration} {named : ModuleDeclarations} → NamesAgree env calls named
+same_globals : {env : Environment} {calls : List host.Registration} {named : ModuleDeclarations}
+    → NamesAgree env calls named
     → (vs : List written.Vars) (ts : List modules.Variables) → AllZip (AreVariables env) vs ts
     → signatures.types_of_globals ts ≡ map type_declared (all_variables calls named vs)
 same_globals agree [] [] h = refl
@@ -196,7 +213,8 @@ same_globals {env} {calls} {named} agree (v ∷ vs) (t ∷ ts) h =
     ∙ sym (map-append type_declared (variables calls named v) (all_variables calls named vs))
 
 -- what the items of a module see
-pub same_signatures : (calls : List host.Registration) (is : List written.Item) (m : modules.Module) → IsTyped calls is m
+pub same_signatures : (calls : List host.Registration) (is : List written.Item) (m : modules.Module)
+    → IsTyped calls is m
     → signatures.signatures_of (offered calls) m ≡ signatures_in calls (declarations calls is)
 unfolding declarations
 same_signatures calls is m typed =

@@ -1,4 +1,4 @@
--- What the rules of typing type is a sound statement, where variables are declared in blocks and in declarations of loops
+-- What the rules of typing type is a sound statement, where variables are declared in blocks and in heads of loops
 -- alone.
 use Rattle.std.specs.List.{AllByRecursion, list_any}
 use Rattle.std.proofs.lemmas.Bool.{eqb-true, eq-eqb, leb-true}
@@ -8,8 +8,8 @@ use Rattle.std.proofs.Common.{false, nat_eq, Option, Some, None, refl, sym, ap, 
 use Rattle.ash_tree.specs.declared.tree.statements.Label.{Label}
 use Rattle.ash_tree.specs.declared.tree.statements.Label.TheVariants as labels
 use Rattle.ash_tree.specs.Tree as written
-use Rattle.ash_typed.specs.declared.types.Kind.{Kind}
-use Rattle.ash_typed.specs.declared.types.Kind.TheVariants as kinds
+use Rattle.ash_integers.specs.declared.int_type.IntType.{IntType}
+use Rattle.ash_integers.specs.declared.int_type.IntType.TheVariants as ints
 use Rattle.ash_typed.specs.declared.types.VarType.{VarType}
 use Rattle.ash_typed.specs.declared.tree.statements.Test.TheVariants.{First, Last}
 use Rattle.ash_typed.specs.Tree.{Expr}
@@ -36,7 +36,7 @@ use Rattle.ash_typing.specs.Nesting.{IsNoDeclaration, DeclaresInBlocks, AllDecla
 use Rattle.ash_typing.specs.Nesting.{LabelledDeclareInBlocks}
 use Rattle.ash_typing.specs.Soundness.{seen_in, seen_at}
 use Rattle.ash_typing.proofs.TypingKnown.{known_type, variable_is_known}
-use Rattle.ash_typing.proofs.StatementsSound.{decls_known, more_known}
+use Rattle.ash_typing.proofs.StatementPartsSound.{decls_known, more_known}
 use Rattle.ash_typing.proofs.SoundnessTypes.{of_type, within, fits_sound}
 use Rattle.ash_typing.proofs.SoundnessExpressions.{term_sound}
 use Rattle.ash_typing.proofs.SoundnessVariables.{type_sound, seen_with, variables_sound}
@@ -45,13 +45,13 @@ use Rattle.ash_typing.specs.Scopes.{Scope, block_of, loop_of, switch_of, with_va
 -- scopes
 
 block_known : (scope : Scope) → IsKnownScope scope → IsKnownScope (block_of scope)
-block_known scope k = record { env = k.env; gives = k.gives }
+block_known scope k = record { env = k.env; result = k.result }
 
 loop_known : (scope : Scope) → IsKnownScope scope → IsKnownScope (loop_of scope)
-loop_known scope k = record { env = k.env; gives = k.gives }
+loop_known scope k = record { env = k.env; result = k.result }
 
 switch_known : (scope : Scope) → IsKnownScope scope → IsKnownScope (switch_of scope)
-switch_known scope k = record { env = k.env; gives = k.gives }
+switch_known scope k = record { env = k.env; result = k.result }
 
 -- what is seen after variables
 declaring_is : (scope : Scope) (v : written.Vars)
@@ -60,7 +60,7 @@ declaring_is : (scope : Scope) (v : written.Vars)
 declaring_is scope v =
     ap (λ env. record {
       env = env;
-      gives = result_type scope.gives;
+      result = result_type scope.result;
       may_break = scope.in_loop || scope.in_switch;
       may_continue = scope.in_loop;
     }) (seen_with scope.env (declared_in scope v))
@@ -70,7 +70,7 @@ nothing_declared scope =
     ap (λ locals.
     record {
       env = record { signatures = scope.env.signatures; this = scope.env.this; locals = locals };
-      gives = scope.gives;
+      result = scope.result;
       may_break = scope.may_break;
       may_continue = scope.may_continue;
     }) (sym (append-nil scope.env.locals))
@@ -83,7 +83,7 @@ switch_is : (scope : Scope) → seen_at (switch_of scope) ≡ sound_statements.i
 switch_is scope =
     ap (λ may. record {
       env = seen_in scope.env;
-      gives = result_type scope.gives;
+      result = result_type scope.result;
       may_break = may;
       may_continue = scope.in_loop;
     }) (either scope.in_loop)
@@ -132,13 +132,13 @@ head_sound {scope} (head_evaluates h) known = record {
 
 -- labels
 
-minus_within : (k : Kind) (n : ℕ) → holds_minus k n ≡ true → sound_statements.IsWithinMinus k n
-minus_within kinds.Int n h = leb-true n (2 ^ 31) h
-minus_within kinds.Uint n h = eqb-true n 0 h
-minus_within kinds.Int64 n h = leb-true n (2 ^ 63) h
-minus_within kinds.Uint64 n h = eqb-true n 0 h
+minus_within : (k : IntType) (n : ℕ) → holds_minus k n ≡ true → sound_statements.IsWithinMinus k n
+minus_within ints.Int n h = leb-true n (2 ^ 31) h
+minus_within ints.Uint n h = eqb-true n 0 h
+minus_within ints.Int64 n h = leb-true n (2 ^ 63) h
+minus_within ints.Uint64 n h = eqb-true n 0 h
 
-constant_within : (k : Kind) (l : Label) → is_default l ≡ false → holds_label k l ≡ true
+constant_within : (k : IntType) (l : Label) → is_default l ≡ false → holds_label k l ≡ true
     → sound_statements.IsConstant k l
 constant_within k (labels.Case n) d h = within k n h
 constant_within k (labels.CaseMinus n) d h = minus_within k n h
@@ -186,14 +186,14 @@ all_differ l (other ∷ before) d h =
     let no = or_false (is_same_constant l other) (list_any (is_same_constant l) before) h in
     (λ same. let yes = same_constant l other d same in let never = no.0 in absurd (cc), all_differ l before d no.1)
 
-label_sound : {k : Kind} {before : List Label} {last : Bool} {l : Label} → IsLabel k before last l → (rows : Cases)
+label_sound : {k : IntType} {before : List Label} {last : Bool} {l : Label} → IsLabel k before last l → (rows : Cases)
     → (last ≡ true → rows ≡ no_case) → sound_statements.IsLabel k before l rows
 label_sound {k} (constant {before = before} {l = l} d h i) rows last =
     sound_statements.constant (constant_within k l d h) (all_differ l before d i)
 label_sound {k} (otherwise {before = before}) rows last =
     subst (sound_statements.IsLabel k before labels.Default) (sym (last refl)) sound_statements.otherwise
 
-no_rows : {scope : Scope} {k : Kind} {before : List Label} {cs : written.Cases} {rows : Cases}
+no_rows : {scope : Scope} {k : IntType} {before : List Label} {cs : written.Cases} {rows : Cases}
     → AreCases scope k before cs rows → is_last cs ≡ true → rows ≡ no_case
 no_rows no_more_cases h = refl
 no_rows (more_cases l ss rest) h = absurd (cc)
@@ -202,7 +202,7 @@ no_rows (more_cases l ss rest) h = absurd (cc)
 
 -- a statement, by itself and with what follows it in its block
 record IsSoundStmt (scope : Scope) (s : written.Stmt) (t : Stmt) : Type 0 where
-  alone : IsNoDeclaration s → sound_statements.IsStmt (seen_at scope) t
+  by_itself : IsNoDeclaration s → sound_statements.IsStmt (seen_at scope) t
   followed : (ts : Stmts) → sound_statements.AreStmts (seen_at (after scope s)) ts
       → sound_statements.AreStmts (seen_at scope) (stmt t ts)
   known : IsKnownScope (after scope s)
@@ -210,7 +210,7 @@ record IsSoundStmt (scope : Scope) (s : written.Stmt) (t : Stmt) : Type 0 where
 plain : (scope : Scope) (s : written.Stmt) (t : Stmt) → after scope s ≡ scope → IsKnownScope scope
     → sound_statements.IsStmt (seen_at scope) t → IsSoundStmt scope s t
 plain scope s t e known h = record {
-  alone = λ n. h;
+  by_itself = λ n. h;
   followed = λ ts more.
       sound_statements.more_stmts h (subst (λ next. sound_statements.AreStmts (seen_at next) ts) e more);
   known = subst IsKnownScope (sym e) known;
@@ -231,7 +231,7 @@ mutual
   stmt_sound {scope} (empty {p = p}) known nest =
       plain scope (written.Empty p) (Empty p.line) refl known sound_statements.empty
   stmt_sound {scope} (declare {p = p} {v = v} {values = values} is are) known nest = record {
-    alone = λ n. absurd n;
+    by_itself = λ n. absurd n;
     followed = λ ts more.
         sound_statements.declare
         (variables_sound are known is (variable_is_known (ty_in scope.env v.of) is)
@@ -247,28 +247,28 @@ mutual
       (sound_statements.block (stmts_sound h (block_known scope known) nest))
   stmt_sound {scope} (if_only {p = p} {c = c} {s = s} {tree = tree} {t = t} h i) known nest =
       plain scope (written.If p c s) (If p.line tree t no_branch) refl known
-      (sound_statements.if_only (condition_sound h known.env) ((stmt_sound i known nest.1).alone nest.0))
+      (sound_statements.if_only (condition_sound h known.env) ((stmt_sound i known nest.1).by_itself nest.0))
   stmt_sound {scope} (if_else {p = p} {c = c} {s = s} {r = r} {tree = tree} {t = t} {u = u} h i j) known nest =
       plain scope (written.IfElse p c s r) (If p.line tree t (branch u)) refl known
-      (sound_statements.if_else (condition_sound h known.env) ((stmt_sound i known nest.1).alone nest.0)
-      ((stmt_sound j known nest.3).alone nest.2))
+      (sound_statements.if_else (condition_sound h known.env) ((stmt_sound i known nest.1).by_itself nest.0)
+      ((stmt_sound j known nest.3).by_itself nest.2))
   stmt_sound {scope} (while_loop {p = p} {c = c} {s = s} {tree = tree} {t = t} h i) known nest =
       plain scope (written.While p c s) (Repeat p.line (repeated First (Some tree) [] t)) refl known
       (sound_statements.repeat
       (sound_statements.loop (condition_sound h known.env) tt
-      ((stmt_sound i (loop_known scope known) nest.1).alone nest.0)))
+      ((stmt_sound i (loop_known scope known) nest.1).by_itself nest.0)))
   stmt_sound {scope} (do_loop {p = p} {c = c} {s = s} {tree = tree} {t = t} i h) known nest =
       plain scope (written.DoWhile p s c) (Repeat p.line (repeated Last (Some tree) [] t)) refl known
       (sound_statements.repeat
       (sound_statements.loop (condition_sound h known.env) tt
-      ((stmt_sound i (loop_known scope known) nest.1).alone nest.0)))
+      ((stmt_sound i (loop_known scope known) nest.1).by_itself nest.0)))
   stmt_sound {scope}
       (for_loop {p = p} {f = f} {s = s} {c = c} {es = es} {h = g} {t = t} {tree = tree} {ts = ts} i m all body) known
       nest =
       let head = head_sound i (block_known scope known) in
       let inside =
       sound_statements.loop {test = First} (maybe_sound m head.known.env) (steps_sound all head.known.env)
-      ((stmt_sound body (loop_known (after (block_of scope) f) head.known) nest.1).alone nest.0) in
+      ((stmt_sound body (loop_known (after (block_of scope) f) head.known) nest.1).by_itself nest.0) in
       plain scope (written.For p f c es s) (For p.line g (repeated First tree (map tree_of_term ts) t)) refl known
       (sound_statements.for head.head
       (subst (λ next. sound_statements.IsLoop next (repeated First tree (map tree_of_term ts) t)) head.seen inside))
@@ -285,9 +285,9 @@ mutual
       plain scope (written.Return p None) (Return p.line None) refl known
       (sound_statements.return_nothing (ap result_type h))
   stmt_sound {scope} (return_value {p = p} {e = e} {t = t} h i) known nest =
-      plain scope (written.Return p (Some e)) (Return p.line (Some (converted_to scope.gives t))) refl known
-      (sound_statements.return_value (returned_type scope.env.declarations.classes scope.gives t.ty i)
-      (fits_sound scope.env scope.gives t known.gives (known_type h known.env) (term_sound h known.env).gives i))
+      plain scope (written.Return p (Some e)) (Return p.line (Some (converted_to scope.result t))) refl known
+      (sound_statements.return_value (returned_type scope.env.declarations.classes scope.result t.ty i)
+      (fits_sound scope.env scope.result t known.result (known_type h known.env) (term_sound h known.env).gives i))
 
   pub stmts_sound : {scope : Scope} {ss : written.Stmts} {ts : Stmts} → AreStmts scope ss ts → IsKnownScope scope
       → AllDeclareInBlocks ss → sound_statements.AreStmts (seen_at scope) ts
@@ -296,7 +296,7 @@ mutual
       let s = stmt_sound h known nest.0 in
       s.followed ts (stmts_sound rest s.known nest.1)
 
-  cases_sound : {scope : Scope} {k : Kind} {before : List Label} {cs : written.Cases} {rows : Cases}
+  cases_sound : {scope : Scope} {k : IntType} {before : List Label} {cs : written.Cases} {rows : Cases}
       → AreCases scope k before cs rows → IsKnownScope scope → CasesDeclareInBlocks cs
       → sound_statements.AreCases (seen_at scope) k before rows
   cases_sound no_more_cases known nest = sound_statements.no_cases
@@ -309,6 +309,6 @@ mutual
   labelled_sound no_more_stmts known nest = sound_statements.none_labelled
   labelled_sound {scope} (more_stmts {s = s} {ts = ts} h rest) known nest =
       let first = stmt_sound h known nest.1 in
-      sound_statements.and_labelled (first.alone nest.0)
+      sound_statements.and_labelled (first.by_itself nest.0)
       (subst (λ next. sound_statements.AreLabelled (seen_at next) ts) (same_after scope s nest.0)
       (labelled_sound rest first.known nest.2))

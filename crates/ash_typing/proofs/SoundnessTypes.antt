@@ -6,8 +6,8 @@ use Rattle.std.proofs.lemmas.Map.Views.{Contains-from_any}
 use Rattle.std.proofs.Common.{◌≡◌, ◌^◌, ℕ, Bool, true, false, cond, Option, Some, None, slice_get, refl, sym, ap, subst}
 use Rattle.ash_tree.specs.declared.tree.operators.BinaryOp.{BinaryOp}
 use Rattle.ash_tree.specs.declared.tree.operators.BinaryOp.TheVariants as binary
-use Rattle.ash_typed.specs.declared.types.Kind.{Kind}
-use Rattle.ash_typed.specs.declared.types.Kind.TheVariants as kinds
+use Rattle.ash_integers.specs.declared.int_type.IntType.{IntType}
+use Rattle.ash_integers.specs.declared.int_type.IntType.TheVariants as ints
 use Rattle.ash_typed.specs.declared.types.Element.{Element}
 use Rattle.ash_typed.specs.declared.types.Element.TheVariants as elements
 use Rattle.ash_typed.specs.declared.types.ObjectType.{ObjectType}
@@ -23,17 +23,18 @@ use Rattle.ash_typed.specs.SoundExpressions as sound
 use Rattle.ash_typing.specs.declared.types.Ty.{Ty}
 use Rattle.ash_typing.specs.declared.types.Ty.TheVariants as ty
 use Rattle.ash_typing.specs.declared.forms.OperatorClass.{OperatorClass}
-use Rattle.ash_typing.specs.declared.forms.OperatorClass.TheVariants as sort
+use Rattle.ash_typing.specs.declared.forms.OperatorClass.TheVariants as operator_class
 use Rattle.ash_typing.specs.declared.forms.Form.{Form}
 use Rattle.ash_typing.specs.declared.forms.Form.TheVariants as form
-use Rattle.ash_typing.specs.Types.{is_same_kind, is_same_element, is_same_object, holds, kind_of, meeting, common}
-use Rattle.ash_typing.specs.Types.{gives_object, agrees, operator_class_of, meets, outcome, var_type, value_type}
+use Rattle.ash_typing.specs.Types.{is_same_integer_type, is_same_element, is_same_object, holds}
+use Rattle.ash_typing.specs.Types.{number_type, common_integer_type, common}
+use Rattle.ash_typing.specs.Types.{gives_object, agrees, operator_class_of, common_operands, operator_result, var_type, value_type}
 use Rattle.ash_typing.specs.Environment.{Environment, Class}
 use Rattle.ash_typing.specs.Coercions.{has_interface, lists, is_of, fits}
-use Rattle.ash_typing.specs.Terms.{conversion, operand_type, applied, Term, converted_to, taking, adapted_to, right_by}
+use Rattle.ash_typing.specs.Terms.{conversion, operand_type, applied, Term, converted_to, adapted_number, adapted_to, right_by}
 use Rattle.ash_typing.specs.Typing.{is_known, IsKnownType}
 use Rattle.ash_typing.specs.Soundness.{signature_of_class, seen_in}
-use Rattle.ash_typing.proofs.TypingTypes.{equal_kinds}
+use Rattle.ash_typing.proofs.TypingTypes.{equal_integer_types}
 use Rattle.ash_typing.proofs.SoundnessLookUps.{mapped}
 
 -- the tree gives what an expression of the type gives
@@ -44,7 +45,8 @@ GivesType env tree of = sound.IsWellTyped (seen_in env) tree (value_type of)
 
 equal_elements : (e f : Element) → is_same_element e f ≡ true → e ≡ f
 equal_elements elements.Bool elements.Bool h = refl
-equal_elements (elements.Integer j) (elements.Integer k) h = ap (λ kind. elements.Integer kind) (equal_kinds j k h)
+equal_elements (elements.Integer j) (elements.Integer k) h =
+    ap (λ int_type. elements.Integer int_type) (equal_integer_types j k h)
 equal_elements (elements.Class a) (elements.Class b) h = ap (λ place. elements.Class place) (eqb-true a b h)
 equal_elements (elements.Interface a) (elements.Interface b) h = ap (λ place. elements.Interface place) (eqb-true a b h)
 equal_elements (elements.Host a) (elements.Host b) h = ap (λ kind. elements.Host kind) (eqb-true a b h)
@@ -59,42 +61,43 @@ equal_objects o p h = absurd (cc)
 
 -- numbers
 
-pub within : (k : Kind) (n : ℕ) → holds k n ≡ true → operations.IsWithin k n
-within kinds.Int n h = ltb-true n (2 ^ 31) h
-within kinds.Uint n h = ltb-true n (2 ^ 32) h
-within kinds.Int64 n h = ltb-true n (2 ^ 63) h
-within kinds.Uint64 n h = tt
+pub within : (k : IntType) (n : ℕ) → holds k n ≡ true → operations.IsWithin k n
+within ints.Int n h = ltb-true n (2 ^ 31) h
+within ints.Uint n h = ltb-true n (2 ^ 32) h
+within ints.Int64 n h = ltb-true n (2 ^ 63) h
+within ints.Uint64 n h = tt
 
-kind_within : (n : ℕ) (a b c : Bool) → holds kinds.Int n ≡ a → holds kinds.Uint n ≡ b → holds kinds.Int64 n ≡ c
-    → operations.IsWithin (cond a kinds.Int (cond b kinds.Uint (cond c kinds.Int64 kinds.Uint64))) n
-kind_within n true b c h i k = within kinds.Int n h
-kind_within n false true c h i k = within kinds.Uint n i
-kind_within n false false true h i k = within kinds.Int64 n k
-kind_within n false false false h i k = tt
+number_type_within : (n : ℕ) (a b c : Bool) → holds ints.Int n ≡ a → holds ints.Uint n ≡ b → holds ints.Int64 n ≡ c
+    → operations.IsWithin (cond a ints.Int (cond b ints.Uint (cond c ints.Int64 ints.Uint64))) n
+number_type_within n true b c h i k = within ints.Int n h
+number_type_within n false true c h i k = within ints.Uint n i
+number_type_within n false false true h i k = within ints.Int64 n k
+number_type_within n false false false h i k = tt
 
 -- a number has a type that holds it
-pub number_sound : (env : Environment) (n : ℕ) → GivesType env (Number (kind_of n) n) (ty.Integer (kind_of n))
+pub number_sound : (env : Environment) (n : ℕ) → GivesType env (Number (number_type n) n) (ty.Integer (number_type n))
 number_sound env n =
-    sound.number (kind_within n (holds kinds.Int n) (holds kinds.Uint n) (holds kinds.Int64 n) refl refl refl)
+    sound.number (number_type_within n (holds ints.Int n) (holds ints.Uint n) (holds ints.Int64 n) refl refl refl)
 
 -- conversions
 
-integer_if : (env : Environment) (j k : Kind) (tree : Expr) (b : Bool) → is_same_kind j k ≡ b
+integer_if : (env : Environment) (j k : IntType) (tree : Expr) (b : Bool) → is_same_integer_type j k ≡ b
     → GivesType env tree (ty.Integer j)
     → GivesType env (converted (cond b None (Some (record { from = j; to = k }))) tree) (ty.Integer k)
-integer_if env j k tree true e h = subst (λ kind. GivesType env tree (ty.Integer kind)) (equal_kinds j k e) h
+integer_if env j k tree true e h =
+    subst (λ int_type. GivesType env tree (ty.Integer int_type)) (equal_integer_types j k e) h
 integer_if env j k tree false e h = sound.convert h
 
-pub integer_sound : (env : Environment) (j k : Kind) (tree : Expr) → GivesType env tree (ty.Integer j)
+pub integer_sound : (env : Environment) (j k : IntType) (tree : Expr) → GivesType env tree (ty.Integer j)
     → GivesType env (converted (conversion (ty.Integer k) (ty.Integer j)) tree) (ty.Integer k)
-integer_sound env j k tree h = integer_if env j k tree (is_same_kind j k) refl h
+integer_sound env j k tree h = integer_if env j k tree (is_same_integer_type j k) refl h
 
 -- of what is known to have a type
 pub of_type : (env : Environment) (tree : Expr) (of other : Ty) → of ≡ other → GivesType env tree of
     → GivesType env tree other
 of_type env tree of other e h = subst (GivesType env tree) e h
 
-pub converted_sound : (env : Environment) (t : Term) (j k : Kind) → t.ty ≡ ty.Integer j → GivesType env t.tree t.ty
+pub converted_sound : (env : Environment) (t : Term) (j k : IntType) → t.ty ≡ ty.Integer j → GivesType env t.tree t.ty
     → GivesType env (converted_to (ty.Integer k) t) (ty.Integer k)
 converted_sound env t j k e h =
     subst (λ of. GivesType env (converted (conversion (ty.Integer k) of) t.tree) (ty.Integer k)) (sym e)
@@ -102,14 +105,15 @@ converted_sound env t j k e h =
 
 -- operands
 
-taken_sound : (env : Environment) (k : Kind) (n : ℕ) (t : Term) (b : Bool) → holds k n ≡ b → GivesType env t.tree t.ty
+taken_sound : (env : Environment) (k : IntType) (n : ℕ) (t : Term) (b : Bool) → holds k n ≡ b
+    → GivesType env t.tree t.ty
     → GivesType env (cond b (record { ty = ty.Integer k; form = form.Number n; tree = Number k n }) t).tree
     (cond b (record { ty = ty.Integer k; form = form.Number n; tree = Number k n }) t).ty
 taken_sound env k n t true e h = sound.number (within k n e)
 taken_sound env k n t false e h = h
 
 taking_sound : (env : Environment) (a : Form) (of : Ty) (b : Form) (t : Term) → GivesType env t.tree t.ty
-    → GivesType env (taking a of b t).tree (taking a of b t).ty
+    → GivesType env (adapted_number a of b t).tree (adapted_number a of b t).ty
 taking_sound env (form.Number m) of (form.Number n) t h = h
 taking_sound env a (ty.Integer k) (form.Number n) t h = taken_sound env k n t (holds k n) refl h
 taking_sound env a of b t h = h
@@ -117,68 +121,74 @@ taking_sound env a of b t h = h
 -- the operand of an operator whose other operand is this
 pub adapted_sound : (env : Environment) (s : OperatorClass) (other t : Term) → GivesType env t.tree t.ty
     → GivesType env (adapted_to s other t).tree (adapted_to s other t).ty
-adapted_sound env sort.Shift other t h = h
+adapted_sound env operator_class.Shift other t h = h
 adapted_sound env _ other t h = taking_sound env other.form other.ty t.form t h
 
 -- what the operands of an operator give, by what it is of
 abbrev AreOperands : Environment → OperatorClass → Operands → Expr → Expr → Type 0
-AreOperands env sort.Arithmetic (operands.Integers k) a b =
+AreOperands env operator_class.Arithmetic (operands.Integers k) a b =
     GivesType env a (ty.Integer k) × GivesType env b (ty.Integer k)
-AreOperands env sort.Shift (operands.Integers k) a b =
-    GivesType env a (ty.Integer k) × ((j : Kind) × GivesType env b (ty.Integer j))
-AreOperands env sort.Order (operands.Integers k) a b = GivesType env a (ty.Integer k) × GivesType env b (ty.Integer k)
-AreOperands env sort.Equality (operands.Integers k) a b =
+AreOperands env operator_class.Shift (operands.Integers k) a b =
+    GivesType env a (ty.Integer k) × ((j : IntType) × GivesType env b (ty.Integer j))
+AreOperands env operator_class.Order (operands.Integers k) a b =
     GivesType env a (ty.Integer k) × GivesType env b (ty.Integer k)
-AreOperands env sort.Equality operands.Bools a b = GivesType env a ty.Bool × GivesType env b ty.Bool
-AreOperands env sort.Logic operands.Bools a b = GivesType env a ty.Bool × GivesType env b ty.Bool
-AreOperands env sort.Identity operands.Handles a b =
+AreOperands env operator_class.Equality (operands.Integers k) a b =
+    GivesType env a (ty.Integer k) × GivesType env b (ty.Integer k)
+AreOperands env operator_class.Equality operands.Bools a b = GivesType env a ty.Bool × GivesType env b ty.Bool
+AreOperands env operator_class.Logic operands.Bools a b = GivesType env a ty.Bool × GivesType env b ty.Bool
+AreOperands env operator_class.Identity operands.Handles a b =
     (x y : ValueType) × sound.IsWellTyped (seen_in env) a x × operations.IsOperand operands.Handles x
     × sound.IsWellTyped (seen_in env) b y × operations.IsOperand operands.Handles y
 AreOperands env _ _ _ _ = ⊥
 
 -- what becomes of two terms
-abbrev AreMet : Environment → OperatorClass → Operands → Ty → Ty → Form → Expr → Expr → Type 0
-AreMet env s o a b f x y =
+abbrev AreSoundOperands : Environment → OperatorClass → Operands → Ty → Ty → Form → Expr → Expr → Type 0
+AreSoundOperands env s o a b f x y =
     AreOperands env s o (converted (conversion (operand_type o) a) x)
     (right_by s o (record { ty = b; form = f; tree = y }))
 
 arithmetic_sound : (env : Environment) (a b : Ty) (f : Form) (x y : Expr) (o : Operands) → GivesType env x a
-    → GivesType env y b → meets sort.Arithmetic a b ≡ Some o → AreMet env sort.Arithmetic o a b f x y
+    → GivesType env y b → common_operands operator_class.Arithmetic a b ≡ Some o
+    → AreSoundOperands env operator_class.Arithmetic o a b f x y
 arithmetic_sound env (ty.Integer j) (ty.Integer k) f x y o h i e =
-    subst (λ o. AreMet env sort.Arithmetic o (ty.Integer j) (ty.Integer k) f x y)
-    (same_Some (operands.Integers (meeting j k)) o e)
-    (integer_sound env j (meeting j k) x h, integer_sound env k (meeting j k) y i)
+    subst (λ o. AreSoundOperands env operator_class.Arithmetic o (ty.Integer j) (ty.Integer k) f x y)
+    (same_Some (operands.Integers (common_integer_type j k)) o e)
+    (integer_sound env j (common_integer_type j k) x h, integer_sound env k (common_integer_type j k) y i)
 arithmetic_sound env _ _ f x y o h i e = absurd (none-some o e)
 
 shift_sound : (env : Environment) (a b : Ty) (f : Form) (x y : Expr) (o : Operands) → GivesType env x a
-    → GivesType env y b → meets sort.Shift a b ≡ Some o → AreMet env sort.Shift o a b f x y
+    → GivesType env y b → common_operands operator_class.Shift a b ≡ Some o
+    → AreSoundOperands env operator_class.Shift o a b f x y
 shift_sound env (ty.Integer j) (ty.Integer k) f x y o h i e =
-    subst (λ o. AreMet env sort.Shift o (ty.Integer j) (ty.Integer k) f x y) (same_Some (operands.Integers j) o e)
+    subst (λ o. AreSoundOperands env operator_class.Shift o (ty.Integer j) (ty.Integer k) f x y) (same_Some (operands.Integers j) o e)
     (integer_sound env j j x h, (k, i))
 shift_sound env _ _ f x y o h i e = absurd (none-some o e)
 
 order_sound : (env : Environment) (a b : Ty) (f : Form) (x y : Expr) (o : Operands) → GivesType env x a
-    → GivesType env y b → meets sort.Order a b ≡ Some o → AreMet env sort.Order o a b f x y
+    → GivesType env y b → common_operands operator_class.Order a b ≡ Some o
+    → AreSoundOperands env operator_class.Order o a b f x y
 order_sound env (ty.Integer j) (ty.Integer k) f x y o h i e =
-    subst (λ o. AreMet env sort.Order o (ty.Integer j) (ty.Integer k) f x y)
-    (same_Some (operands.Integers (meeting j k)) o e)
-    (integer_sound env j (meeting j k) x h, integer_sound env k (meeting j k) y i)
+    subst (λ o. AreSoundOperands env operator_class.Order o (ty.Integer j) (ty.Integer k) f x y)
+    (same_Some (operands.Integers (common_integer_type j k)) o e)
+    (integer_sound env j (common_integer_type j k) x h, integer_sound env k (common_integer_type j k) y i)
 order_sound env _ _ f x y o h i e = absurd (none-some o e)
 
 equality_sound : (env : Environment) (a b : Ty) (f : Form) (x y : Expr) (o : Operands) → GivesType env x a
-    → GivesType env y b → meets sort.Equality a b ≡ Some o → AreMet env sort.Equality o a b f x y
+    → GivesType env y b → common_operands operator_class.Equality a b ≡ Some o
+    → AreSoundOperands env operator_class.Equality o a b f x y
 equality_sound env (ty.Integer j) (ty.Integer k) f x y o h i e =
-    subst (λ o. AreMet env sort.Equality o (ty.Integer j) (ty.Integer k) f x y)
-    (same_Some (operands.Integers (meeting j k)) o e)
-    (integer_sound env j (meeting j k) x h, integer_sound env k (meeting j k) y i)
+    subst (λ o. AreSoundOperands env operator_class.Equality o (ty.Integer j) (ty.Integer k) f x y)
+    (same_Some (operands.Integers (common_integer_type j k)) o e)
+    (integer_sound env j (common_integer_type j k) x h, integer_sound env k (common_integer_type j k) y i)
 equality_sound env ty.Bool ty.Bool f x y o h i e =
-    subst (λ o. AreMet env sort.Equality o ty.Bool ty.Bool f x y) (same_Some operands.Bools o e) (h, i)
+    subst (λ o. AreSoundOperands env operator_class.Equality o ty.Bool ty.Bool f x y) (same_Some operands.Bools o e) (h, i)
 equality_sound env _ _ f x y o h i e = absurd (none-some o e)
 
 logic_sound : (env : Environment) (a b : Ty) (f : Form) (x y : Expr) (o : Operands) → GivesType env x a
-    → GivesType env y b → meets sort.Logic a b ≡ Some o → AreMet env sort.Logic o a b f x y
+    → GivesType env y b → common_operands operator_class.Logic a b ≡ Some o
+    → AreSoundOperands env operator_class.Logic o a b f x y
 logic_sound env ty.Bool ty.Bool f x y o h i e =
-    subst (λ o. AreMet env sort.Logic o ty.Bool ty.Bool f x y) (same_Some operands.Bools o e) (h, i)
+    subst (λ o. AreSoundOperands env operator_class.Logic o ty.Bool ty.Bool f x y) (same_Some operands.Bools o e) (h, i)
 logic_sound env _ _ f x y o h i e = absurd (none-some o e)
 
 -- an object or null
@@ -218,25 +228,28 @@ identity_if true o e = (refl, same_Some operands.Handles o e)
 identity_if false o e = absurd (none-some o e)
 
 identity_sound : (env : Environment) (a b : Ty) (f : Form) (x y : Expr) (o : Operands) → is_known a ≡ true
-    → is_known b ≡ true → GivesType env x a → GivesType env y b → meets sort.Identity a b ≡ Some o
-    → AreMet env sort.Identity o a b f x y
+    → is_known b ≡ true → GivesType env x a → GivesType env y b → common_operands operator_class.Identity a b ≡ Some o
+    → AreSoundOperands env operator_class.Identity o a b f x y
 identity_sound env a b f x y o k l h i e =
     let c = identity_if (agrees a b) o e in
     let r = agreeing a b k l c.0 in
-    subst (λ o. AreMet env sort.Identity o a b f x y) c.1
+    subst (λ o. AreSoundOperands env operator_class.Identity o a b f x y) c.1
     (value_type a, value_type b, h, reference_operand a r.0, i, reference_operand b r.1)
 
-met_sound : (env : Environment) (s : OperatorClass) (a b : Ty) (f : Form) (x y : Expr) (o : Operands) → is_known a ≡ true
-    → is_known b ≡ true → GivesType env x a → GivesType env y b → meets s a b ≡ Some o → AreMet env s o a b f x y
-met_sound env sort.Arithmetic a b f x y o k l h i e = arithmetic_sound env a b f x y o h i e
-met_sound env sort.Shift a b f x y o k l h i e = shift_sound env a b f x y o h i e
-met_sound env sort.Order a b f x y o k l h i e = order_sound env a b f x y o h i e
-met_sound env sort.Equality a b f x y o k l h i e = equality_sound env a b f x y o h i e
-met_sound env sort.Identity a b f x y o k l h i e = identity_sound env a b f x y o k l h i e
-met_sound env sort.Logic a b f x y o k l h i e = logic_sound env a b f x y o h i e
+unified_sound : (env : Environment) (s : OperatorClass) (a b : Ty) (f : Form) (x y : Expr) (o : Operands)
+    → is_known a ≡ true
+    → is_known b ≡ true → GivesType env x a → GivesType env y b → common_operands s a b ≡ Some o
+    → AreSoundOperands env s o a b f x y
+unified_sound env operator_class.Arithmetic a b f x y o k l h i e = arithmetic_sound env a b f x y o h i e
+unified_sound env operator_class.Shift a b f x y o k l h i e = shift_sound env a b f x y o h i e
+unified_sound env operator_class.Order a b f x y o k l h i e = order_sound env a b f x y o h i e
+unified_sound env operator_class.Equality a b f x y o k l h i e = equality_sound env a b f x y o h i e
+unified_sound env operator_class.Identity a b f x y o k l h i e = identity_sound env a b f x y o k l h i e
+unified_sound env operator_class.Logic a b f x y o k l h i e = logic_sound env a b f x y o h i e
 
-applied_sound : (env : Environment) (op : BinaryOp) (o : Operands) (a b : Expr) → AreOperands env (operator_class_of op) o a b
-    → GivesType env (applied op o a b) (outcome (operator_class_of op) o)
+applied_sound : (env : Environment) (op : BinaryOp) (o : Operands) (a b : Expr)
+    → AreOperands env (operator_class_of op) o a b
+    → GivesType env (applied op o a b) (operator_result (operator_class_of op) o)
 applied_sound env binary.Multiply (operands.Integers k) a b h = sound.calculate h.0 h.1
 applied_sound env binary.Divide (operands.Integers k) a b h = sound.calculate h.0 h.1
 applied_sound env binary.Remainder (operands.Integers k) a b h = sound.calculate h.0 h.1
@@ -276,12 +289,12 @@ applied_sound env op o a b h = absurd h
 -- an operator between two operands that it takes
 pub operated_sound : (env : Environment) (op : BinaryOp) (o : Operands) (t u : Term) → is_known t.ty ≡ true
     → is_known u.ty ≡ true → GivesType env t.tree t.ty → GivesType env u.tree u.ty
-    → meets (operator_class_of op) t.ty u.ty ≡ Some o
+    → common_operands (operator_class_of op) t.ty u.ty ≡ Some o
     → GivesType env (applied op o (converted_to (operand_type o) t) (right_by (operator_class_of op) o u))
-    (outcome (operator_class_of op) o)
+    (operator_result (operator_class_of op) o)
 operated_sound env op o t u k l h i e =
     applied_sound env op o (converted_to (operand_type o) t) (right_by (operator_class_of op) o u)
-    (met_sound env (operator_class_of op) t.ty u.ty u.form t.tree u.tree o k l h i e)
+    (unified_sound env (operator_class_of op) t.ty u.ty u.form t.tree u.tree o k l h i e)
 
 -- branches
 
@@ -324,8 +337,8 @@ chosen_sound env c x y a ty.Unknown of k l h i j e = absurd (cc)
 chosen_sound env c x y ty.Bool ty.Bool of k l h i j e =
     subst (IsChosen env c ty.Bool ty.Bool x y) (same_Some ty.Bool of e) (sound.choose h i j)
 chosen_sound env c x y (ty.Integer m) (ty.Integer n) of k l h i j e =
-    subst (IsChosen env c (ty.Integer m) (ty.Integer n) x y) (same_Some (ty.Integer (meeting m n)) of e)
-    (sound.choose h (integer_sound env m (meeting m n) x i) (integer_sound env n (meeting m n) y j))
+    subst (IsChosen env c (ty.Integer m) (ty.Integer n) x y) (same_Some (ty.Integer (common_integer_type m n)) of e)
+    (sound.choose h (integer_sound env m (common_integer_type m n) x i) (integer_sound env n (common_integer_type m n) y j))
 chosen_sound env c x y ty.Null (ty.Object o) of k l h i j e =
     subst (IsChosen env c ty.Null (ty.Object o) x y) (same_Some (ty.Handle o) of e) (sound.null_or_choose h i j)
 chosen_sound env c x y ty.Null (ty.Handle o) of k l h i j e =

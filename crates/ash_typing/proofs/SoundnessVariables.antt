@@ -26,10 +26,12 @@ use Rattle.ash_typing.specs.declared.types.Ty.{Ty}
 use Rattle.ash_typing.specs.declared.types.Ty.TheVariants as ty
 use Rattle.ash_typing.specs.declared.forms.Callable.TheVariants as callables
 use Rattle.ash_typing.specs.Types.{is_interface, object_of, var_type, ty_of}
-use Rattle.ash_typing.specs.Environment.{Environment, Declared, Class, ModuleDeclarations, Callee, host_type, with_locals}
+use Rattle.ash_typing.specs.Environment.{Environment, Declared, Class, ModuleDeclarations, Callee, host_type}
+use Rattle.ash_typing.specs.Environment.{with_locals}
 use Rattle.ash_typing.specs.Environment.{class_built, class_construction, kind_construction, construction}
 use Rattle.ash_typing.specs.Environment.{type_declared}
-use Rattle.ash_typing.specs.ModuleDeclarations.{object_named, element_named, array_named, object_ty, handle_ty, ty_named, declared}
+use Rattle.ash_typing.specs.ModuleDeclarations.{object_named, element_named, array_named, object_ty, handle_ty}
+use Rattle.ash_typing.specs.ModuleDeclarations.{ty_named, declared}
 use Rattle.ash_typing.specs.Terms.{call_of, Term}
 use Rattle.ash_typing.specs.Scopes.{Scope}
 use Rattle.ash_typing.specs.Typing.{IsKnown, IsKnownType, IsVariableType, is_object, IsConstructed, construct}
@@ -39,7 +41,7 @@ use Rattle.ash_typing.specs.TypedStatements.{IsKnownScope, AreDeclared, none_dec
 use Rattle.ash_typing.specs.Offered.{factory_at}
 use Rattle.ash_typing.specs.Soundness.{signatures_in, seen_in}
 use Rattle.ash_typing.proofs.TypingKnown.{at_some, if_then, known_type}
-use Rattle.ash_typing.proofs.StatementsSound.{more_known}
+use Rattle.ash_typing.proofs.StatementPartsSound.{more_known}
 use Rattle.ash_typing.proofs.SoundnessLookUps.{found_with}
 use Rattle.ash_typing.proofs.SoundnessNames.{class_takes, host_found, object_sound, element_sound}
 use Rattle.ash_typing.proofs.SoundnessTypes.{fits_sound}

@@ -6,7 +6,7 @@ use Rattle.ash_tree.specs.declared.tree.statements.Label.{Label}
 use Rattle.ash_tree.specs.declared.tree.statements.Label.TheVariants as labels
 use Rattle.ash_tree.specs.declared.tree.places.Place.{Place}
 use Rattle.ash_tree.specs.Tree as written
-use Rattle.ash_typed.specs.declared.types.Kind.{Kind}
+use Rattle.ash_integers.specs.declared.int_type.IntType.{IntType}
 use Rattle.ash_typing.specs.declared.types.Ty.{Ty}
 use Rattle.ash_typing.specs.declared.types.Ty.TheVariants as ty
 use Rattle.ash_typing.specs.Coercions.{fits}
@@ -21,7 +21,7 @@ use Rattle.ash_typing.specs.Expressions.{all_placed}
 use Rattle.ash_typing.specs.ModuleDeclarations.{declared, ty_in}
 use Rattle.ash_typing.specs.Declarations.{at_type, known_ty, decl_typed}
 use Rattle.ash_typing.specs.Returning.{is_default}
-use Rattle.ash_typing.specs.Switches.{kind_in, is_within, constant_typed, label_typed}
+use Rattle.ash_typing.specs.Switches.{integer_type_in, is_within, constant_typed, label_typed}
 use Rattle.ash_typing.specs.Statements.{fresh, decls_typed, vars_typed, condition_is, if_typed, if_else_typed}
 use Rattle.ash_typing.specs.Statements.{while_typed, do_while_typed, maybe_typed, maybe_condition_is, tree_of}
 use Rattle.ash_typing.specs.Statements.{head_typed, for_typed, break_typed, continue_typed, returned, return_typed}
@@ -123,7 +123,8 @@ if_is : (line : ℕ) (o : TypingResult Typed) (b : TypingResult Stmt) (c : Typed
 unfolding if_typed
 if_is line o b c s tree h i j k = rw (h, k, i, sym j) refl
 
-if_else_is : (line : ℕ) (o : TypingResult Typed) (b r : TypingResult Stmt) (c : Typed) (s t : Stmt) (tree : Expr) → o ≡ Ok c
+if_else_is : (line : ℕ) (o : TypingResult Typed) (b r : TypingResult Stmt) (c : Typed) (s t : Stmt) (tree : Expr)
+    → o ≡ Ok c
     → condition_is c ≡ Ok true → c.tree ≡ tree → b ≡ Ok s → r ≡ Ok t
     → if_else_typed line o b r ≡ Ok (If line tree s (branch t))
 unfolding if_else_typed
@@ -135,7 +136,8 @@ while_is : (line : ℕ) (o : TypingResult Typed) (b : TypingResult Stmt) (c : Ty
 unfolding while_typed
 while_is line o b c s tree h i j k = rw (h, k, i, sym j) refl
 
-do_while_is : (line : ℕ) (o : TypingResult Typed) (b : TypingResult Stmt) (c : Typed) (s : Stmt) (tree : Expr) → o ≡ Ok c
+do_while_is : (line : ℕ) (o : TypingResult Typed) (b : TypingResult Stmt) (c : Typed) (s : Stmt) (tree : Expr)
+    → o ≡ Ok c
     → condition_is c ≡ Ok true → c.tree ≡ tree → b ≡ Ok s
     → do_while_typed line b o ≡ Ok (Repeat line (repeated Last (Some tree) [] s))
 unfolding do_while_typed
@@ -156,7 +158,7 @@ continue_is : (leaves : Bool) (p : Place) → leaves ≡ true → continue_typed
 unfolding continue_typed
 continue_is leaves p h = rw h refl
 
-nothing_is : (scope : Scope) (p : Place) → scope.gives ≡ ty.Void → return_typed scope p None ≡ Ok (Return p.line None)
+nothing_is : (scope : Scope) (p : Place) → scope.result ≡ ty.Void → return_typed scope p None ≡ Ok (Return p.line None)
 unfolding return_typed
 nothing_is scope p h = rw h refl
 
@@ -175,19 +177,21 @@ unfolding returned
 returned_is classes of at a t h = rw (no_void classes of t.ty h) (coerced_for_assignment_is classes of a t h)
 
 value_is : (scope : Scope) (p : Place) (e : written.Expr) (t : Term)
-    → typed scope.env false e ≡ Ok (placed (first_at e) t) → fits scope.env.declarations.classes scope.gives t.ty ≡ true
-    → return_typed scope p (Some e) ≡ Ok (Return p.line (Some (converted_to scope.gives t)))
+    → typed scope.env false e ≡ Ok (placed (first_at e) t)
+    → fits scope.env.declarations.classes scope.result t.ty ≡ true
+    → return_typed scope p (Some e) ≡ Ok (Return p.line (Some (converted_to scope.result t)))
 unfolding return_typed
-value_is scope p e t h fit = rw (h, returned_is scope.env.declarations.classes scope.gives p.at (first_at e) t fit) refl
+value_is scope p e t h fit =
+    rw (h, returned_is scope.env.declarations.classes scope.result p.at (first_at e) t fit) refl
 
 -- labels
 
-constant_is : (k : Kind) (before : List Label) (at : ℕ) (l : Label) → holds_label k l ≡ true
+constant_is : (k : IntType) (before : List Label) (at : ℕ) (l : Label) → holds_label k l ≡ true
     → list_any (is_same_constant l) before ≡ false → constant_typed (Some k) before at l ≡ Ok l
 unfolding constant_typed is_within
 constant_is k before at l h i = rw (h, i) refl
 
-label_is : (k : Kind) (before : List Label) (last : Bool) (at : ℕ) (l : Label) → is_default l ≡ false
+label_is : (k : IntType) (before : List Label) (last : Bool) (at : ℕ) (l : Label) → is_default l ≡ false
     → holds_label k l ≡ true → list_any (is_same_constant l) before ≡ false
     → label_typed (Some k) before last at l ≡ Ok l
 unfolding label_typed
@@ -195,31 +199,31 @@ label_is k before last at labels.Default d h i = absurd (cc)
 label_is k before last at (labels.Case n) d h i = constant_is k before at (labels.Case n) h i
 label_is k before last at (labels.CaseMinus n) d h i = constant_is k before at (labels.CaseMinus n) h i
 
-default_is : (k : Kind) (before : List Label) (at : ℕ)
+default_is : (k : IntType) (before : List Label) (at : ℕ)
     → label_typed (Some k) before true at labels.Default ≡ Ok labels.Default
 unfolding label_typed
 default_is k before at = refl
 
-label_complete : {k : Kind} {before : List Label} {last : Bool} {l : Label} → IsLabel k before last l → (at : ℕ)
+label_complete : {k : IntType} {before : List Label} {last : Bool} {l : Label} → IsLabel k before last l → (at : ℕ)
     → label_typed (Some k) before last at l ≡ Ok l
 label_complete (constant {k = k} {before = before} {last = last} {l = l} d h i) at = label_is k before last at l d h i
 label_complete (otherwise {k = k} {before = before}) at = default_is k before at
 
-integer_is : (at : ℕ) (of : Ty) (k : Kind) → of ≡ ty.Integer k → integer_of at of ≡ Ok k
+integer_is : (at : ℕ) (of : Ty) (k : IntType) → of ≡ ty.Integer k → integer_of at of ≡ Ok k
 integer_is at of k h = rw h refl
 
-kind_is : (of : Ty) (k : Kind) → of ≡ ty.Integer k → kind_in of ≡ Some k
-kind_is of k h = rw h refl
+integer_type_is : (of : Ty) (k : IntType) → of ≡ ty.Integer k → integer_type_in of ≡ Some k
+integer_type_is of k h = rw h refl
 
 -- `switch`, of which the labels are typed
-switch_is : (scope : Scope) (p : Place) (e : written.Expr) (cs : written.Cases) (t : Term) (k : Kind) (rows : Cases)
+switch_is : (scope : Scope) (p : Place) (e : written.Expr) (cs : written.Cases) (t : Term) (k : IntType) (rows : Cases)
     → typed scope.env false e ≡ Ok (placed (first_at e) t) → t.ty ≡ ty.Integer k
     → cases_typed (switch_of scope) (Some k) [] cs ≡ Ok rows
     → stmt_typed scope (written.Switch p e cs) ≡ Ok (Switch p.line k t.tree rows)
 switch_is scope p e cs t k rows h is i =
     bind_is (typed scope.env false e) _ (placed (first_at e) t) _ h
-    (bind_is (cases_typed (switch_of scope) (kind_in t.ty) [] cs) _ rows _
-    (ap (λ kind. cases_typed (switch_of scope) kind [] cs) (kind_is t.ty k is) ∙ i)
+    (bind_is (cases_typed (switch_of scope) (integer_type_in t.ty) [] cs) _ rows _
+    (ap (λ int_type. cases_typed (switch_of scope) int_type [] cs) (integer_type_is t.ty k is) ∙ i)
     (bind_is (integer_of (first_at e) t.ty) _ k _ (integer_is (first_at e) t.ty k is) refl))
 
 -- statements
@@ -272,7 +276,7 @@ mutual
       bind_is (stmt_typed scope s) _ t _ (stmt_complete h)
       (bind_is (stmts_typed (after scope s) ss) _ ts _ (stmts_complete i) refl)
 
-  pub cases_complete : {scope : Scope} {k : Kind} {before : List Label} {cs : written.Cases} {rows : Cases}
+  pub cases_complete : {scope : Scope} {k : IntType} {before : List Label} {cs : written.Cases} {rows : Cases}
       → AreCases scope k before cs rows → cases_typed scope (Some k) before cs ≡ Ok rows
   cases_complete no_more_cases = refl
   cases_complete

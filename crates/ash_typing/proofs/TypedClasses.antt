@@ -288,7 +288,7 @@ members_complete env known (written.AMethod f ∷ xs) ms fs (t ∷ ts) o can are
 members_complete env known (written.AConstructor c ∷ xs) ms fs ts o can are_fs are_ts constructs =
     let k = length (member_names xs) in
     let rest = takes_rest ms.names [] (member_names xs) 0 k k (omega arith) can in
-    constructs_only env ms.class.name ms.class.constructor c (constructors_of xs) o constructs (λ none t is alone term_at.
+    constructs_only env ms.class.name ms.class.constructor c (constructors_of xs) o constructs (λ none t is no_more built.
     let next : Members = members_with ms [] 0 [] [] (Some t) in
     bind_is (member_typed env ms (written.AConstructor c)) _ next _
     (bind_is (constructor_named ms.class c) _ (constructing c) next (named_complete ms.class c none is.named)
@@ -298,7 +298,7 @@ members_complete env known (written.AConstructor c ∷ xs) ms fs ts o can are_fs
     (same_members ms.class.name ms.class.line ms.class.interfaces ms.names next.names _ _ (Some t) _ _
     (sym (grown-none ms.names)) (sym (append-nil ms.class.fields)) (sym (append-nil ms.class.methods))))))
     (members_complete env known xs next fs ts o rest are_fs are_ts
-    (subst (λ cs. Constructs env ms.class.name (Some t) cs o) (sym alone) term_at)
+    (subst (λ cs. Constructs env ms.class.name (Some t) cs o) (sym no_more) built)
     ∙ ap (λ (x : Members). Ok x)
     (members_with-then ms [] (member_names xs) 0 k k [] fs [] ts (Some t) o (omega arith))))
 

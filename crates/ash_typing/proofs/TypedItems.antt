@@ -101,7 +101,7 @@ pub record ItemsWalked (env : Environment) (w : Walked) (is : List written.Item)
   pub are_functions : AllZip (IsFunction env) (functions_of is) functions
   pub globals : List Variables
   pub are_globals : AllZip (AreVariables env) (globals_of is) globals
-  pub term_at : after
+  pub after_is : after
       ≡ walked_with w (item_names is) (length (variable_names (globals_of is))) interfaces classes functions globals
 
 pub items_sound : (env : Environment) → IsKnown env → (is : List written.Item) (w after : Walked)
@@ -118,7 +118,7 @@ items_sound env known [] w after d few h = record {
   are_functions = tt;
   globals = [];
   are_globals = tt;
-  term_at = sym (ok_is w after h) ∙ sym (walked_with-none w);
+  after_is = sym (ok_is w after h) ∙ sym (walked_with-none w);
 }
 items_sound env known (written.AClass c ∷ is) w after d few h =
     let m = bind_ok (item_typed env w (written.AClass c)) _ after h in
@@ -155,7 +155,7 @@ items_sound env known (written.AClass c ∷ is) w after d few h =
       are_functions = go.are_functions;
       globals = go.globals;
       are_globals = go.are_globals;
-      term_at = go.term_at
+      after_is = go.after_is
           ∙ walked_with-then w (c.name ∷ []) (item_names is) 0 k k [] go.interfaces (t.0 ∷ []) go.classes []
           go.functions [] go.globals (omega arith);
     }
@@ -193,7 +193,7 @@ items_sound env known (written.AnInterface i ∷ is) w after d few h =
       are_functions = go.are_functions;
       globals = go.globals;
       are_globals = go.are_globals;
-      term_at = go.term_at
+      after_is = go.after_is
           ∙ walked_with-then w (i.name ∷ []) (item_names is) 0 k k (t.0 ∷ []) go.interfaces [] go.classes []
           go.functions [] go.globals (omega arith);
     }
@@ -227,7 +227,7 @@ items_sound env known (written.AFunction f ∷ is) w after d few h =
       are_functions = (function_sound env known f o.0 t.0 o.1 t.1, go.are_functions);
       globals = go.globals;
       are_globals = go.are_globals;
-      term_at = go.term_at
+      after_is = go.after_is
           ∙ walked_with-then w (f.name ∷ []) (item_names is) 0 k k [] go.interfaces [] go.classes (t.0 ∷ [])
           go.functions [] go.globals (omega arith);
     }
@@ -261,7 +261,7 @@ items_sound env known (written.AGlobal v ∷ is) w after d few h =
       are_functions = go.are_functions;
       globals = r.0.variables ∷ go.globals;
       are_globals = (g.typed, go.are_globals);
-      term_at = go.term_at
+      after_is = go.after_is
           ∙ walked_with-then w (names_of v) (item_names is) j k _ [] go.interfaces [] go.classes [] go.functions
           (r.0.variables ∷ []) go.globals count;
     }

@@ -14,7 +14,8 @@ use Rattle.ash_typing.specs.declared.types.Ty.TheVariants as ty
 use Rattle.ash_typing.specs.Types.{ty_of, var_type}
 use Rattle.ash_typing.specs.Environment.{Environment, Declared, with_locals, declares, type_declared}
 use Rattle.ash_typing.specs.Expressions.{is_void}
-use Rattle.ash_typing.specs.ModuleDeclarations.{object_named, array_named, object_ty, handle_ty, ty_named, ty_in, result_in}
+use Rattle.ash_typing.specs.ModuleDeclarations.{object_named, array_named, object_ty, handle_ty, ty_named, ty_in}
+use Rattle.ash_typing.specs.ModuleDeclarations.{result_in}
 use Rattle.ash_typing.specs.Typing.{IsKnown, IsKnownType, IsVariableType, IsKnownVariable}
 use Rattle.ash_typed.specs.StatementTree.{Body}
 use Rattle.ash_typing.specs.Statements.{body_typed}
@@ -82,10 +83,13 @@ pub passed_sound : (env : Environment) (at of : written.Named) (t : Ty) → pass
     → IsPassed (ty_in env of) × (t ≡ ty_in env of)
 unfolding ty_named
 passed_sound env at (written.Prim p k) t h = primitive_passed at k t h
-passed_sound env at (written.Object p name) t h = object_passed at (object_named env.registered env.declarations name) t h
-passed_sound env at (written.Handle p name) t h = handle_passed at (object_named env.registered env.declarations name) t h
+passed_sound env at (written.Object p name) t h =
+    object_passed at (object_named env.registered env.declarations name) t h
+passed_sound env at (written.Handle p name) t h =
+    handle_passed at (object_named env.registered env.declarations name) t h
 passed_sound env at (written.Array p of) t h = object_passed at (array_named env.registered env.declarations of) t h
-passed_sound env at (written.ArrayHandle p of) t h = handle_passed at (array_named env.registered env.declarations of) t h
+passed_sound env at (written.ArrayHandle p of) t h =
+    handle_passed at (array_named env.registered env.declarations of) t h
 
 -- parameters
 
@@ -177,7 +181,7 @@ body_sound : (env : Environment) (of : Ty) (body : List written.Stmt) (typed : B
     → body_typed env of body ≡ Ok typed → IsBody env of body typed
 unfolding body_typed
 body_sound env of body typed k known_of h =
-    stmts_sound (body_scope env of) (record { env = k; gives = known_of }) (written.stmts body) typed h
+    stmts_sound (body_scope env of) (record { env = k; result = known_of }) (written.stmts body) typed h
 
 body_complete : (env : Environment) (of : Ty) (body : List written.Stmt) (typed : Body) → IsBody env of body typed
     → body_typed env of body ≡ Ok typed

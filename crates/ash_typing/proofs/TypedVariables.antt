@@ -79,10 +79,13 @@ pub known_sound : (env : Environment) (at of : written.Named) (t : Ty) → known
     → IsVariableType (ty_in env of) × (t ≡ ty_in env of)
 unfolding ty_named
 known_sound env at (written.Prim p k) t h = primitive_sound at k t h
-known_sound env at (written.Object p name) t h = some_object_sound at (object_named env.registered env.declarations name) t h
-known_sound env at (written.Handle p name) t h = some_handle_sound at (object_named env.registered env.declarations name) t h
+known_sound env at (written.Object p name) t h =
+    some_object_sound at (object_named env.registered env.declarations name) t h
+known_sound env at (written.Handle p name) t h =
+    some_handle_sound at (object_named env.registered env.declarations name) t h
 known_sound env at (written.Array p of) t h = some_object_sound at (array_named env.registered env.declarations of) t h
-known_sound env at (written.ArrayHandle p of) t h = some_handle_sound at (array_named env.registered env.declarations of) t h
+known_sound env at (written.ArrayHandle p of) t h =
+    some_handle_sound at (array_named env.registered env.declarations of) t h
 
 -- more variables after those so far
 

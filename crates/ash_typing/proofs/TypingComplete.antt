@@ -9,11 +9,11 @@ use Rattle.ash_tree.specs.declared.tree.operators.BinaryOp.{BinaryOp}
 use Rattle.ash_tree.specs.declared.tree.operators.AssignOp.{AssignOp}
 use Rattle.ash_tree.specs.declared.tree.operators.AssignOp.TheVariants as assigns
 use Rattle.ash_tree.specs.Tree as written
-use Rattle.ash_typed.specs.declared.types.Kind.TheVariants as kinds
+use Rattle.ash_integers.specs.declared.int_type.IntType.TheVariants as ints
 use Rattle.ash_typed.specs.declared.types.Element.{Element}
 use Rattle.ash_typed.specs.declared.types.ObjectType.TheVariants as objects
 use Rattle.ash_typed.specs.declared.tree.operations.Target.TheVariants as targets
-use Rattle.ash_typed.specs.declared.types.Kind.{Kind}
+use Rattle.ash_integers.specs.declared.int_type.IntType.{IntType}
 use Rattle.ash_typed.specs.declared.types.ObjectType.{ObjectType}
 use Rattle.ash_typing.specs.declared.types.Ty.{Ty}
 use Rattle.ash_typing.specs.declared.types.Ty.TheVariants as ty
@@ -25,7 +25,8 @@ use Rattle.ash_typed.specs.declared.tree.operations.Operands.{Operands}
 use Rattle.ash_typed.specs.declared.tree.operations.Operands.TheVariants as operands
 use Rattle.ash_typed.specs.declared.tree.operations.Step.{Step}
 use Rattle.ash_typed.specs.declared.tree.operations.Step.TheVariants as steps
-use Rattle.ash_typing.specs.Types.{var_type, signed, common, object_of, ty_of, ty_of_element, operator_class_of, outcome}
+use Rattle.ash_typing.specs.Types.{var_type, signed, common, object_of, ty_of, ty_of_element, operator_class_of}
+use Rattle.ash_typing.specs.Types.{operator_result}
 use Rattle.ash_typing.specs.Types.{binary_of}
 use Rattle.ash_typed.specs.Tree.{Expr, Exprs, Null, Read, Invoke, Cast, Alter, Conditional, Assign, Update, Count, Call}
 use Rattle.ash_typed.specs.Tree.{Place, Held, Indexed, no_expr, expr}
@@ -33,7 +34,8 @@ use Rattle.ash_typing.specs.Coercions.{fits}
 use Rattle.ash_typing.specs.ModuleDeclarations.{element_named}
 use Rattle.ash_typing.specs.Environment.{Environment, Class, Callee, Invoked, callee_in, member_in, method_in}
 use Rattle.ash_typing.specs.Expressions.{Typed, typed, all_typed, links_typed, suffixes_typed, suffix_typed, call_typed}
-use Rattle.ash_typing.specs.Expressions.{invocation_typed, called, arguments_at, all_coerced, coerced_for_assignment, operate, counted}
+use Rattle.ash_typing.specs.Expressions.{invocation_typed, called, arguments_at, all_coerced, coerced_for_assignment}
+use Rattle.ash_typing.specs.Expressions.{operate, counted}
 use Rattle.ash_typing.specs.Expressions.{unary_at, convert_at, choice, assigned, stored, is_assign, field_of, method_of}
 use Rattle.ash_typing.specs.Expressions.{invoked, term_at, read_at, indexed, array_typed, cast_type, cast_at, placed}
 use Rattle.ash_typing.specs.Expressions.{all_placed, term_of, first_at}
@@ -42,9 +44,9 @@ use Rattle.ash_typing.specs.Typing.{no_arguments, argument, IsCastType, to_class
 use Rattle.ash_typing.specs.Typing.{this, name, call, brackets, to_integer, to_bool, new_array, cast, postfix, plus}
 use Rattle.ash_typing.specs.Typing.{minus, complement, not, increment, decrement, handle, handle_written, binary}
 use Rattle.ash_typing.specs.Typing.{conditional, assign, update, none_left, each, no_more, operated, no_suffixes}
-use Rattle.ash_typing.specs.Typing.{suffixed, field, method, index, increment_after, decrement_after, Meet, left_of}
+use Rattle.ash_typing.specs.Typing.{suffixed, field, method, index, increment_after, decrement_after, AreUnified, left_of}
 use Rattle.ash_typing.specs.Typing.{right_of}
-use Rattle.ash_typing.proofs.TypingWords.{same_kind, met_is}
+use Rattle.ash_typing.proofs.TypingWords.{same_integer_type, unified_is}
 use Rattle.ash_typing.specs.Terms.{operator_of, is_stored, applied, call_of, assignable, handle_form, array_parameters}
 use Rattle.ash_typing.specs.Terms.{Term, term, read_term, converted_to}
 
@@ -99,7 +101,7 @@ unfolding called
 call_is env at text es callee parameters us trees c p e a =
     rw (c, e, p, arguments_is env.declarations.classes at parameters us trees a) refl
 
-integer_is : (env : Environment) (e : written.Expr) (at : ℕ) (to : Primitive) (t : Term) (j k : Kind)
+integer_is : (env : Environment) (e : written.Expr) (at : ℕ) (to : Primitive) (t : Term) (j k : IntType)
     → ty_of to ≡ ty.Integer k → t.ty ≡ ty.Integer j
     → convert_at at to (placed (first_at e) t) ≡ Ok (placed at (term (ty.Integer k) (converted_to (ty.Integer k) t)))
 unfolding convert_at
@@ -110,45 +112,45 @@ bool_is : (at b : ℕ) (to : Primitive) (t : Term) → ty_of to ≡ ty.Bool → 
 unfolding convert_at
 bool_is at b to t h i = rw (h, i) refl
 
-plus_is : (left : Bool) (at b : ℕ) (t : Term) (k : Kind) → t.ty ≡ ty.Integer k
+plus_is : (left : Bool) (at b : ℕ) (t : Term) (k : IntType) → t.ty ≡ ty.Integer k
     → unary_at left at unary.Plus (placed b t) ≡ Ok (placed at (term (ty.Integer k) t.tree))
 unfolding unary_at
-plus_is left at b t k h = rw (h, same_kind k) refl
+plus_is left at b t k h = rw (h, same_integer_type k) refl
 
-minus_is : (left : Bool) (at b : ℕ) (t : Term) (k : Kind) → t.ty ≡ ty.Integer k
+minus_is : (left : Bool) (at b : ℕ) (t : Term) (k : IntType) → t.ty ≡ ty.Integer k
     → unary_at left at unary.Minus (placed b t)
     ≡ Ok (placed at
     (term (ty.Integer (signed k)) (Alter (changes.Negate (signed k)) (converted_to (ty.Integer (signed k)) t))))
 unfolding unary_at
 minus_is left at b t k h = rw h refl
 
-complement_is : (left : Bool) (at b : ℕ) (t : Term) (k : Kind) → t.ty ≡ ty.Integer k
+complement_is : (left : Bool) (at b : ℕ) (t : Term) (k : IntType) → t.ty ≡ ty.Integer k
     → unary_at left at unary.BitNot (placed b t)
     ≡ Ok (placed at (term (ty.Integer k) (Alter (changes.Complement k) t.tree)))
 unfolding unary_at
-complement_is left at b t k h = rw (h, same_kind k) refl
+complement_is left at b t k h = rw (h, same_integer_type k) refl
 
 not_is : (left : Bool) (at b : ℕ) (t : Term) → t.ty ≡ ty.Bool
     → unary_at left at unary.Not (placed b t) ≡ Ok (placed at (term ty.Bool (Alter changes.Not t.tree)))
 unfolding unary_at
 not_is left at b t h = rw h refl
 
-counted_is : (at b : ℕ) (step : Step) (t : Term) (target : Place) (k : Kind) → assignable t.form t.tree ≡ Some target
+counted_is : (at b : ℕ) (step : Step) (t : Term) (target : Place) (k : IntType) → assignable t.form t.tree ≡ Some target
     → t.ty ≡ ty.Integer k
     → counted at step (placed b t) (assignable t.form t.tree)
     ≡ Ok (placed at (term (ty.Integer k) (Count target k step)))
 unfolding counted
 counted_is at b step t target k h i = rw (h, i) refl
 
-increment_is : (left : Bool) (at b : ℕ) (t : Term) (target : Place) (k : Kind) → assignable t.form t.tree ≡ Some target
-    → t.ty ≡ ty.Integer k
+increment_is : (left : Bool) (at b : ℕ) (t : Term) (target : Place) (k : IntType)
+    → assignable t.form t.tree ≡ Some target → t.ty ≡ ty.Integer k
     → unary_at left at unary.Increment (placed b t)
     ≡ Ok (placed at (term (ty.Integer k) (Count target k steps.Increment)))
 unfolding unary_at
 increment_is left at b t target k h i = counted_is at b steps.Increment t target k h i
 
-decrement_is : (left : Bool) (at b : ℕ) (t : Term) (target : Place) (k : Kind) → assignable t.form t.tree ≡ Some target
-    → t.ty ≡ ty.Integer k
+decrement_is : (left : Bool) (at b : ℕ) (t : Term) (target : Place) (k : IntType)
+    → assignable t.form t.tree ≡ Some target → t.ty ≡ ty.Integer k
     → unary_at left at unary.Decrement (placed b t)
     ≡ Ok (placed at (term (ty.Integer k) (Count target k steps.Decrement)))
 unfolding unary_at
@@ -168,11 +170,11 @@ handle_written_is : (at b : ℕ) (t : Term)
 unfolding unary_at
 handle_written_is at b t = refl
 
-operate_is : (op : BinaryOp) (t u : Term) (o : Operands) (a b : ℕ) → Meet op t u o
+operate_is : (op : BinaryOp) (t u : Term) (o : Operands) (a b : ℕ) → AreUnified op t u o
     → operate op (placed a t) (placed b u)
-    ≡ Ok (placed a (term (outcome (operator_class_of op) o) (applied op o (left_of op o t u) (right_of op o t u))))
+    ≡ Ok (placed a (term (operator_result (operator_class_of op) o) (applied op o (left_of op o t u) (right_of op o t u))))
 unfolding operate
-operate_is op t u o a b h = rw (met_is op t u o a b h) refl
+operate_is op t u o a b h = rw (unified_is op t u o a b h) refl
 
 choice_is : (t x y : Term) (a b c : ℕ) (of : Ty) → t.ty ≡ ty.Bool → common x.ty y.ty ≡ Some of
     → choice (placed a t) (placed b x) (placed c y)
@@ -187,16 +189,17 @@ assign_is : (classes : List Class) (t u : Term) (a b : ℕ) (target : Place) →
 unfolding assigned stored
 assign_is classes t u a b target p s h = rw (p, s, coerced_for_assignment_is classes t.ty b u h) refl
 
-update_is : (classes : List Class) (op : AssignOp) (c : Calculator) (t u : Term) (a b : ℕ) (target : Place) (j k : Kind)
+update_is : (classes : List Class) (op : AssignOp) (c : Calculator) (t u : Term) (a b : ℕ) (target : Place)
+    (j k : IntType)
     → operator_of op ≡ Some c → assignable t.form t.tree ≡ Some target → is_stored t.form t.ty ≡ true
-    → t.ty ≡ ty.Integer k → Meet (binary_of c) (term t.ty Null) u (operands.Integers j)
+    → t.ty ≡ ty.Integer k → AreUnified (binary_of c) (term t.ty Null) u (operands.Integers j)
     → assigned classes (placed a t) op (placed b u)
     ≡ Ok (placed a
     (term t.ty (Update target k (record { operator = c; of = j })
     (right_of (binary_of c) (operands.Integers j) (term t.ty Null) u))))
 unfolding assigned stored
 update_is classes op c t u a b target j k e p s i m =
-    rw (p, s, e, met_is (binary_of c) (term t.ty Null) u (operands.Integers j) a b m, i) refl
+    rw (p, s, e, unified_is (binary_of c) (term t.ty Null) u (operands.Integers j) a b m, i) refl
 
 updates : (op : AssignOp) (operator : Calculator) → operator_of op ≡ Some operator → is_assign op ≡ false
 updates assigns.Assign operator h = absurd (none-some operator h)
@@ -255,11 +258,11 @@ cast_is at b to (ty.Object p) a tree o h = refl
 cast_is at b to (ty.Handle p) a tree o h = refl
 cast_is at b to _ a tree o h = absurd (none-some o h)
 
-index_is : (at b : ℕ) (t u : Term) (of : Ty) (elements : Element) (k : Kind)
+index_is : (at b : ℕ) (t u : Term) (of : Ty) (elements : Element) (k : IntType)
     → object_of of ≡ Some (objects.Array elements) → u.ty ≡ ty.Integer k
     → indexed (placed at t) of (placed b u)
     ≡ Ok (placed at
-    (read_term (ty_of_element elements) (Read (Indexed t.tree (converted_to (ty.Integer kinds.Uint) u) elements))))
+    (read_term (ty_of_element elements) (Read (Indexed t.tree (converted_to (ty.Integer ints.Uint) u) elements))))
 unfolding indexed
 index_is at b t u (ty.Object p) elements k h i = rw (same_Some p (objects.Array elements) h, i) refl
 index_is at b t u (ty.Handle p) elements k h i = rw (same_Some p (objects.Array elements) h, i) refl

@@ -18,20 +18,20 @@ use Rattle.ash_typed.specs.declared.tree.operations.ArrayMethod.TheVariants as a
 use Rattle.ash_typing.specs.declared.types.Ty.{Ty}
 use Rattle.ash_typing.specs.declared.types.Ty.TheVariants as ty
 use Rattle.ash_typing.specs.declared.forms.OperatorClass.{OperatorClass}
-use Rattle.ash_typing.specs.declared.forms.OperatorClass.TheVariants as sort
+use Rattle.ash_typing.specs.declared.forms.OperatorClass.TheVariants as operator_class
 use Rattle.ash_typing.specs.declared.forms.Form.{Form}
 use Rattle.ash_typing.specs.declared.forms.Form.TheVariants as form
 use Rattle.ash_typed.specs.declared.tree.operations.Member.{Member}
 use Rattle.ash_typed.specs.declared.tree.operations.Operands.{Operands}
 use Rattle.ash_typed.specs.declared.tree.operations.Operands.TheVariants as operands
 use Rattle.ash_typing.specs.Types.{is_variable, is_result, var_type, result_type, ty_of, ty_of_element, common}
-use Rattle.ash_typing.specs.Types.{gives_object, meeting, holds, operator_class_of, outcome}
+use Rattle.ash_typing.specs.Types.{gives_object, common_integer_type, holds, operator_class_of, operator_result}
 use Rattle.ash_typed.specs.declared.tree.operations.Variable.TheVariants as variables
 use Rattle.ash_typed.specs.declared.tree.operations.Member.TheVariants.{Field}
 use Rattle.ash_typed.specs.declared.tree.operations.Method.TheVariants as methods
 use Rattle.ash_typed.specs.declared.tree.operations.Target.TheVariants as targets
 use Rattle.ash_typing.specs.declared.forms.Callable.TheVariants as callables
-use Rattle.ash_typed.specs.declared.types.Kind.{Kind}
+use Rattle.ash_integers.specs.declared.int_type.IntType.{IntType}
 use Rattle.std.specs.Str.{bytes_eq}
 use Rattle.ash_typed.specs.Tree.{Number, Read, Stored, Held, This}
 use Rattle.ash_typing.specs.Environment.{Environment, Declared, Function, Class, Known, Callee, Invoked, first_from}
@@ -48,7 +48,7 @@ use Rattle.ash_typing.specs.Typing.{to_integer, to_bool, new_array, cast, postfi
 use Rattle.ash_typing.specs.Typing.{increment, decrement, handle, handle_written, binary, conditional, assign, update}
 use Rattle.ash_typing.specs.Typing.{no_more, operated, no_suffixes, suffixed, field, method, index, increment_after}
 use Rattle.ash_typing.specs.Typing.{decrement_after}
-use Rattle.ash_typing.specs.Terms.{Term, taking, adapted_to}
+use Rattle.ash_typing.specs.Terms.{Term, adapted_number, adapted_to}
 
 -- what is looked up
 
@@ -143,10 +143,10 @@ result_known : (of : Option Primitive) → is_result (result_of of) ≡ true
 result_known None = refl
 result_known (Some of) = variable_is_result (ty_of of) (primitive_known of)
 
-pub outcome_known : (s : OperatorClass) (o : Operands) → is_known (outcome s o) ≡ true
-outcome_known sort.Arithmetic (operands.Integers k) = refl
-outcome_known sort.Shift (operands.Integers k) = refl
-outcome_known _ _ = refl
+pub operator_result_known : (s : OperatorClass) (o : Operands) → is_known (operator_result s o) ≡ true
+operator_result_known operator_class.Arithmetic (operands.Integers k) = refl
+operator_result_known operator_class.Shift (operands.Integers k) = refl
+operator_result_known _ _ = refl
 
 known_if_some : (t of : Ty) → is_known t ≡ true → Some t ≡ Some of → is_known of ≡ true
 known_if_some t of h e = subst (λ (x : Ty). is_known x ≡ true) (same_Some t of e) h
@@ -161,24 +161,26 @@ common_known (ty.Object o) b of h k c = object_known (gives_object o b) o of c
 common_known (ty.Handle o) b of h k c = object_known (gives_object o b) o of c
 common_known a ty.Unknown of h k c = cc
 common_known ty.Bool ty.Bool of h k c = known_if_some ty.Bool of refl c
-common_known (ty.Integer j) (ty.Integer i) of h k c = known_if_some (ty.Integer (meeting j i)) of refl c
+common_known (ty.Integer j) (ty.Integer i) of h k c = known_if_some (ty.Integer (common_integer_type j i)) of refl c
 common_known ty.Null (ty.Object o) of h k c = known_if_some (ty.Handle o) of refl c
 common_known ty.Null (ty.Handle o) of h k c = known_if_some (ty.Handle o) of refl c
 common_known a b of h k c = absurd (none-some of c)
 
-taken_known : (b : Bool) (k : Kind) (n : ℕ) (t : Term) → is_known t.ty ≡ true
+taken_known : (b : Bool) (k : IntType) (n : ℕ) (t : Term) → is_known t.ty ≡ true
     → is_known (cond b (record { ty = ty.Integer k; form = form.Number n; tree = Number k n }) t).ty ≡ true
 taken_known true k n t h = refl
 taken_known false k n t h = h
 
-taking_known : (a : Form) (of : Ty) (b : Form) (t : Term) → is_known t.ty ≡ true → is_known (taking a of b t).ty ≡ true
-taking_known (form.Number m) of (form.Number n) t h = h
-taking_known a (ty.Integer k) (form.Number n) t h = taken_known (holds k n) k n t h
-taking_known a of b t h = h
+adapted_number_known : (a : Form) (of : Ty) (b : Form) (t : Term) → is_known t.ty ≡ true
+    → is_known (adapted_number a of b t).ty ≡ true
+adapted_number_known (form.Number m) of (form.Number n) t h = h
+adapted_number_known a (ty.Integer k) (form.Number n) t h = taken_known (holds k n) k n t h
+adapted_number_known a of b t h = h
 
-pub adapted_known : (s : OperatorClass) (other t : Term) → is_known t.ty ≡ true → is_known (adapted_to s other t).ty ≡ true
-adapted_known sort.Shift other t h = h
-adapted_known _ other t h = taking_known other.form other.ty t.form t h
+pub adapted_known : (s : OperatorClass) (other t : Term) → is_known t.ty ≡ true
+    → is_known (adapted_to s other t).ty ≡ true
+adapted_known operator_class.Shift other t h = h
+adapted_known _ other t h = adapted_number_known other.form other.ty t.form t h
 
 -- members
 
@@ -376,7 +378,7 @@ mutual
   pub links_known : {env : Environment} {t : Term} {ls : written.Links} {u : Term} → LinksHaveType env t ls u
       → IsKnown env → IsKnownType t.ty → IsKnownType u.ty
   links_known no_more known h = h
-  links_known (operated {op = op} {o = o} e m rest) known h = links_known rest known (outcome_known (operator_class_of op) o)
+  links_known (operated {op = op} {o = o} e m rest) known h = links_known rest known (operator_result_known (operator_class_of op) o)
 
   pub suffixes_known : {env : Environment} {t : Term} {ss : written.Suffixes} {u : Term} → SuffixesHaveType env t ss u
       → IsKnown env → IsKnownType t.ty → IsKnownType u.ty

@@ -19,23 +19,26 @@ use Rattle.ash_typing.specs.Types.{var_type, object_of, binary_of, integers_in}
 use Rattle.ash_typed.specs.Tree.{Truth, Null, Read, Invoke, Assign, Update, Place, Held}
 use Rattle.ash_typing.specs.ModuleDeclarations.{object_named}
 use Rattle.ash_typing.specs.Environment.{Environment, Class, Invoked, variable_in, member_in, method_in}
-use Rattle.ash_typing.specs.Expressions.{Typed, UnifiedOperands, typed, all_typed, links_typed, suffixes_typed, suffix_typed}
-use Rattle.ash_typing.specs.Expressions.{invocation_typed, arguments_at, coerced_for_assignment, unify_operands, unary_at, integer_of, convert_at}
+use Rattle.ash_typing.specs.Expressions.{Typed, UnifiedOperands, typed, all_typed, links_typed, suffixes_typed}
+use Rattle.ash_typing.specs.Expressions.{suffix_typed}
+use Rattle.ash_typing.specs.Expressions.{invocation_typed, arguments_at, coerced_for_assignment, unify_operands}
+use Rattle.ash_typing.specs.Expressions.{unary_at, integer_of, convert_at}
 use Rattle.ash_typing.specs.Expressions.{choice, assigned, assigned_to, stored, updated, is_assign, field_of, member_at}
 use Rattle.ash_typing.specs.Expressions.{method_of, invoked, invoked_at, term_at, read_at, indexed, cast_type, cast_at}
 use Rattle.ash_typing.specs.Expressions.{placed, term_of}
 use Rattle.ash_typing.specs.Typing.{IsKnown, is_known, HasType, AllHaveType, LinksHaveType, SuffixesHaveType}
 use Rattle.ash_typing.specs.Typing.{SuffixHasType, number, truth, null, postfix, binary, assign, update, none_left}
 use Rattle.ash_typing.specs.Typing.{each, no_more, no_suffixes, suffixed, field, method, index, increment_after}
-use Rattle.ash_typing.specs.Typing.{decrement_after, Meet, right_of}
+use Rattle.ash_typing.specs.Typing.{decrement_after, AreUnified, right_of}
 use Rattle.ash_typing.proofs.TypingWords.{no_fault, same_ok, bind_ok, calculated_integers}
 use Rattle.ash_typing.proofs.TypingKnown.{known_type, suffix_known}
 use Rattle.ash_typing.proofs.TypingComplete.{terms}
 use Rattle.ash_typing.specs.Terms.{operator_of, is_stored, assignable, term, number_term}
 use Rattle.ash_typing.proofs.TypingSoundCalls.{AllSound, Sound, arguments_ok, array_sound, at_ok, brackets_sound}
-use Rattle.ash_typing.proofs.TypingSoundCalls.{call_sound, cast_sound, cast_type_ok, convert_sound, coerced_for_assignment_ok, index_ok}
+use Rattle.ash_typing.proofs.TypingSoundCalls.{call_sound, cast_sound, cast_type_ok, convert_sound}
+use Rattle.ash_typing.proofs.TypingSoundCalls.{coerced_for_assignment_ok, index_ok}
 use Rattle.ash_typing.proofs.TypingSoundCalls.{integer_ok, name_sound, this_sound}
-use Rattle.ash_typing.proofs.TypingSoundOperators.{conditional_sound, counted_ok, met_ok, one_link, unary_sound}
+use Rattle.ash_typing.proofs.TypingSoundOperators.{conditional_sound, counted_ok, unified_ok, one_link, unary_sound}
 
 -- assignments
 
@@ -82,10 +85,10 @@ update_sound env left p op c e v t u r is d f known as_value h =
     (λ k. Ok (term_at t.at (ty.Integer k)
     (Update a.0 k (record { operator = c; of = integers_in (m.0).operands }) (m.0).right))) r m.2 in
     let i = integer_ok t.at t.ty k.0 known k.1 in
-    let n = met_ok (binary_of c) (term_at t.at t.ty Null) u m.0 known as_value m.1 in
+    let n = unified_ok (binary_of c) (term_at t.at t.ty Null) u m.0 known as_value m.1 in
     let integers : n.0 ≡ operands.Integers (integers_in n.0) = calculated_integers c _ _ n.0 n.1 in
     let rule = update is d a.1 ((a.2).0) i f
-    (subst (λ (o : Operands). Meet (binary_of c) (term t.ty Null) (term_of u) o) integers n.1) in
+    (subst (λ (o : Operands). AreUnified (binary_of c) (term t.ty Null) (term_of u) o) integers n.1) in
     let back = subst
     (λ (o : Operands).
     HasType env left (written.Assign p e op v)

@@ -8,10 +8,10 @@ use Rattle.ash_tree.specs.declared.tree.types.Primitive.{Primitive}
 use Rattle.ash_tree.specs.declared.tree.types.Primitive.TheVariants as primitives
 use Rattle.ash_tree.specs.Tree as written
 use Rattle.ash_typing.specs.declared.fault.Rule.TheVariants as rules
-use Rattle.ash_typed.specs.declared.types.Kind.{Kind}
+use Rattle.ash_integers.specs.declared.int_type.IntType.{IntType}
 use Rattle.ash_typed.specs.declared.types.ObjectType.{ObjectType}
 use Rattle.ash_typed.specs.declared.types.ObjectType.TheVariants as objects
-use Rattle.ash_typed.specs.declared.types.Kind.TheVariants as kinds
+use Rattle.ash_integers.specs.declared.int_type.IntType.TheVariants as ints
 use Rattle.ash_typed.specs.declared.types.Element.{Element}
 use Rattle.ash_typed.specs.declared.tree.operations.Target.TheVariants as targets
 use Rattle.ash_typing.specs.declared.types.Ty.{Ty}
@@ -23,7 +23,8 @@ use Rattle.ash_typing.specs.Coercions.{fits}
 use Rattle.ash_typing.specs.ModuleDeclarations.{object_named, element_named}
 use Rattle.ash_typing.specs.Environment.{Environment, Class, Known, Callee, variable_in, callee_in, array_built}
 use Rattle.ash_typing.specs.Expressions.{Typed, typed, all_typed, call_typed, called, callee_at, known_at, this_at}
-use Rattle.ash_typing.specs.Expressions.{arguments_at, all_coerced, coerced_for_assignment, coerced, integer_of, bool_of, handle_of}
+use Rattle.ash_typing.specs.Expressions.{arguments_at, all_coerced, coerced_for_assignment, coerced, integer_of}
+use Rattle.ash_typing.specs.Expressions.{bool_of, handle_of}
 use Rattle.ash_typing.specs.Expressions.{convert_at, converting, term_at, read_at, integer_at, in_brackets, index_in}
 use Rattle.ash_typing.specs.Expressions.{indexed_object, indexed, at_element, known_element, array_typed, cast_type}
 use Rattle.ash_typing.specs.Expressions.{cast_at, term_of}
@@ -40,7 +41,7 @@ at_ok Q x y h q = subst Q (same_ok x y h) q
 
 -- what an operand is
 
-pub integer_ok : (at : ℕ) (of : Ty) (k : Kind) → is_known of ≡ true → integer_of at of ≡ Ok k → of ≡ ty.Integer k
+pub integer_ok : (at : ℕ) (of : Ty) (k : IntType) → is_known of ≡ true → integer_of at of ≡ Ok k → of ≡ ty.Integer k
 integer_ok at (ty.Integer j) k known h = ap ty.Integer (same_ok j k h)
 integer_ok at ty.Unknown k known h = cc
 integer_ok at _ k known h = absurd (no_fault _ k h)
@@ -59,7 +60,8 @@ object_ok at _ h known e = absurd (no_fault _ h e)
 
 -- arguments
 
-pub coerced_for_assignment_ok : (classes : List Class) (of : Ty) (t : Typed) (e : Expr) → coerced_for_assignment classes of t ≡ Ok e
+pub coerced_for_assignment_ok : (classes : List Class) (of : Ty) (t : Typed) (e : Expr)
+    → coerced_for_assignment classes of t ≡ Ok e
     → (fits classes of t.ty ≡ true) × (converted_to of (term_of t) ≡ e)
 unfolding coerced_for_assignment
 coerced_for_assignment_ok classes of t e h = go (fits classes of t.ty) h
@@ -163,7 +165,7 @@ brackets_sound env left p e r sound h =
     at_ok (λ r. HasType env left (written.Brackets p e) (term_of r)) (in_brackets p.at a.0) r a.2
     (brackets (sound a.0 a.1))
 
-to_integer_sound : (env : Environment) (left : Bool) (p : place.Place) (to : Primitive) (k : Kind) (e : written.Expr)
+to_integer_sound : (env : Environment) (left : Bool) (p : place.Place) (to : Primitive) (k : IntType) (e : written.Expr)
     (u r : Typed) → HasType env false e (term_of u) → is_known u.ty ≡ true → ty_of to ≡ ty.Integer k
     → converting p.at (ty.Integer k) u ≡ Ok r → HasType env left (written.Convert p to e) (term_of r)
 to_integer_sound env left p to k e u r d known is h =
@@ -221,12 +223,12 @@ array_sound env left p of es r all h =
 
 index_object_ok : (t i : Typed) (o : ObjectType) (r : Typed) → is_known i.ty ≡ true → indexed_object t i o ≡ Ok r
     → (e : Element) × (o ≡ objects.Array e)
-    × ((k : Kind) × (i.ty ≡ ty.Integer k)
-    × (read_at t.at (ty_of_element e) (Read (Indexed t.tree (converted_to (ty.Integer kinds.Uint) (term_of i)) e)) ≡ r))
+    × ((k : IntType) × (i.ty ≡ ty.Integer k)
+    × (read_at t.at (ty_of_element e) (Read (Indexed t.tree (converted_to (ty.Integer ints.Uint) (term_of i)) e)) ≡ r))
 index_object_ok t i (objects.Array e) r known h =
     let x = bind_ok (index_in i) (λ index. Ok (read_at t.at (ty_of_element e) (Read (Indexed t.tree index e)))) r h in
-    let k = bind_ok (integer_of i.at i.ty) (λ k. Ok (coerced (ty.Integer kinds.Uint) i)) x.0 x.1 in
-    let tree = same_ok (coerced (ty.Integer kinds.Uint) i) x.0 k.2 in (
+    let k = bind_ok (integer_of i.at i.ty) (λ k. Ok (coerced (ty.Integer ints.Uint) i)) x.0 x.1 in
+    let tree = same_ok (coerced (ty.Integer ints.Uint) i) x.0 k.2 in (
       e,
       refl,
       (
@@ -239,8 +241,8 @@ index_object_ok t i _ r known h = absurd (no_fault _ r h)
 
 pub index_ok : (t i : Typed) (of : Ty) (r : Typed) → is_known of ≡ true → is_known i.ty ≡ true → indexed t of i ≡ Ok r
     → (e : Element) × (object_of of ≡ Some (objects.Array e))
-    × ((k : Kind) × (i.ty ≡ ty.Integer k)
-    × (read_at t.at (ty_of_element e) (Read (Indexed t.tree (converted_to (ty.Integer kinds.Uint) (term_of i)) e)) ≡ r))
+    × ((k : IntType) × (i.ty ≡ ty.Integer k)
+    × (read_at t.at (ty_of_element e) (Read (Indexed t.tree (converted_to (ty.Integer ints.Uint) (term_of i)) e)) ≡ r))
 unfolding indexed
 index_ok t i (ty.Object o) r known as_value h = let x = index_object_ok t i o r as_value h in (x.0, ap Some x.1, x.2)
 index_ok t i (ty.Handle o) r known as_value h = let x = index_object_ok t i o r as_value h in (x.0, ap Some x.1, x.2)

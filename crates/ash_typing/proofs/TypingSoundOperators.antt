@@ -5,7 +5,7 @@ use Rattle.ash_tree.specs.declared.tree.operators.UnaryOp.{UnaryOp}
 use Rattle.ash_tree.specs.declared.tree.operators.UnaryOp.TheVariants as unary
 use Rattle.ash_tree.specs.declared.tree.operators.BinaryOp.{BinaryOp}
 use Rattle.ash_tree.specs.Tree as written
-use Rattle.ash_typed.specs.declared.types.Kind.{Kind}
+use Rattle.ash_integers.specs.declared.int_type.IntType.{IntType}
 use Rattle.ash_typing.specs.declared.types.Ty.{Ty}
 use Rattle.ash_typing.specs.declared.types.Ty.TheVariants as ty
 use Rattle.ash_typing.specs.declared.forms.OperatorClass.{OperatorClass}
@@ -14,16 +14,18 @@ use Rattle.ash_typed.specs.declared.tree.operations.Operands.{Operands}
 use Rattle.ash_typed.specs.declared.tree.operations.Step.{Step}
 use Rattle.ash_typed.specs.declared.tree.operations.Step.TheVariants as steps
 use Rattle.ash_typing.specs.TypingResult.{◌>>=◌}
-use Rattle.ash_typing.specs.Types.{signed, common, operator_class_of, outcome, meets, assumed}
+use Rattle.ash_typing.specs.Types.{signed, common, operator_class_of, operator_result, common_operands, assumed_type}
 use Rattle.ash_typed.specs.Tree.{Expr, Alter, Conditional, Count, Place}
 use Rattle.ash_typing.specs.Environment.{Environment}
-use Rattle.ash_typing.specs.Expressions.{Typed, UnifiedOperands, typed, links_typed, coerced, operate, operated as joined, unify_operands}
-use Rattle.ash_typing.specs.Expressions.{unified_as, unified_by, counted, altered, unary_at, integer_of, bool_of, handle_of}
+use Rattle.ash_typing.specs.Expressions.{Typed, UnifiedOperands, typed, links_typed, coerced, operate}
+use Rattle.ash_typing.specs.Expressions.{operated as joined, unify_operands}
+use Rattle.ash_typing.specs.Expressions.{unified_as, unified_by, counted, altered, unary_at, integer_of, bool_of}
+use Rattle.ash_typing.specs.Expressions.{handle_of}
 use Rattle.ash_typing.specs.Expressions.{handle_at, choice, chosen, term_at, integer_at, placed, term_of}
 use Rattle.ash_typing.specs.Typing.{IsKnown, is_known, HasType, LinksHaveType, plus, minus, complement, not, increment}
-use Rattle.ash_typing.specs.Typing.{decrement, handle, handle_written, conditional, operated, Meet, left_of, right_of}
-use Rattle.ash_typing.proofs.TypingWords.{no_fault, same_ok, bind_ok, unconverted, adapted_is, known_alone, right_is}
-use Rattle.ash_typing.proofs.TypingKnown.{known_type, outcome_known, adapted_known}
+use Rattle.ash_typing.specs.Typing.{decrement, handle, handle_written, conditional, operated, AreUnified, left_of, right_of}
+use Rattle.ash_typing.proofs.TypingWords.{no_fault, same_ok, bind_ok, unconverted, adapted_is, known_assumed, right_is}
+use Rattle.ash_typing.proofs.TypingKnown.{known_type, operator_result_known, adapted_known}
 use Rattle.ash_typing.specs.Terms.{applied, assignable, handle_form, Term, term, adapted_to, right_by}
 use Rattle.ash_typing.proofs.TypingSoundCalls.{Sound, at_ok, bool_ok, integer_ok, object_ok}
 
@@ -32,7 +34,7 @@ use Rattle.ash_typing.proofs.TypingSoundCalls.{Sound, at_ok, bool_ok, integer_ok
 pub counted_ok : (at : ℕ) (step : Step) (u : Typed) (found : Option Place) (r : Typed) → is_known u.ty ≡ true
     → counted at step u found ≡ Ok r
     → (target : Place) × (found ≡ Some target)
-    × ((k : Kind) × (u.ty ≡ ty.Integer k) × (term_at at (ty.Integer k) (Count target k step) ≡ r))
+    × ((k : IntType) × (u.ty ≡ ty.Integer k) × (term_at at (ty.Integer k) (Count target k step) ≡ r))
 unfolding counted
 counted_ok at step u None r known h = absurd (no_fault _ r h)
 counted_ok at step u (Some target) r known h =
@@ -86,19 +88,21 @@ unary_sound env left p unary.Handle e u r d known h = handle_sound env left p e 
 
 -- operators between two operands
 
-met_as_ok : (s : OperatorClass) (x y : Typed) (found : Option Operands) (m : UnifiedOperands) → unified_as s x y found ≡ Ok m
+unified_as_ok : (s : OperatorClass) (x y : Typed) (found : Option Operands) (m : UnifiedOperands)
+    → unified_as s x y found ≡ Ok m
     → (o : Operands) × (found ≡ Some o) × (record { left = x; operands = o; right = right_by s o (term_of y) } ≡ m)
-met_as_ok s x y None m h = absurd (no_fault _ m h)
-met_as_ok s x y (Some o) m h = (o, refl, same_ok _ m h)
+unified_as_ok s x y None m h = absurd (no_fault _ m h)
+unified_as_ok s x y (Some o) m h = (o, refl, same_ok _ m h)
 
-met_by_ok : (s : OperatorClass) (t u : Term) (a b : ℕ) (m : UnifiedOperands) → is_known t.ty ≡ true → is_known u.ty ≡ true
+unified_by_ok : (s : OperatorClass) (t u : Term) (a b : ℕ) (m : UnifiedOperands) → is_known t.ty ≡ true
+    → is_known u.ty ≡ true
     → unified_by s (placed a t) (placed b u) ≡ Ok m
-    → (o : Operands) × (meets s t.ty u.ty ≡ Some o)
+    → (o : Operands) × (common_operands s t.ty u.ty ≡ Some o)
     × (record { left = placed a t; operands = o; right = right_by s o u } ≡ m)
-met_by_ok s t u a b m known as_value h =
-    let as_known : meets s (assumed s u.ty t.ty) (assumed s t.ty u.ty) ≡ meets s t.ty u.ty =
-    rw (known_alone s u.ty t.ty known, known_alone s t.ty u.ty as_value) refl in
-    let f = met_as_ok s (placed a t) (placed b u) (meets s t.ty u.ty) m
+unified_by_ok s t u a b m known as_value h =
+    let as_known : common_operands s (assumed_type s u.ty t.ty) (assumed_type s t.ty u.ty) ≡ common_operands s t.ty u.ty =
+    rw (known_assumed s u.ty t.ty known, known_assumed s t.ty u.ty as_value) refl in
+    let f = unified_as_ok s (placed a t) (placed b u) (common_operands s t.ty u.ty) m
     (subst (λ found. unified_as s (placed a t) (placed b u) found ≡ Ok m) as_known h) in (
       f.0,
       f.1,
@@ -107,16 +111,17 @@ met_by_ok s t u a b m known as_value h =
           f.2,
     )
 
-pub met_ok : (op : BinaryOp) (t u : Typed) (m : UnifiedOperands) → is_known t.ty ≡ true → is_known u.ty ≡ true → unify_operands op t u ≡ Ok m
-    → (o : Operands) × Meet op (term_of t) (term_of u) o
+pub unified_ok : (op : BinaryOp) (t u : Typed) (m : UnifiedOperands) → is_known t.ty ≡ true → is_known u.ty ≡ true
+    → unify_operands op t u ≡ Ok m
+    → (o : Operands) × AreUnified op (term_of t) (term_of u) o
     × (record {
       left = placed t.at (adapted_to (operator_class_of op) (term_of u) (term_of t));
       operands = o;
       right = right_of op o (term_of t) (term_of u);
     } ≡ m)
 unfolding unify_operands
-met_ok op t u m known as_value h =
-    met_by_ok (operator_class_of op) (adapted_to (operator_class_of op) (term_of u) (term_of t))
+unified_ok op t u m known as_value h =
+    unified_by_ok (operator_class_of op) (adapted_to (operator_class_of op) (term_of u) (term_of t))
     (adapted_to (operator_class_of op) (term_of t) (term_of u)) t.at u.at m
     (adapted_known (operator_class_of op) (term_of u) (term_of t) known)
     (adapted_known (operator_class_of op) (term_of t) (term_of u) as_value)
@@ -124,18 +129,19 @@ met_ok op t u m known as_value h =
     h)
 
 operate_ok : (op : BinaryOp) (t u r : Typed) → is_known t.ty ≡ true → is_known u.ty ≡ true → operate op t u ≡ Ok r
-    → (o : Operands) × Meet op (term_of t) (term_of u) o
-    × (term (outcome (operator_class_of op) o)
+    → (o : Operands) × AreUnified op (term_of t) (term_of u) o
+    × (term (operator_result (operator_class_of op) o)
     (applied op o (left_of op o (term_of t) (term_of u)) (right_of op o (term_of t) (term_of u))) ≡ term_of r)
 unfolding operate
 operate_ok op t u r known as_value h =
     let m = bind_ok (unify_operands op t u) (λ m. Ok (joined op m)) r h in
-    let f = met_ok op t u m.0 known as_value m.1 in
+    let f = unified_ok op t u m.0 known as_value m.1 in
     (f.0, f.1, ap (λ m. term_of (joined op m)) f.2 ∙ ap term_of (same_ok (joined op m.0) r m.2))
 
 linked_by : {env : Environment} {t u v w : Term} {op : BinaryOp} {e : written.Expr} {ls : written.Links} {o : Operands}
-    → HasType env false e u → Meet op t u o
-    → term (outcome (operator_class_of op) o) (applied op o (left_of op o t u) (right_of op o t u)) ≡ v → LinksHaveType env v ls w
+    → HasType env false e u → AreUnified op t u o
+    → term (operator_result (operator_class_of op) o) (applied op o (left_of op o t u) (right_of op o t u)) ≡ v
+    → LinksHaveType env v ls w
     → LinksHaveType env t (written.link op e ls) w
 linked_by {env} {w = w} {ls = ls} d m is rest =
     operated d m (subst (λ (v : Term). LinksHaveType env v ls w) (sym is) rest)
@@ -149,7 +155,7 @@ one_link env t op e ls r known as_value sound rest h =
     let both = bind_ok (operate op t u.0) (λ both. links_typed env both ls) r u.2 in
     let d = sound u.0 u.1 in
     let o = operate_ok op t u.0 both.0 as_value (known_type d known) both.1 in
-    let still = subst (λ (v : Term). is_known v.ty ≡ true) o.2 (outcome_known (operator_class_of op) o.0) in
+    let still = subst (λ (v : Term). is_known v.ty ≡ true) o.2 (operator_result_known (operator_class_of op) o.0) in
     linked_by d o.1 o.2 (rest both.0 still both.2)
 
 -- `c ? a : b`

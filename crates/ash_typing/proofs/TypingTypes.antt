@@ -5,8 +5,8 @@ use Rattle.std.proofs.Common.{◌≡◌, ℕ, List, Bool, true, false, cond, map
 use Rattle.ash_tree.specs.declared.tree.operators.BinaryOp.{BinaryOp}
 use Rattle.ash_tree.specs.declared.tree.operators.BinaryOp.TheVariants as binary
 use Rattle.ash_tree.specs.Tree as written
-use Rattle.ash_typed.specs.declared.types.Kind.{Kind}
-use Rattle.ash_typed.specs.declared.types.Kind.TheVariants as kinds
+use Rattle.ash_integers.specs.declared.int_type.IntType.{IntType}
+use Rattle.ash_integers.specs.declared.int_type.IntType.TheVariants as ints
 use Rattle.ash_typed.specs.declared.types.ObjectType.{ObjectType}
 use Rattle.ash_typing.specs.declared.types.Ty.{Ty}
 use Rattle.ash_typing.specs.declared.types.Ty.TheVariants as ty
@@ -15,13 +15,13 @@ use Rattle.ash_typed.specs.declared.tree.operations.Member.{Member}
 use Rattle.ash_typed.specs.declared.tree.operations.Operands.{Operands}
 use Rattle.ash_typed.specs.declared.tree.operations.Operands.TheVariants as operands
 use Rattle.ash_typing.specs.declared.forms.OperatorClass.{OperatorClass}
-use Rattle.ash_typing.specs.declared.forms.OperatorClass.TheVariants as sort
+use Rattle.ash_typing.specs.declared.forms.OperatorClass.TheVariants as operator_class
 use Rattle.ash_typed.specs.Tree.{Expr, This, Read, Place, Stored, Held, place_in, converted}
 use Rattle.ash_typed.specs.TypeOf.{type_of, type_of_place, value, value_of_result, as_value, chosen_type}
 use Rattle.ash_typed.specs.declared.types.VarType.{VarType}
 use Rattle.ash_typed.specs.declared.types.VarType.TheVariants as vars
-use Rattle.ash_typing.specs.Types.{var_type, value_type, is_same_kind, gives_object, common, object_of, meeting}
-use Rattle.ash_typing.specs.Types.{operator_class_of, integers_in, meets, outcome}
+use Rattle.ash_typing.specs.Types.{var_type, value_type, is_same_integer_type, gives_object, common, object_of, common_integer_type}
+use Rattle.ash_typing.specs.Types.{operator_class_of, integers_in, common_operands, operator_result}
 use Rattle.ash_typing.specs.Environment.{Environment, Declared, Class, Known, first_from, last_named, declares}
 use Rattle.ash_typing.specs.Environment.{this_class, variable_in, callee_in, member_in, method_in, field_in, local_in}
 use Rattle.ash_typing.specs.Environment.{own_field_in, global_in}
@@ -43,34 +43,35 @@ use Rattle.ash_typing.proofs.TypingCallees.{variable_type, variable_value}
 
 -- conversions
 
-pub equal_kinds : (j k : Kind) → is_same_kind j k ≡ true → j ≡ k
-equal_kinds kinds.Int kinds.Int h = refl
-equal_kinds kinds.Int kinds.Uint h = absurd (cc)
-equal_kinds kinds.Int kinds.Int64 h = absurd (cc)
-equal_kinds kinds.Int kinds.Uint64 h = absurd (cc)
-equal_kinds kinds.Uint kinds.Int h = absurd (cc)
-equal_kinds kinds.Uint kinds.Uint h = refl
-equal_kinds kinds.Uint kinds.Int64 h = absurd (cc)
-equal_kinds kinds.Uint kinds.Uint64 h = absurd (cc)
-equal_kinds kinds.Int64 kinds.Int h = absurd (cc)
-equal_kinds kinds.Int64 kinds.Uint h = absurd (cc)
-equal_kinds kinds.Int64 kinds.Int64 h = refl
-equal_kinds kinds.Int64 kinds.Uint64 h = absurd (cc)
-equal_kinds kinds.Uint64 kinds.Int h = absurd (cc)
-equal_kinds kinds.Uint64 kinds.Uint h = absurd (cc)
-equal_kinds kinds.Uint64 kinds.Int64 h = absurd (cc)
-equal_kinds kinds.Uint64 kinds.Uint64 h = refl
+pub equal_integer_types : (j k : IntType) → is_same_integer_type j k ≡ true → j ≡ k
+equal_integer_types ints.Int ints.Int h = refl
+equal_integer_types ints.Int ints.Uint h = absurd (cc)
+equal_integer_types ints.Int ints.Int64 h = absurd (cc)
+equal_integer_types ints.Int ints.Uint64 h = absurd (cc)
+equal_integer_types ints.Uint ints.Int h = absurd (cc)
+equal_integer_types ints.Uint ints.Uint h = refl
+equal_integer_types ints.Uint ints.Int64 h = absurd (cc)
+equal_integer_types ints.Uint ints.Uint64 h = absurd (cc)
+equal_integer_types ints.Int64 ints.Int h = absurd (cc)
+equal_integer_types ints.Int64 ints.Uint h = absurd (cc)
+equal_integer_types ints.Int64 ints.Int64 h = refl
+equal_integer_types ints.Int64 ints.Uint64 h = absurd (cc)
+equal_integer_types ints.Uint64 ints.Int h = absurd (cc)
+equal_integer_types ints.Uint64 ints.Uint h = absurd (cc)
+equal_integer_types ints.Uint64 ints.Int64 h = absurd (cc)
+equal_integer_types ints.Uint64 ints.Uint64 h = refl
 
-converted_if : (j k : Kind) (tree : Expr) (b : Bool) → is_same_kind j k ≡ b → type_of tree ≡ value (vars.Integer j)
+converted_if : (j k : IntType) (tree : Expr) (b : Bool) → is_same_integer_type j k ≡ b
+    → type_of tree ≡ value (vars.Integer j)
     → type_of (converted (cond b None (Some (record { from = j; to = k }))) tree) ≡ value (vars.Integer k)
-converted_if j k tree true h i = i ∙ ap (λ (x : Kind). value (vars.Integer x)) (equal_kinds j k h)
+converted_if j k tree true h i = i ∙ ap (λ (x : IntType). value (vars.Integer x)) (equal_integer_types j k h)
 converted_if j k tree false h i = refl
 
-integer_converted : (k j : Kind) (tree : Expr) → type_of tree ≡ value (vars.Integer j)
+integer_converted : (k j : IntType) (tree : Expr) → type_of tree ≡ value (vars.Integer j)
     → type_of (converted (conversion (ty.Integer k) (ty.Integer j)) tree) ≡ value (vars.Integer k)
-integer_converted k j tree h = converted_if j k tree (is_same_kind j k) refl h
+integer_converted k j tree h = converted_if j k tree (is_same_integer_type j k) refl h
 
-converted_type : (k j : Kind) (t : Term) → type_of t.tree ≡ value_type t.ty → t.ty ≡ ty.Integer j
+converted_type : (k j : IntType) (t : Term) → type_of t.tree ≡ value_type t.ty → t.ty ≡ ty.Integer j
     → type_of (converted_to (ty.Integer k) t) ≡ value (vars.Integer k)
 converted_type k j t h i = rw i (integer_converted k j t.tree (h ∙ ap value_type i))
 
@@ -88,23 +89,34 @@ assigned_type _ e at h = absurd (none-some at h)
 
 -- operators
 
-calculated_type : (s : OperatorClass) (o : Operands) → ((k : Kind) → outcome s (operands.Integers k) ≡ ty.Integer k)
-    → o ≡ operands.Integers (integers_in o) → value (vars.Integer (integers_in o)) ≡ value_type (outcome s o)
-calculated_type s o h e = ap value_type (sym (ap (outcome s) e ∙ h (integers_in o)))
+calculated_type : (s : OperatorClass) (o : Operands)
+    → ((k : IntType) → operator_result s (operands.Integers k) ≡ ty.Integer k)
+    → o ≡ operands.Integers (integers_in o) → value (vars.Integer (integers_in o)) ≡ value_type (operator_result s o)
+calculated_type s o h e = ap value_type (sym (ap (operator_result s) e ∙ h (integers_in o)))
 
-applied_type : (op : BinaryOp) (o : Operands) (a b : Expr) (x y : Ty) → meets (operator_class_of op) x y ≡ Some o
-    → type_of (applied op o a b) ≡ value_type (outcome (operator_class_of op) o)
-applied_type binary.Multiply o a b x y h = calculated_type sort.Arithmetic o (λ k. refl) (arithmetic_integers x y o h)
-applied_type binary.Divide o a b x y h = calculated_type sort.Arithmetic o (λ k. refl) (arithmetic_integers x y o h)
-applied_type binary.Remainder o a b x y h = calculated_type sort.Arithmetic o (λ k. refl) (arithmetic_integers x y o h)
-applied_type binary.Add o a b x y h = calculated_type sort.Arithmetic o (λ k. refl) (arithmetic_integers x y o h)
-applied_type binary.Subtract o a b x y h = calculated_type sort.Arithmetic o (λ k. refl) (arithmetic_integers x y o h)
-applied_type binary.ShiftLeft o a b x y h = calculated_type sort.Shift o (λ k. refl) (shift_integers x y o h)
-applied_type binary.ShiftRight o a b x y h = calculated_type sort.Shift o (λ k. refl) (shift_integers x y o h)
-applied_type binary.ShiftRightArithmetic o a b x y h = calculated_type sort.Shift o (λ k. refl) (shift_integers x y o h)
-applied_type binary.BitAnd o a b x y h = calculated_type sort.Arithmetic o (λ k. refl) (arithmetic_integers x y o h)
-applied_type binary.BitXor o a b x y h = calculated_type sort.Arithmetic o (λ k. refl) (arithmetic_integers x y o h)
-applied_type binary.BitOr o a b x y h = calculated_type sort.Arithmetic o (λ k. refl) (arithmetic_integers x y o h)
+applied_type : (op : BinaryOp) (o : Operands) (a b : Expr) (x y : Ty)
+    → common_operands (operator_class_of op) x y ≡ Some o
+    → type_of (applied op o a b) ≡ value_type (operator_result (operator_class_of op) o)
+applied_type binary.Multiply o a b x y h =
+    calculated_type operator_class.Arithmetic o (λ k. refl) (arithmetic_integers x y o h)
+applied_type binary.Divide o a b x y h =
+    calculated_type operator_class.Arithmetic o (λ k. refl) (arithmetic_integers x y o h)
+applied_type binary.Remainder o a b x y h =
+    calculated_type operator_class.Arithmetic o (λ k. refl) (arithmetic_integers x y o h)
+applied_type binary.Add o a b x y h =
+    calculated_type operator_class.Arithmetic o (λ k. refl) (arithmetic_integers x y o h)
+applied_type binary.Subtract o a b x y h =
+    calculated_type operator_class.Arithmetic o (λ k. refl) (arithmetic_integers x y o h)
+applied_type binary.ShiftLeft o a b x y h = calculated_type operator_class.Shift o (λ k. refl) (shift_integers x y o h)
+applied_type binary.ShiftRight o a b x y h = calculated_type operator_class.Shift o (λ k. refl) (shift_integers x y o h)
+applied_type binary.ShiftRightArithmetic o a b x y h =
+    calculated_type operator_class.Shift o (λ k. refl) (shift_integers x y o h)
+applied_type binary.BitAnd o a b x y h =
+    calculated_type operator_class.Arithmetic o (λ k. refl) (arithmetic_integers x y o h)
+applied_type binary.BitXor o a b x y h =
+    calculated_type operator_class.Arithmetic o (λ k. refl) (arithmetic_integers x y o h)
+applied_type binary.BitOr o a b x y h =
+    calculated_type operator_class.Arithmetic o (λ k. refl) (arithmetic_integers x y o h)
 applied_type binary.Less o a b x y h = refl
 applied_type binary.LessOrEqual o a b x y h = refl
 applied_type binary.Greater o a b x y h = refl
@@ -142,8 +154,8 @@ chosen_is (ty.Handle o) b of s t h k i j c =
 chosen_is a ty.Unknown of s t h k i j c = absurd (cc)
 chosen_is ty.Bool ty.Bool of s t h k i j c = subst (Chosen ty.Bool ty.Bool s t) (same_Some ty.Bool of c) (rw i refl)
 chosen_is (ty.Integer m) (ty.Integer n) of s t h k i j c =
-    subst (Chosen (ty.Integer m) (ty.Integer n) s t) (same_Some (ty.Integer (meeting m n)) of c)
-    (rw (integer_converted (meeting m n) m s i) refl)
+    subst (Chosen (ty.Integer m) (ty.Integer n) s t) (same_Some (ty.Integer (common_integer_type m n)) of c)
+    (rw (integer_converted (common_integer_type m n) m s i) refl)
 chosen_is ty.Null (ty.Object o) of s t h k i j c =
     subst (Chosen ty.Null (ty.Object o) s t) (same_Some (ty.Handle o) of c) (rw (i, j) refl)
 chosen_is ty.Null (ty.Handle o) of s t h k i j c =

@@ -10,13 +10,15 @@ use Rattle.ash_typing.specs.Types.{var_type, object_of}
 use Rattle.ash_typing.specs.Coercions.{fits}
 use Rattle.ash_typed.specs.Tree.{Expr, Exprs}
 use Rattle.ash_typing.specs.Environment.{Environment, Class, Callee, construction}
-use Rattle.ash_typing.specs.Expressions.{Typed, typed, all_typed, coerced_for_assignment, called, placed, all_placed, term_of, first_at}
+use Rattle.ash_typing.specs.Expressions.{Typed, typed, all_typed, coerced_for_assignment, called, placed, all_placed}
+use Rattle.ash_typing.specs.Expressions.{term_of, first_at}
 use Rattle.ash_typing.specs.Declarations.{Initialization, constructed, begun, begun_with, begun_by, begun_by_one}
 use Rattle.ash_typing.specs.Declarations.{stored_first, initialized, decl_typed, built}
 use Rattle.ash_typing.specs.Typing.{IsKnown, is_object, HasType, AllHaveType, each, AreArguments, IsConstructed}
 use Rattle.ash_typing.specs.Typing.{construct, BeginsWith, empty, default, value, one, built_by, IsDeclared, declared}
 use Rattle.ash_typing.proofs.TypingWords.{no_fault, same_ok, bind_ok}
-use Rattle.ash_typing.proofs.TypingComplete.{terms, all_terms, placed_count, complete, all_complete, coerced_for_assignment_is}
+use Rattle.ash_typing.proofs.TypingComplete.{terms, all_terms, placed_count, complete, all_complete}
+use Rattle.ash_typing.proofs.TypingComplete.{coerced_for_assignment_is}
 use Rattle.ash_typing.proofs.TypingComplete.{arguments_is}
 use Rattle.ash_typing.proofs.TypingSoundCalls.{at_ok, coerced_for_assignment_ok, called_ok}
 use Rattle.ash_typing.proofs.TypingSound.{sound, all_sound}
@@ -57,7 +59,8 @@ value_is classes at (ty.Object o) b t h f = cc
 value_is classes at of b t h f = stored_is classes of b t f
 
 one_is : (env : Environment) (of_at at : ℕ) (of : Ty) (b : ℕ) (t : Term) → object_of of ≡ None
-    → fits env.declarations.classes of t.ty ≡ true → begun_by env of_at at of (placed b t ∷ []) ≡ Ok (Some (converted_to of t))
+    → fits env.declarations.classes of t.ty ≡ true
+    → begun_by env of_at at of (placed b t ∷ []) ≡ Ok (Some (converted_to of t))
 unfolding begun_by begun_by_one
 one_is env of_at at (ty.Object o) b t h f = cc
 one_is env of_at at (ty.Handle o) b t h f = cc

@@ -7,7 +7,7 @@ use Rattle.ash_tree.specs.declared.tree.types.Primitive.{Primitive}
 use Rattle.ash_registrations.specs.Calls as host
 use Rattle.ash_typed.specs.declared.types.VarType.{VarType}
 use Rattle.ash_typed.specs.declared.types.ObjectType.{ObjectType}
-use Rattle.ash_typed.specs.declared.types.Kind.TheVariants.{Uint}
+use Rattle.ash_integers.specs.declared.int_type.IntType.TheVariants.{Uint}
 use Rattle.ash_typed.specs.declared.types.Element.{Element}
 use Rattle.ash_typed.specs.declared.types.ObjectType.TheVariants.{Class as OfClass, Interface as OfInterface}
 use Rattle.ash_typed.specs.declared.types.ObjectType.TheVariants.{Host as OfHost, Array as OfArray}
@@ -68,7 +68,12 @@ pub record Environment : Type 0 where
   pub locals : List Declared
 
 abbrev pub with_locals : Environment → List Declared → Environment
-with_locals env locals = record { declarations = env.declarations; registered = env.registered; this = env.this; locals = locals }
+with_locals env locals = record {
+  declarations = env.declarations;
+  registered = env.registered;
+  this = env.this;
+  locals = locals;
+}
 
 -- `seen calls h` is what each item of a module sees.
 abbrev pub seen : List host.Registration → ModuleDeclarations → Environment
@@ -76,7 +81,12 @@ seen calls h = record { declarations = h; registered = calls; this = None; local
 
 -- `inside env place` is what the members of the class of a place see.
 abbrev pub inside : Environment → ℕ → Environment
-inside env place = record { declarations = env.declarations; registered = env.registered; this = Some place; locals = [] }
+inside env place = record {
+  declarations = env.declarations;
+  registered = env.registered;
+  this = Some place;
+  locals = [];
+}
 
 -- look-ups
 
@@ -219,7 +229,8 @@ callee_beside env name =
 
 unfoldable pub callee_in : Environment → List ℕ → Option Callee
 callee_in env name =
-    option_or (own_method_in env name) (option_or (function_in env.declarations.functions name) (callee_beside env name))
+    option_or (own_method_in env name)
+    (option_or (function_in env.declarations.functions name) (callee_beside env name))
 
 -- Members of an object.
 
@@ -241,7 +252,8 @@ property _ = None
 
 -- `member_in env o name` is what an object holds by this name; an interface and an array hold nothing that has a name.
 unfoldable pub member_in : Environment → ObjectType → List ℕ → Option (Member × Ty)
-member_in env (OfClass i) name = option_and_then (λ (c : Class). field_in i c name) (slice_get env.declarations.classes i)
+member_in env (OfClass i) name =
+    option_and_then (λ (c : Class). field_in i c name) (slice_get env.declarations.classes i)
 member_in env (OfInterface i) name = None
 member_in env (OfHost kind) name = option_and_then property (host_member_in env.registered kind name)
 member_in env (OfArray of) name = None

@@ -12,8 +12,8 @@ use Rattle.ash_tree.specs.declared.tree.operators.AssignOp.TheVariants as assign
 use Rattle.ash_tree.specs.Tree as written
 use Rattle.ash_typing.specs.declared.fault.Rule.TheVariants.{UnknownName, UnknownType, TypeMismatch, WrongArgumentCount}
 use Rattle.ash_typing.specs.declared.fault.Rule.TheVariants.{NotAssignable, Misplaced, NoFactory}
-use Rattle.ash_typed.specs.declared.types.Kind.{Kind}
-use Rattle.ash_typed.specs.declared.types.Kind.TheVariants as kinds
+use Rattle.ash_integers.specs.declared.int_type.IntType.{IntType}
+use Rattle.ash_integers.specs.declared.int_type.IntType.TheVariants as ints
 use Rattle.ash_typed.specs.declared.types.Element.{Element}
 use Rattle.ash_typed.specs.declared.types.Element.TheVariants as elements
 use Rattle.ash_typed.specs.declared.types.ObjectType.{ObjectType}
@@ -31,8 +31,9 @@ use Rattle.ash_typed.specs.declared.tree.operations.Operands.{Operands}
 use Rattle.ash_typed.specs.declared.tree.operations.Step.{Step}
 use Rattle.ash_typed.specs.declared.tree.operations.Step.TheVariants as steps
 use Rattle.ash_typing.specs.TypingResult.{TypingResult, ◌>>=◌, broken}
-use Rattle.ash_typing.specs.Types.{var_type, signed, common, ty_of, ty_of_element, operator_class_of, binary_of, integers_in}
-use Rattle.ash_typing.specs.Types.{takes, assumed, meets, outcome}
+use Rattle.ash_typing.specs.Types.{var_type, signed, common, ty_of, ty_of_element, operator_class_of, binary_of}
+use Rattle.ash_typing.specs.Types.{integers_in}
+use Rattle.ash_typing.specs.Types.{takes, assumed_type, common_operands, operator_result}
 use Rattle.ash_typed.specs.Tree.{Expr, Truth, Null, This, Read, Invoke, Cast, Alter, Conditional, Assign, Update, Count}
 use Rattle.ash_typed.specs.Tree.{Place, Held, Indexed, Exprs, no_expr, expr}
 use Rattle.ash_typing.specs.Coercions.{fits}
@@ -74,9 +75,9 @@ coerced_for_assignment classes to t = if fits classes to t.ty then Ok (coerced t
 
 -- what an operand has to be
 
-abbrev pub integer_of : ℕ → Ty → TypingResult Kind
+abbrev pub integer_of : ℕ → Ty → TypingResult IntType
 integer_of at (ty.Integer k) = Ok k
-integer_of at ty.Unknown = Ok kinds.Int
+integer_of at ty.Unknown = Ok ints.Int
 integer_of at _ = broken TypeMismatch at
 
 abbrev pub bool_of : ℕ → Ty → TypingResult Bool
@@ -108,14 +109,16 @@ unified_as s a b (Some o) = Ok (record { left = a; operands = o; right = right_b
 unified_as s a b None = broken TypeMismatch (if takes s a.ty then b.at else a.at)
 
 abbrev pub unified_by : OperatorClass → Typed → Typed → TypingResult UnifiedOperands
-unified_by s a b = unified_as s a b (meets s (assumed s b.ty a.ty) (assumed s a.ty b.ty))
+unified_by s a b = unified_as s a b (common_operands s (assumed_type s b.ty a.ty) (assumed_type s a.ty b.ty))
 
 unfoldable pub unify_operands : BinaryOp → Typed → Typed → TypingResult UnifiedOperands
-unify_operands op a b = unified_by (operator_class_of op) (adapted (operator_class_of op) b.form b.ty a) (adapted (operator_class_of op) a.form a.ty b)
+unify_operands op a b =
+    unified_by (operator_class_of op) (adapted (operator_class_of op) b.form b.ty a)
+    (adapted (operator_class_of op) a.form a.ty b)
 
 abbrev pub operated : BinaryOp → UnifiedOperands → Typed
 operated op m =
-    term_at m.left.at (outcome (operator_class_of op) m.operands)
+    term_at m.left.at (operator_result (operator_class_of op) m.operands)
     (applied op m.operands (coerced (operand_type m.operands) m.left) m.right)
 
 unfoldable pub operate : BinaryOp → Typed → Typed → TypingResult Typed
@@ -127,11 +130,11 @@ unfoldable pub counted : ℕ → Step → Typed → Option Place → TypingResul
 counted at step t None = broken NotAssignable t.at
 counted at step t (Some p) = integer_of t.at t.ty >>= λ k. Ok (term_at at (ty.Integer k) (Count p k step))
 
-abbrev pub altered : ℕ → Kind → Change → Typed → Typed
+abbrev pub altered : ℕ → IntType → Change → Typed → Typed
 altered at k change t = term_at at (ty.Integer k) (Alter change (coerced (ty.Integer k) t))
 
 -- `integer_at at k t` is the value alone, which can't be assigned.
-abbrev pub integer_at : ℕ → Kind → Typed → Typed
+abbrev pub integer_at : ℕ → IntType → Typed → Typed
 integer_at at k t = term_at at (ty.Integer k) (coerced (ty.Integer k) t)
 
 abbrev pub handle_at : Bool → ℕ → Typed → TypingResult Typed
@@ -195,7 +198,8 @@ is_assign _ = false
 -- calls
 
 abbrev pub all_coerced : List Class → List Ty → List Typed → TypingResult Exprs
-all_coerced classes (p ∷ ps) (t ∷ ts) = coerced_for_assignment classes p t >>= λ e. all_coerced classes ps ts >>= λ es. Ok (expr e es)
+all_coerced classes (p ∷ ps) (t ∷ ts) =
+    coerced_for_assignment classes p t >>= λ e. all_coerced classes ps ts >>= λ es. Ok (expr e es)
 all_coerced classes _ _ = Ok no_expr
 
 unfoldable pub arguments_at : List Class → ℕ → List Ty → List Typed → TypingResult Exprs
@@ -269,7 +273,7 @@ invocation_typed env t at name arguments =
 
 -- `index_in i` is an index, which is converted to `uint`.
 abbrev pub index_in : Typed → TypingResult Expr
-index_in i = integer_of i.at i.ty >>= λ k. Ok (coerced (ty.Integer kinds.Uint) i)
+index_in i = integer_of i.at i.ty >>= λ k. Ok (coerced (ty.Integer ints.Uint) i)
 
 abbrev pub indexed_at : Typed → Typed → Ty → Element → TypingResult Typed
 indexed_at t i of e = index_in i >>= λ index. Ok (read_at t.at of (Read (Indexed t.tree index e)))
@@ -332,7 +336,8 @@ abbrev mutual
   typed env left (written.Conditional p c a b) =
       typed env false c >>= λ t. typed env false a >>= λ x. typed env false b >>= λ y. choice t x y
   typed env left (written.Assign p e op v) =
-      typed env (is_assign op) e >>= λ target. typed env false v >>= λ value. assigned env.declarations.classes target op value
+      typed env (is_assign op) e >>= λ target. typed env false v
+      >>= λ value. assigned env.declarations.classes target op value
 
   -- arguments, each in its turn
   pub all_typed : Environment → written.Exprs → TypingResult (List Typed)

@@ -17,7 +17,7 @@ use Rattle.ash_tree.specs.declared.tree.operators.UnaryOp.TheVariants as unary
 use Rattle.ash_tree.specs.declared.tree.operators.AssignOp.{AssignOp}
 use Rattle.ash_tree.specs.declared.tree.statements.Label.{Label}
 use Rattle.ash_tree.specs.declared.tree.statements.Label.TheVariants as labels
-use Rattle.ash_typed.specs.declared.types.Kind.{Kind}
+use Rattle.ash_integers.specs.declared.int_type.IntType.{IntType}
 use Rattle.ash_typed.specs.declared.types.ObjectType.{ObjectType}
 use Rattle.ash_typed.specs.declared.types.ObjectType.TheVariants as objects
 use Rattle.ash_typing.specs.declared.fault.Rule.{Rule}
@@ -171,7 +171,7 @@ pub data IsWrong (calls : List Registration) (script : List written.Item) : Rule
       → IsWrong calls script rules.UnknownName p.at (name text)
   -- no method, function, class or registered type or function has this name
   no_callee : {env : Environment} {p : Place} {text : List ℕ} {es : written.Exprs}
-      → Occurs calls script (Expression env (written.Registration p text es))
+      → Occurs calls script (Expression env (written.Call p text es))
       → callee_in env text ≡ None
       → IsWrong calls script rules.UnknownName p.at (name text)
   -- objects of the type of what is before the point have no field and no property of this name, or no method
@@ -227,7 +227,7 @@ pub data IsWrong (calls : List Registration) (script : List written.Item) : Rule
   -- what is called takes another number of arguments than it is given
   call_count : {env : Environment} {p : Place} {text : List ℕ} {es : written.Exprs} {callee : Callee}
       {parameters : List Ty}
-      → Occurs calls script (Expression env (written.Registration p text es))
+      → Occurs calls script (Expression env (written.Call p text es))
       → callee_in env text ≡ Some callee
       → callee.parameters ≡ Some parameters
       → nat_eq (length parameters) (argument_count es) ≡ false
@@ -252,7 +252,7 @@ pub data IsWrong (calls : List Registration) (script : List written.Item) : Rule
       → IsWrong calls script rules.WrongArgumentCount of_at m
   -- a registered type is constructed, and has no factory
   call_factory : {env : Environment} {p : Place} {text : List ℕ} {es : written.Exprs} {callee : Callee}
-      → Occurs calls script (Expression env (written.Registration p text es))
+      → Occurs calls script (Expression env (written.Call p text es))
       → callee_in env text ≡ Some callee
       → callee.parameters ≡ None
       → IsWrong calls script rules.NoFactory p.at (name text)
@@ -261,15 +261,15 @@ pub data IsWrong (calls : List Registration) (script : List written.Item) : Rule
       → is_constructible (construction env o (initial_count i)) ≡ false
       → IsWrong calls script rules.NoFactory of_at m
   -- the type of the value of a `switch` does not hold the constant of a label
-  out_of_range : {scope : Scope} {kind : Option Kind} {before : List Label} {p : Place} {l : Label} {ss : written.Stmts}
-      {cs : written.Cases} {m : Meaning}
-      → Occurs calls script (Cases scope kind before (written.next_case (written.labelled p l ss) cs))
-      → is_within kind l ≡ false
+  out_of_range : {scope : Scope} {int_type : Option IntType} {before : List Label} {p : Place} {l : Label}
+      {ss : written.Stmts} {cs : written.Cases} {m : Meaning}
+      → Occurs calls script (Cases scope int_type before (written.next_case (written.labelled p l ss) cs))
+      → is_within int_type l ≡ false
       → IsWrong calls script rules.ConstantOutOfRange p.at m
   -- a label before has the same constant
-  duplicate : {scope : Scope} {kind : Option Kind} {before : List Label} {p : Place} {l : Label} {ss : written.Stmts}
-      {cs : written.Cases} {m : Meaning}
-      → Occurs calls script (Cases scope kind before (written.next_case (written.labelled p l ss) cs))
+  duplicate : {scope : Scope} {int_type : Option IntType} {before : List Label} {p : Place} {l : Label}
+      {ss : written.Stmts} {cs : written.Cases} {m : Meaning}
+      → Occurs calls script (Cases scope int_type before (written.next_case (written.labelled p l ss) cs))
       → list_any (is_same_constant l) before ≡ true
       → IsWrong calls script rules.DuplicateCase p.at m
   -- `this` where no object runs
@@ -287,9 +287,9 @@ pub data IsWrong (calls : List Registration) (script : List written.Item) : Rule
       → scope.in_loop ≡ false
       → IsWrong calls script rules.Misplaced p.at (reserved words.Continue)
   -- `default` before another label
-  early_default : {scope : Scope} {kind : Option Kind} {before : List Label} {p : Place} {ss : written.Stmts}
+  early_default : {scope : Scope} {int_type : Option IntType} {before : List Label} {p : Place} {ss : written.Stmts}
       {cs : written.Cases}
-      → Occurs calls script (Cases scope kind before (written.next_case (written.labelled p labels.Default ss) cs))
+      → Occurs calls script (Cases scope int_type before (written.next_case (written.labelled p labels.Default ss) cs))
       → is_last cs ≡ false
       → IsWrong calls script rules.Misplaced p.at (reserved words.Default)
   -- a type of objects is written where none of them may be

@@ -16,7 +16,8 @@ use Rattle.ash_typed.specs.declared.types.ObjectType.{ObjectType}
 use Rattle.ash_typed.specs.declared.types.ObjectType.TheVariants.{Class as OfClass, Interface as OfInterface}
 use Rattle.ash_typing.specs.Types.{result_type}
 use Rattle.ash_typing.specs.TypingResult.{TypingResult, ◌>>=◌, broken}
-use Rattle.ash_typing.specs.Environment.{Declared, type_declared, ModuleDeclarations, Environment, with_locals, declares, named_in}
+use Rattle.ash_typing.specs.Environment.{Declared, type_declared, ModuleDeclarations, Environment, with_locals}
+use Rattle.ash_typing.specs.Environment.{declares, named_in}
 pub use Rattle.ash_typing.specs.Environment.{inside, seen}
 use Rattle.ash_typing.specs.Expressions.{is_void}
 use Rattle.ash_typing.specs.ModuleDeclarations.{object_named, declarations}

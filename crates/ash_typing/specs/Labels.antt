@@ -3,20 +3,20 @@
 use Rattle.std.specs.Prelude.{ℕ, ◌^◌, Bool, true, false, ◌&&◌, nat_eq, nat_le}
 use Rattle.ash_tree.specs.declared.tree.statements.Label.{Label}
 use Rattle.ash_tree.specs.declared.tree.statements.Label.TheVariants as labels
-use Rattle.ash_typed.specs.declared.types.Kind.{Kind}
-use Rattle.ash_typed.specs.declared.types.Kind.TheVariants.{Int, Uint, Int64, Uint64}
+use Rattle.ash_integers.specs.declared.int_type.IntType.{IntType}
+use Rattle.ash_integers.specs.declared.int_type.IntType.TheVariants.{Int, Uint, Int64, Uint64}
 use Rattle.ash_typing.specs.Types.{holds}
 use Rattle.ash_tree.specs.Tree as written
 
 -- The type holds what is this much below zero.
-abbrev pub holds_minus : Kind → ℕ → Bool
+abbrev pub holds_minus : IntType → ℕ → Bool
 holds_minus Int n = nat_le n (2 ^ 31)
 holds_minus Uint n = nat_eq n 0
 holds_minus Int64 n = nat_le n (2 ^ 63)
 holds_minus Uint64 n = nat_eq n 0
 
 -- The type holds the constant of a label.
-abbrev pub holds_label : Kind → Label → Bool
+abbrev pub holds_label : IntType → Label → Bool
 holds_label k (labels.Case n) = holds k n
 holds_label k (labels.CaseMinus n) = holds_minus k n
 holds_label k labels.Default = true

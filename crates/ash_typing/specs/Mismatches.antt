@@ -109,7 +109,7 @@ pub data Mismatches (calls : List Registration) (script : List written.Item) : �
   -- an argument does not fit its parameter
   of_call : {env : Environment} {p : Place} {text : List ℕ} {es : written.Exprs} {callee : Callee}
       {parameters : List Ty} {ts : List Typed} {at : ℕ}
-      → Occurs calls script (Expression env (written.Registration p text es))
+      → Occurs calls script (Expression env (written.Call p text es))
       → callee_in env text ≡ Some callee
       → callee.parameters ≡ Some parameters
       → all_typed env es ≡ Ok ts
@@ -181,7 +181,7 @@ pub data Mismatches (calls : List Registration) (script : List written.Item) : �
       → typed env false b ≡ Ok y
       → common x.ty y.ty ≡ None
       → Mismatches calls script (if is_void x.ty then x.at else y.at)
-  -- what is assigned does not fit the place, or does not meet with it under the operator of `op=`
+  -- what is assigned does not fit the place, or the operator of `op=` takes no such operands
   assigned : {env : Environment} {p : Place} {op : AssignOp} {e v : written.Expr} {t u : Typed}
       → Occurs calls script (Expression env (written.Assign p e op v))
       → typed env (is_assign op) e ≡ Ok t
@@ -259,15 +259,15 @@ pub data Mismatches (calls : List Registration) (script : List written.Item) : �
   returned : {scope : Scope} {p : Place} {e : written.Expr} {t : Typed}
       → Occurs calls script (Statement scope (written.Return p (Some e)))
       → typed scope.env false e ≡ Ok t
-      → fits scope.env.declarations.classes scope.gives t.ty ≡ false
+      → fits scope.env.declarations.classes scope.result t.ty ≡ false
       → Mismatches calls script t.at
   returned_value : {scope : Scope} {p : Place} {e : written.Expr}
       → Occurs calls script (Statement scope (written.Return p (Some e)))
-      → is_void scope.gives ≡ true
+      → is_void scope.result ≡ true
       → Mismatches calls script p.at
   returned_nothing : {scope : Scope} {p : Place}
       → Occurs calls script (Statement scope (written.Return p None))
-      → gives_nothing scope.gives ≡ false
+      → gives_nothing scope.result ≡ false
       → Mismatches calls script p.at
   -- a class lacks a method of an interface that it lists, or has it with other types
   lacks_method : {env : Environment} {place interface : ℕ} {before : List written.TypeName} {n : written.TypeName}

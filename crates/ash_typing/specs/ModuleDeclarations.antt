@@ -7,7 +7,7 @@ use Rattle.ash_tree.specs.Tree as written
 use Rattle.ash_typed.specs.declared.types.ObjectType.{ObjectType}
 use Rattle.ash_tree.specs.declared.tree.types.Primitive.{Primitive}
 use Rattle.ash_tree.specs.declared.tree.types.Primitive.TheVariants as primitives
-use Rattle.ash_typed.specs.declared.types.Kind.TheVariants.{Int, Uint, Int64, Uint64}
+use Rattle.ash_integers.specs.declared.int_type.IntType.TheVariants.{Int, Uint, Int64, Uint64}
 use Rattle.ash_typed.specs.declared.types.Element.{Element}
 use Rattle.ash_typed.specs.declared.types.Element.TheVariants as elements
 use Rattle.ash_typed.specs.declared.types.ObjectType.TheVariants.{Class as OfClass, Interface as OfInterface}
@@ -107,22 +107,25 @@ all_variables calls named (v ∷ vs) = variables calls named v ++ all_variables 
 abbrev pub parameter_ty : List host.Registration → ModuleDeclarations → written.Parameter → Ty
 parameter_ty calls named p = ty_named calls named p.of
 
-abbrev pub function_head : List host.Registration → ModuleDeclarations → written.Function → Function
-function_head calls named f = record {
+abbrev pub function_declaration : List host.Registration → ModuleDeclarations → written.Function → Function
+function_declaration calls named f = record {
   name = f.name;
   result = result_named calls named f.result;
   parameters = map (parameter_ty calls named) f.parameters;
 }
 
-abbrev pub signature_head : List host.Registration → ModuleDeclarations → written.InterfaceMethod → Function
-signature_head calls named m = record {
+abbrev pub signature_declaration : List host.Registration → ModuleDeclarations → written.InterfaceMethod → Function
+signature_declaration calls named m = record {
   name = m.name;
   result = result_named calls named m.result;
   parameters = map (parameter_ty calls named) m.parameters;
 }
 
-abbrev pub interface_head : List host.Registration → ModuleDeclarations → written.Interface → Interface
-interface_head calls named i = record { name = i.name; methods = map (signature_head calls named) i.methods }
+abbrev pub interface_declaration : List host.Registration → ModuleDeclarations → written.Interface → Interface
+interface_declaration calls named i = record {
+  name = i.name;
+  methods = map (signature_declaration calls named) i.methods;
+}
 
 -- `constructed_by calls named cs` is what the construction of an object takes: nothing where no constructor is written.
 abbrev pub constructed_by : List host.Registration → ModuleDeclarations → List written.Constructor → List Ty
@@ -144,12 +147,12 @@ listed_in calls named [] = []
 listed_in calls named (n ∷ ns) =
     with_place (interface_place (object_named calls named n.name)) (listed_in calls named ns)
 
-abbrev pub class_head : List host.Registration → ModuleDeclarations → written.Class → Class
-class_head calls named c = record {
+abbrev pub class_declaration : List host.Registration → ModuleDeclarations → written.Class → Class
+class_declaration calls named c = record {
   name = c.name;
   interfaces = listed_in calls named c.interfaces;
   fields = all_variables calls named (fields_of c.members);
-  methods = map (function_head calls named) (methods_of c.members);
+  methods = map (function_declaration calls named) (methods_of c.members);
   parameters = constructed_by calls named (constructors_of c.members);
 }
 
@@ -172,9 +175,9 @@ names_in is = record {
 
 abbrev pub declarations_by : List host.Registration → ModuleDeclarations → List written.Item → ModuleDeclarations
 declarations_by calls named is = record {
-  interfaces = map (interface_head calls named) (interfaces_of is);
-  classes = map (class_head calls named) (classes_of is);
-  functions = map (function_head calls named) (functions_of is);
+  interfaces = map (interface_declaration calls named) (interfaces_of is);
+  classes = map (class_declaration calls named) (classes_of is);
+  functions = map (function_declaration calls named) (functions_of is);
   globals = all_variables calls named (globals_of is);
 }
 

@@ -9,14 +9,14 @@ use Rattle.ash_tree.specs.declared.tree.operators.UnaryOp.{UnaryOp}
 use Rattle.ash_tree.specs.declared.tree.operators.BinaryOp.{BinaryOp}
 use Rattle.ash_tree.specs.declared.tree.operators.AssignOp.{AssignOp}
 use Rattle.ash_tree.specs.declared.tree.statements.Label.{Label}
-use Rattle.ash_typed.specs.declared.types.Kind.{Kind}
+use Rattle.ash_integers.specs.declared.int_type.IntType.{IntType}
 use Rattle.ash_typing.specs.declared.types.Ty.{Ty}
 use Rattle.ash_typing.specs.declared.types.Ty.TheVariants as ty
 use Rattle.ash_typing.specs.Environment.{Environment, Declared, with_locals, inside}
 use Rattle.ash_typing.specs.ModuleDeclarations.{declared, ty_in}
 use Rattle.ash_typing.specs.Expressions.{Typed, operate, typed, suffix_typed}
 use Rattle.ash_typing.specs.Declarations.{at_type, known_ty}
-use Rattle.ash_typing.specs.Switches.{kind_in}
+use Rattle.ash_typing.specs.Switches.{integer_type_in}
 use Rattle.ash_typing.specs.Scopes.{Scope, block_of, loop_of, switch_of, with_variables, after, body_scope}
 use Rattle.ash_typing.specs.Items.{Names, passed_ty, result_typed, parameters_typed}
 use Rattle.ash_tree.specs.Items.{Routine, routine_of, constructing, classes_of, globals_of, variable_names}
@@ -61,7 +61,7 @@ pub data Phrase : Type 0 where
   Statement : Scope → written.Stmt → Phrase
   Statements : Scope → written.Stmts → Phrase
   -- labels of a `switch` over a value of this type, after those
-  Cases : Scope → Option Kind → List Label → written.Cases → Phrase
+  Cases : Scope → Option IntType → List Label → written.Cases → Phrase
   -- after these
   Parameters : Environment → List Declared → List written.Parameter → Phrase
   -- what gives this type
@@ -87,7 +87,7 @@ environment_of (Initializer env of_at at of i) = env
 environment_of (Locals scope at of ds) = scope.env
 environment_of (Statement scope s) = scope.env
 environment_of (Statements scope ss) = scope.env
-environment_of (Cases scope kind before cs) = scope.env
+environment_of (Cases scope int_type before cs) = scope.env
 environment_of (Parameters env before ps) = env
 environment_of (ARoutine env of r) = env
 environment_of (Variables env at of names ds) = env
@@ -100,7 +100,7 @@ environment_of (Items env before is) = env
 pub data Occurs (calls : List Registration) (script : List written.Item) : Phrase → Type 0 where
   -- expressions
   call_arguments : {env : Environment} {p : Place} {text : List ℕ} {es : written.Exprs}
-      → Occurs calls script (Expression env (written.Registration p text es))
+      → Occurs calls script (Expression env (written.Call p text es))
       → Occurs calls script (Arguments env es)
   in_brackets : {env : Environment} {p : Place} {e : written.Expr}
       → Occurs calls script (Expression env (written.Brackets p e))
@@ -240,7 +240,7 @@ pub data Occurs (calls : List Registration) (script : List written.Item) : Phras
   cases : {scope : Scope} {p : Place} {e : written.Expr} {cs : written.Cases} {t : Typed}
       → Occurs calls script (Statement scope (written.Switch p e cs))
       → typed scope.env false e ≡ Ok t
-      → Occurs calls script (Cases (switch_of scope) (kind_in t.ty) [] cs)
+      → Occurs calls script (Cases (switch_of scope) (integer_type_in t.ty) [] cs)
   returned : {scope : Scope} {p : Place} {e : written.Expr}
       → Occurs calls script (Statement scope (written.Return p (Some e)))
       → Occurs calls script (Expression scope.env e)
@@ -250,14 +250,14 @@ pub data Occurs (calls : List Registration) (script : List written.Item) : Phras
   other_statements : {scope : Scope} {s : written.Stmt} {ss : written.Stmts}
       → Occurs calls script (Statements scope (written.stmt s ss))
       → Occurs calls script (Statements (after scope s) ss)
-  labelled : {scope : Scope} {kind : Option Kind} {before : List Label} {p : Place} {l : Label} {ss : written.Stmts}
-      {cs : written.Cases}
-      → Occurs calls script (Cases scope kind before (written.next_case (written.labelled p l ss) cs))
+  labelled : {scope : Scope} {int_type : Option IntType} {before : List Label} {p : Place} {l : Label}
+      {ss : written.Stmts} {cs : written.Cases}
+      → Occurs calls script (Cases scope int_type before (written.next_case (written.labelled p l ss) cs))
       → Occurs calls script (Statements scope ss)
-  other_cases : {scope : Scope} {kind : Option Kind} {before : List Label} {p : Place} {l : Label} {ss : written.Stmts}
-      {cs : written.Cases}
-      → Occurs calls script (Cases scope kind before (written.next_case (written.labelled p l ss) cs))
-      → Occurs calls script (Cases scope kind (before ++ l ∷ []) cs)
+  other_cases : {scope : Scope} {int_type : Option IntType} {before : List Label} {p : Place} {l : Label}
+      {ss : written.Stmts} {cs : written.Cases}
+      → Occurs calls script (Cases scope int_type before (written.next_case (written.labelled p l ss) cs))
+      → Occurs calls script (Cases scope int_type (before ++ l ∷ []) cs)
   -- functions
   parameters : {env : Environment} {of : Ty} {r : Routine}
       → Occurs calls script (ARoutine env of r)

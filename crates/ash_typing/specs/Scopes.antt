@@ -6,11 +6,11 @@ use Rattle.ash_typing.specs.declared.types.Ty.{Ty}
 use Rattle.ash_typing.specs.Environment.{Declared, Environment, declares, with_locals}
 use Rattle.ash_typing.specs.ModuleDeclarations.{variables}
 
--- There are `first` locals before those of the block, and the function gives `gives`.
+-- There are `first` locals before those of the block, and the function has a result of the type `result`.
 pub record Scope : Type 0 where
   pub env : Environment
   pub first : ℕ
-  pub gives : Ty
+  pub result : Ty
   pub in_loop : Bool
   pub in_switch : Bool
 
@@ -19,24 +19,24 @@ abbrev pub block_of : Scope → Scope
 block_of scope = record {
   env = scope.env;
   first = length scope.env.locals;
-  gives = scope.gives;
+  result = scope.result;
   in_loop = scope.in_loop;
   in_switch = scope.in_switch;
 }
 
 abbrev pub loop_of : Scope → Scope
 loop_of scope =
-    record { env = scope.env; first = scope.first; gives = scope.gives; in_loop = true; in_switch = scope.in_switch }
+    record { env = scope.env; first = scope.first; result = scope.result; in_loop = true; in_switch = scope.in_switch }
 
 abbrev pub switch_of : Scope → Scope
 switch_of scope =
-    record { env = scope.env; first = scope.first; gives = scope.gives; in_loop = scope.in_loop; in_switch = true }
+    record { env = scope.env; first = scope.first; result = scope.result; in_loop = scope.in_loop; in_switch = true }
 
 abbrev pub with_variables : Scope → List Declared → Scope
 with_variables scope vs = record {
   env = with_locals scope.env (scope.env.locals ++ vs);
   first = scope.first;
-  gives = scope.gives;
+  result = scope.result;
   in_loop = scope.in_loop;
   in_switch = scope.in_switch;
 }
@@ -54,4 +54,4 @@ is_taken scope name = list_any (declares name) (drop scope.first scope.env.local
 
 -- Parameters and the variables of the body are one block.
 abbrev pub body_scope : Environment → Ty → Scope
-body_scope env of = record { env = env; first = 0; gives = of; in_loop = false; in_switch = false }
+body_scope env of = record { env = env; first = 0; result = of; in_loop = false; in_switch = false }

@@ -46,7 +46,7 @@ seen_in env = record {
 abbrev pub seen_at : Scope → statements.Scope
 seen_at scope = record {
   env = seen_in scope.env;
-  gives = result_type scope.gives;
+  result = result_type scope.result;
   may_break = scope.in_loop || scope.in_switch;
   may_continue = scope.in_loop;
 }

@@ -7,7 +7,7 @@ use Rattle.ash_tree.specs.declared.tree.places.Place.{Place}
 use Rattle.ash_tree.specs.declared.tree.statements.Label.{Label}
 use Rattle.ash_tree.specs.Tree as written
 use Rattle.ash_typing.specs.declared.fault.Rule.TheVariants.{NameTaken, TypeMismatch, Misplaced}
-use Rattle.ash_typed.specs.declared.types.Kind.{Kind}
+use Rattle.ash_integers.specs.declared.int_type.IntType.{IntType}
 use Rattle.ash_typing.specs.declared.types.Ty.{Ty}
 use Rattle.ash_typing.specs.declared.types.Ty.TheVariants as ty
 use Rattle.ash_typing.specs.TypingResult.{TypingResult, ◌>>=◌, broken}
@@ -21,7 +21,7 @@ use Rattle.ash_typing.specs.Environment.{Declared, Class, Environment}
 use Rattle.ash_typing.specs.Expressions.{Typed, typed, all_typed, coerced_for_assignment, integer_of, bool_of, is_void}
 use Rattle.ash_typing.specs.ModuleDeclarations.{declared, ty_in}
 use Rattle.ash_typing.specs.Declarations.{at_type, known_ty, decl_typed}
-use Rattle.ash_typing.specs.Switches.{kind_in, label_typed}
+use Rattle.ash_typing.specs.Switches.{integer_type_in, label_typed}
 use Rattle.ash_typing.specs.Scopes.{Scope, block_of, loop_of, switch_of, with_variables, after, is_taken, body_scope}
 use Rattle.ash_typing.specs.Labels.{is_last}
 
@@ -90,7 +90,8 @@ maybe_condition_is (Some t) = condition_is t
 abbrev pub tree_of : Typed → Expr
 tree_of t = t.tree
 
-unfoldable pub for_typed : ℕ → TypingResult Head → TypingResult (Option Typed) → TypingResult (List Typed) → TypingResult Stmt
+unfoldable pub for_typed : ℕ → TypingResult Head → TypingResult (Option Typed) → TypingResult (List Typed)
+    → TypingResult Stmt
     → TypingResult Stmt
 for_typed line head condition steps body =
     head >>= λ h. condition >>= λ c. steps >>= λ ts. body >>= λ s. maybe_condition_is c
@@ -114,9 +115,9 @@ unfoldable pub returned : List Class → Ty → ℕ → Typed → TypingResult E
 returned classes of at t = if is_void of then broken TypeMismatch at else coerced_for_assignment classes of t
 
 unfoldable pub return_typed : Scope → Place → Option written.Expr → TypingResult Stmt
-return_typed scope p None = if gives_nothing scope.gives then Ok (Return p.line None) else broken TypeMismatch p.at
+return_typed scope p None = if gives_nothing scope.result then Ok (Return p.line None) else broken TypeMismatch p.at
 return_typed scope p (Some e) =
-    typed scope.env false e >>= λ t. returned scope.env.declarations.classes scope.gives p.at t
+    typed scope.env false e >>= λ t. returned scope.env.declarations.classes scope.result p.at t
     >>= λ value. Ok (Return p.line (Some value))
 
 -- the walk
@@ -137,8 +138,8 @@ abbrev mutual
       (all_typed (after (block_of scope) f).env (written.exprs es))
       (stmt_typed (loop_of (after (block_of scope) f)) s)
   stmt_typed scope (written.Switch p e cs) =
-      typed scope.env false e >>= λ v. cases_typed (switch_of scope) (kind_in v.ty) [] cs
-      >>= λ rows. integer_of v.at v.ty >>= λ kind. Ok (Switch p.line kind v.tree rows)
+      typed scope.env false e >>= λ v. cases_typed (switch_of scope) (integer_type_in v.ty) [] cs
+      >>= λ rows. integer_of v.at v.ty >>= λ int_type. Ok (Switch p.line int_type v.tree rows)
   stmt_typed scope (written.Break p) = break_typed (scope.in_loop || scope.in_switch) p
   stmt_typed scope (written.Continue p) = continue_typed scope.in_loop p
   stmt_typed scope (written.Return p e) = return_typed scope p e
@@ -150,11 +151,11 @@ abbrev mutual
       stmt_typed scope s >>= λ t. stmts_typed (after scope s) ss >>= λ ts. Ok (stmt t ts)
 
   -- labels, each after those before it, with the statements after them
-  pub cases_typed : Scope → Option Kind → List Label → written.Cases → TypingResult Cases
-  cases_typed scope kind before written.no_case = Ok no_case
-  cases_typed scope kind before (written.next_case (written.labelled p l ss) cs) =
-      label_typed kind before (is_last cs) p.at l >>= λ label. stmts_typed scope ss
-      >>= λ body. cases_typed scope kind (before ++ l ∷ []) cs >>= λ rest. Ok (next_case (labelled label body) rest)
+  pub cases_typed : Scope → Option IntType → List Label → written.Cases → TypingResult Cases
+  cases_typed scope int_type before written.no_case = Ok no_case
+  cases_typed scope int_type before (written.next_case (written.labelled p l ss) cs) =
+      label_typed int_type before (is_last cs) p.at l >>= λ label. stmts_typed scope ss
+      >>= λ body. cases_typed scope int_type (before ++ l ∷ []) cs >>= λ rest. Ok (next_case (labelled label body) rest)
 
 -- The body of a function that gives this type is typed so; its parameters are the locals.
 unfoldable pub body_typed : Environment → Ty → List written.Stmt → TypingResult Body

@@ -4,11 +4,11 @@ use Rattle.std.specs.Prelude.{ℕ, List, [], ◌∷◌, Bool, true, false, Optio
 use Rattle.ash_tree.specs.declared.tree.operators.BinaryOp.{BinaryOp}
 use Rattle.ash_tree.specs.declared.tree.operators.AssignOp.{AssignOp}
 use Rattle.ash_tree.specs.declared.tree.operators.AssignOp.TheVariants as assigns
-use Rattle.ash_typed.specs.declared.types.Kind.TheVariants as kinds
+use Rattle.ash_integers.specs.declared.int_type.IntType.TheVariants as ints
 use Rattle.ash_typing.specs.declared.types.Ty.{Ty}
 use Rattle.ash_typing.specs.declared.types.Ty.TheVariants as ty
 use Rattle.ash_typing.specs.declared.forms.OperatorClass.{OperatorClass}
-use Rattle.ash_typing.specs.declared.forms.OperatorClass.TheVariants as sort
+use Rattle.ash_typing.specs.declared.forms.OperatorClass.TheVariants as operator_class
 use Rattle.ash_typing.specs.declared.forms.Form.{Form}
 use Rattle.ash_typing.specs.declared.forms.Form.TheVariants as form
 use Rattle.ash_typed.specs.declared.tree.operations.Conversion.{Conversion}
@@ -23,7 +23,7 @@ use Rattle.ash_typing.specs.declared.forms.Callable.TheVariants as callables
 use Rattle.ash_typed.specs.declared.tree.operations.Operands.{Operands}
 use Rattle.ash_typed.specs.declared.tree.operations.Operands.TheVariants as operands
 use Rattle.ash_typed.specs.declared.types.VarType.{VarType}
-use Rattle.ash_typing.specs.Types.{var_type, kind_of, holds, is_same_kind, typed_operator, integers_in}
+use Rattle.ash_typing.specs.Types.{var_type, number_type, holds, is_same_integer_type, typed_operator, integers_in}
 use Rattle.ash_typed.specs.Tree.{Expr, Number, This, Invoke, Operate, Lazily, Call, Place, Exprs, place_in, converted}
 use Rattle.ash_typed.specs.StatementTree.{Initialization}
 
@@ -44,13 +44,13 @@ read_term of tree = record { ty = of; form = form.Place; tree = tree }
 
 -- A number has the first of the four integer types that holds it.
 abbrev pub number_term : ℕ → Term
-number_term n = record { ty = ty.Integer (kind_of n); form = form.Number n; tree = Number (kind_of n) n }
+number_term n = record { ty = ty.Integer (number_type n); form = form.Number n; tree = Number (number_type n) n }
 
 -- conversions
 
 -- `conversion to from` is what a value of the second type becomes in the place of one of the first.
 abbrev pub conversion : Ty → Ty → Option Conversion
-conversion (ty.Integer k) (ty.Integer j) = if is_same_kind j k then None else Some (record { from = j; to = k })
+conversion (ty.Integer k) (ty.Integer j) = if is_same_integer_type j k then None else Some (record { from = j; to = k })
 conversion _ _ = None
 
 -- `converted_to of t` is the term, converted to a type.
@@ -60,17 +60,17 @@ converted_to of t = converted (conversion of t.ty) t.tree
 -- operators between two operands
 
 -- A number alone takes the type of the other operand, where that holds it and the other is no number.
-abbrev pub taking : Form → Ty → Form → Term → Term
-taking (form.Number m) of (form.Number n) t = t
-taking _ (ty.Integer k) (form.Number n) t =
+abbrev pub adapted_number : Form → Ty → Form → Term → Term
+adapted_number (form.Number m) of (form.Number n) t = t
+adapted_number _ (ty.Integer k) (form.Number n) t =
     if holds k n then record { ty = ty.Integer k; form = form.Number n; tree = Number k n } else t
-taking _ _ _ t = t
+adapted_number _ _ _ t = t
 
 -- `adapted_by s form of t` is the operand of an operator whose other operand has this form and type: the two of a shift
 -- have a type each.
 abbrev pub adapted_by : OperatorClass → Form → Ty → Term → Term
-adapted_by sort.Shift form of t = t
-adapted_by _ form of t = taking form of t.form t
+adapted_by operator_class.Shift form of t = t
+adapted_by _ form of t = adapted_number form of t.form t
 
 -- `adapted_to s other t` is the operand of an operator whose other operand is this.
 abbrev pub adapted_to : OperatorClass → Term → Term → Term
@@ -83,7 +83,7 @@ operand_type operands.Handles = ty.Null
 
 -- The count of a shift has its own type, and any other right operand is converted.
 abbrev pub right_by : OperatorClass → Operands → Term → Expr
-right_by sort.Shift o u = u.tree
+right_by operator_class.Shift o u = u.tree
 right_by _ o u = converted_to (operand_type o) u
 
 -- `applied_by operator o a b` is what an operator makes of its operands.
@@ -148,7 +148,7 @@ call_of (callables.Target target) parameters es = Call target parameters es
 
 -- The construction of an array takes, of so many arguments, at most one: how many elements it has.
 abbrev pub array_parameters : ℕ → List Ty
-array_parameters count = if nat_eq count 0 then [] else ty.Integer kinds.Uint ∷ []
+array_parameters count = if nat_eq count 0 then [] else ty.Integer ints.Uint ∷ []
 
 -- variables
 

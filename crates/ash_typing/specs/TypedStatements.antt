@@ -9,7 +9,7 @@ use Rattle.ash_tree.specs.declared.tree.places.Place as place
 use Rattle.ash_tree.specs.declared.tree.statements.Label.{Label}
 use Rattle.ash_tree.specs.declared.tree.statements.Label.TheVariants as labels
 use Rattle.ash_tree.specs.Tree as written
-use Rattle.ash_typed.specs.declared.types.Kind.{Kind}
+use Rattle.ash_integers.specs.declared.int_type.IntType.{IntType}
 use Rattle.ash_typing.specs.declared.types.Ty.{Ty}
 use Rattle.ash_typing.specs.declared.types.Ty.TheVariants as ty
 use Rattle.ash_typing.specs.Coercions.{fits}
@@ -30,7 +30,7 @@ use Rattle.ash_typing.specs.Scopes.{Scope, block_of, loop_of, switch_of, with_va
 -- The types of a scope are known.
 pub record IsKnownScope (scope : Scope) : Type 0 where
   pub env : IsKnown scope.env
-  pub gives : IsKnownType scope.gives
+  pub result : IsKnownType scope.result
 
 -- Variables of a type are each seen from the end of their own on, and none of their names is taken in the block.
 pub data AreDeclared : Scope → Ty → List written.Decl → List Initialization → Type 0 where
@@ -68,13 +68,13 @@ pub data IsHead : Scope → written.Stmt → Head → Type 0 where
       → IsHead scope (written.Evaluate p e) (evaluated_head t.tree)
 
 -- The label of a `case` has a constant of the type, which no label before it has; `default` is the last label.
-pub data IsLabel : Kind → List Label → Bool → Label → Type 0 where
-  constant : {k : Kind} {before : List Label} {last : Bool} {l : Label}
+pub data IsLabel : IntType → List Label → Bool → Label → Type 0 where
+  constant : {k : IntType} {before : List Label} {last : Bool} {l : Label}
       → is_default l ≡ false
       → holds_label k l ≡ true
       → list_any (is_same_constant l) before ≡ false
       → IsLabel k before last l
-  otherwise : {k : Kind} {before : List Label} → IsLabel k before true labels.Default
+  otherwise : {k : IntType} {before : List Label} → IsLabel k before true labels.Default
 
 abbrev pub tree_of_term : Term → Expr
 tree_of_term t = t.tree
@@ -126,7 +126,7 @@ mutual
         → IsStmt (loop_of (after (block_of scope) f)) s t
         → IsStmt scope (written.For p f c es s) (For p.line h (repeated First tree (map tree_of_term ts) t))
     -- switch (e) { case .. }
-    switch : {scope : Scope} {p : place.Place} {e : written.Expr} {cs : written.Cases} {t : Term} {k : Kind}
+    switch : {scope : Scope} {p : place.Place} {e : written.Expr} {cs : written.Cases} {t : Term} {k : IntType}
         {rows : Cases}
         → HasType scope.env false e t
         → t.ty ≡ ty.Integer k
@@ -142,12 +142,12 @@ mutual
         → IsStmt scope (written.Continue p) (Continue p.line)
     -- return; and return e;
     return_nothing : {scope : Scope} {p : place.Place}
-        → scope.gives ≡ ty.Void
+        → scope.result ≡ ty.Void
         → IsStmt scope (written.Return p None) (Return p.line None)
     return_value : {scope : Scope} {p : place.Place} {e : written.Expr} {t : Term}
         → HasType scope.env false e t
-        → fits scope.env.declarations.classes scope.gives t.ty ≡ true
-        → IsStmt scope (written.Return p (Some e)) (Return p.line (Some (converted_to scope.gives t)))
+        → fits scope.env.declarations.classes scope.result t.ty ≡ true
+        → IsStmt scope (written.Return p (Some e)) (Return p.line (Some (converted_to scope.result t)))
 
   -- Statements each see the variables of those before them.
   pub data AreStmts : Scope → written.Stmts → Stmts → Type 0 where
@@ -158,10 +158,10 @@ mutual
         → AreStmts scope (written.stmt s ss) (stmt t ts)
 
   -- Labels come after those before them, with the statements after each.
-  pub data AreCases : Scope → Kind → List Label → written.Cases → Cases → Type 0 where
-    no_more_cases : {scope : Scope} {k : Kind} {before : List Label}
+  pub data AreCases : Scope → IntType → List Label → written.Cases → Cases → Type 0 where
+    no_more_cases : {scope : Scope} {k : IntType} {before : List Label}
         → AreCases scope k before written.no_case no_case
-    more_cases : {scope : Scope} {k : Kind} {before : List Label} {p : place.Place} {l : Label} {ss : written.Stmts}
+    more_cases : {scope : Scope} {k : IntType} {before : List Label} {p : place.Place} {l : Label} {ss : written.Stmts}
         {cs : written.Cases} {ts : Stmts} {rows : Cases}
         → IsLabel k before (is_last cs) l
         → AreStmts scope ss ts

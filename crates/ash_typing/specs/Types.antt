@@ -4,8 +4,8 @@ use Rattle.ash_tree.specs.declared.tree.types.Primitive.{Primitive}
 use Rattle.ash_tree.specs.declared.tree.types.Primitive.TheVariants as primitives
 use Rattle.ash_tree.specs.declared.tree.operators.BinaryOp.{BinaryOp}
 use Rattle.ash_tree.specs.declared.tree.operators.BinaryOp.TheVariants as binary
-use Rattle.ash_typed.specs.declared.types.Kind.{Kind}
-use Rattle.ash_typed.specs.declared.types.Kind.TheVariants.{Int, Uint, Int64, Uint64}
+use Rattle.ash_integers.specs.declared.int_type.IntType.{IntType}
+use Rattle.ash_integers.specs.declared.int_type.IntType.TheVariants.{Int, Uint, Int64, Uint64}
 use Rattle.ash_typed.specs.declared.types.ObjectType.{ObjectType}
 use Rattle.ash_typed.specs.declared.types.Element.{Element}
 use Rattle.ash_typed.specs.declared.types.Element.TheVariants as elements
@@ -15,7 +15,7 @@ use Rattle.ash_typed.specs.declared.types.VarType.TheVariants as vars
 use Rattle.ash_typing.specs.declared.types.Ty.{Ty}
 use Rattle.ash_typing.specs.declared.types.Ty.TheVariants as ty
 use Rattle.ash_typing.specs.declared.forms.OperatorClass.{OperatorClass}
-use Rattle.ash_typing.specs.declared.forms.OperatorClass.TheVariants as sort
+use Rattle.ash_typing.specs.declared.forms.OperatorClass.TheVariants as operator_class
 use Rattle.ash_typed.specs.declared.tree.operations.Calculator.{Calculator}
 use Rattle.ash_typed.specs.declared.tree.operations.Calculator.TheVariants as calculators
 use Rattle.ash_typed.specs.declared.tree.operations.Comparator.TheVariants as comparators
@@ -28,56 +28,57 @@ use Rattle.ash_typed.specs.TypeOf.{ValueType, no_value, null_value, value, as_va
 
 -- integer types
 
-abbrev pub is_signed : Kind → Bool
+abbrev pub is_signed : IntType → Bool
 is_signed Int = true
 is_signed Uint = false
 is_signed Int64 = true
 is_signed Uint64 = false
 
-abbrev pub is_wide : Kind → Bool
+abbrev pub is_wide : IntType → Bool
 is_wide Int = false
 is_wide Uint = false
 is_wide Int64 = true
 is_wide Uint64 = true
 
--- `kind_by signed wide` is the integer type with a sign or without, of 64 bits or of 32.
-abbrev pub kind_by : (signed wide : Bool) → Kind
-kind_by true false = Int
-kind_by false false = Uint
-kind_by true true = Int64
-kind_by false true = Uint64
+-- `integer_type_of signed wide` is the integer type with a sign or without, of 64 bits or of 32.
+abbrev pub integer_type_of : (signed wide : Bool) → IntType
+integer_type_of true false = Int
+integer_type_of false false = Uint
+integer_type_of true true = Int64
+integer_type_of false true = Uint64
 
--- Two integer types meet at the greater width, signed where either is.
-abbrev pub meeting : Kind → Kind → Kind
-meeting j k = kind_by (is_signed j || is_signed k) (is_wide j || is_wide k)
+-- `common_integer_type j k` is the type to which operands of two integer types are converted: of the greater width, and
+-- signed where either is.
+abbrev pub common_integer_type : IntType → IntType → IntType
+common_integer_type j k = integer_type_of (is_signed j || is_signed k) (is_wide j || is_wide k)
 
 -- `signed k` is the signed type of the same width.
-abbrev pub signed : Kind → Kind
-signed k = kind_by true (is_wide k)
+abbrev pub signed : IntType → IntType
+signed k = integer_type_of true (is_wide k)
 
-abbrev pub is_same_kind : Kind → Kind → Bool
-is_same_kind Int Int = true
-is_same_kind Uint Uint = true
-is_same_kind Int64 Int64 = true
-is_same_kind Uint64 Uint64 = true
-is_same_kind _ _ = false
+abbrev pub is_same_integer_type : IntType → IntType → Bool
+is_same_integer_type Int Int = true
+is_same_integer_type Uint Uint = true
+is_same_integer_type Int64 Int64 = true
+is_same_integer_type Uint64 Uint64 = true
+is_same_integer_type _ _ = false
 
 -- The type holds a number that is not negative.
-abbrev pub holds : Kind → ℕ → Bool
+abbrev pub holds : IntType → ℕ → Bool
 holds Int n = nat_lt n (2 ^ 31)
 holds Uint n = nat_lt n (2 ^ 32)
 holds Int64 n = nat_lt n (2 ^ 63)
 holds Uint64 n = true
 
--- `kind_of n` is the type of a number by itself: the first that holds it.
-abbrev pub kind_of : ℕ → Kind
-kind_of n = if holds Int n then Int else (if holds Uint n then Uint else (if holds Int64 n then Int64 else Uint64))
+-- `number_type n` is the type of a number by itself: the first that holds it.
+abbrev pub number_type : ℕ → IntType
+number_type n = if holds Int n then Int else (if holds Uint n then Uint else (if holds Int64 n then Int64 else Uint64))
 
 -- objects
 
 abbrev pub is_same_element : Element → Element → Bool
 is_same_element elements.Bool elements.Bool = true
-is_same_element (elements.Integer j) (elements.Integer k) = is_same_kind j k
+is_same_element (elements.Integer j) (elements.Integer k) = is_same_integer_type j k
 is_same_element (elements.Class a) (elements.Class b) = nat_eq a b
 is_same_element (elements.Interface a) (elements.Interface b) = nat_eq a b
 is_same_element (elements.Host a) (elements.Host b) = nat_eq a b
@@ -119,7 +120,7 @@ abbrev pub is_same : Ty → Ty → Bool
 is_same ty.Unknown _ = true
 is_same _ ty.Unknown = true
 is_same ty.Bool ty.Bool = true
-is_same (ty.Integer j) (ty.Integer k) = is_same_kind j k
+is_same (ty.Integer j) (ty.Integer k) = is_same_integer_type j k
 is_same (ty.Object o) (ty.Object p) = is_same_object o p
 is_same (ty.Handle o) (ty.Handle p) = is_same_object o p
 is_same ty.Null ty.Null = true
@@ -212,7 +213,7 @@ common_object o t = if gives_object o t then Some (ty.Handle o) else None
 abbrev pub common : Ty → Ty → Option Ty
 common ty.Bool ty.Bool = Some ty.Bool
 common ty.Bool ty.Unknown = Some ty.Bool
-common (ty.Integer j) (ty.Integer k) = Some (ty.Integer (meeting j k))
+common (ty.Integer j) (ty.Integer k) = Some (ty.Integer (common_integer_type j k))
 common (ty.Integer j) ty.Unknown = Some (ty.Integer j)
 common (ty.Object o) t = common_object o t
 common (ty.Handle o) t = common_object o t
@@ -225,30 +226,30 @@ common _ _ = None
 
 -- operators
 
--- `operator_class_of op` is what an operator between two operands is of.
+-- `operator_class_of op` is the class of an operator between two operands.
 abbrev pub operator_class_of : BinaryOp → OperatorClass
-operator_class_of binary.Multiply = sort.Arithmetic
-operator_class_of binary.Divide = sort.Arithmetic
-operator_class_of binary.Remainder = sort.Arithmetic
-operator_class_of binary.Add = sort.Arithmetic
-operator_class_of binary.Subtract = sort.Arithmetic
-operator_class_of binary.ShiftLeft = sort.Shift
-operator_class_of binary.ShiftRight = sort.Shift
-operator_class_of binary.ShiftRightArithmetic = sort.Shift
-operator_class_of binary.BitAnd = sort.Arithmetic
-operator_class_of binary.BitXor = sort.Arithmetic
-operator_class_of binary.BitOr = sort.Arithmetic
-operator_class_of binary.Less = sort.Order
-operator_class_of binary.LessOrEqual = sort.Order
-operator_class_of binary.Greater = sort.Order
-operator_class_of binary.GreaterOrEqual = sort.Order
-operator_class_of binary.Equal = sort.Equality
-operator_class_of binary.NotEqual = sort.Equality
-operator_class_of binary.Is = sort.Identity
-operator_class_of binary.NotIs = sort.Identity
-operator_class_of binary.Xor = sort.Logic
-operator_class_of binary.And = sort.Logic
-operator_class_of binary.Or = sort.Logic
+operator_class_of binary.Multiply = operator_class.Arithmetic
+operator_class_of binary.Divide = operator_class.Arithmetic
+operator_class_of binary.Remainder = operator_class.Arithmetic
+operator_class_of binary.Add = operator_class.Arithmetic
+operator_class_of binary.Subtract = operator_class.Arithmetic
+operator_class_of binary.ShiftLeft = operator_class.Shift
+operator_class_of binary.ShiftRight = operator_class.Shift
+operator_class_of binary.ShiftRightArithmetic = operator_class.Shift
+operator_class_of binary.BitAnd = operator_class.Arithmetic
+operator_class_of binary.BitXor = operator_class.Arithmetic
+operator_class_of binary.BitOr = operator_class.Arithmetic
+operator_class_of binary.Less = operator_class.Order
+operator_class_of binary.LessOrEqual = operator_class.Order
+operator_class_of binary.Greater = operator_class.Order
+operator_class_of binary.GreaterOrEqual = operator_class.Order
+operator_class_of binary.Equal = operator_class.Equality
+operator_class_of binary.NotEqual = operator_class.Equality
+operator_class_of binary.Is = operator_class.Identity
+operator_class_of binary.NotIs = operator_class.Identity
+operator_class_of binary.Xor = operator_class.Logic
+operator_class_of binary.And = operator_class.Logic
+operator_class_of binary.Or = operator_class.Logic
 
 -- `typed_operator op` is what an operator is in a typed tree.
 abbrev pub typed_operator : BinaryOp → Operator
@@ -290,45 +291,44 @@ binary_of calculators.BitXor = binary.BitXor
 binary_of calculators.BitOr = binary.BitOr
 
 -- `integers_in o` is the integer type of operands, where they are integers.
-abbrev pub integers_in : Operands → Kind
+abbrev pub integers_in : Operands → IntType
 integers_in (operands.Integers k) = k
 integers_in _ = Int
 
 -- An operator takes a type anywhere.
 abbrev pub takes : OperatorClass → Ty → Bool
 takes _ ty.Unknown = true
-takes sort.Arithmetic (ty.Integer _) = true
-takes sort.Shift (ty.Integer _) = true
-takes sort.Order (ty.Integer _) = true
-takes sort.Equality (ty.Integer _) = true
-takes sort.Equality ty.Bool = true
-takes sort.Identity (ty.Object _) = true
-takes sort.Identity (ty.Handle _) = true
-takes sort.Identity ty.Null = true
-takes sort.Logic ty.Bool = true
+takes operator_class.Arithmetic (ty.Integer _) = true
+takes operator_class.Shift (ty.Integer _) = true
+takes operator_class.Order (ty.Integer _) = true
+takes operator_class.Equality (ty.Integer _) = true
+takes operator_class.Equality ty.Bool = true
+takes operator_class.Identity (ty.Object _) = true
+takes operator_class.Identity (ty.Handle _) = true
+takes operator_class.Identity ty.Null = true
+takes operator_class.Logic ty.Bool = true
 takes _ _ = false
 
--- `assumed s other of` is what an operand of an unknown type is taken for, where the other is of another type.
-abbrev pub assumed : OperatorClass → Ty → Ty → Ty
-assumed sort.Equality ty.Bool ty.Unknown = ty.Bool
-assumed sort.Identity _ ty.Unknown = ty.Null
-assumed sort.Logic _ ty.Unknown = ty.Bool
-assumed _ _ ty.Unknown = ty.Integer Int
-assumed _ _ t = t
+-- `assumed_type s other of` is what an operand of an unknown type is taken for, where the other is of another type.
+abbrev pub assumed_type : OperatorClass → Ty → Ty → Ty
+assumed_type operator_class.Equality ty.Bool ty.Unknown = ty.Bool
+assumed_type operator_class.Identity _ ty.Unknown = ty.Null
+assumed_type operator_class.Logic _ ty.Unknown = ty.Bool
+assumed_type _ _ ty.Unknown = ty.Integer Int
+assumed_type _ _ t = t
 
--- `meets s t u` is what an operator does with operands of these types, where it takes them: what both become, and what
--- comes out.
-abbrev pub meets : OperatorClass → Ty → Ty → Option Operands
-meets sort.Arithmetic (ty.Integer j) (ty.Integer k) = Some (operands.Integers (meeting j k))
-meets sort.Shift (ty.Integer j) (ty.Integer k) = Some (operands.Integers j)
-meets sort.Order (ty.Integer j) (ty.Integer k) = Some (operands.Integers (meeting j k))
-meets sort.Equality (ty.Integer j) (ty.Integer k) = Some (operands.Integers (meeting j k))
-meets sort.Equality ty.Bool ty.Bool = Some operands.Bools
-meets sort.Identity a b = if agrees a b then Some operands.Handles else None
-meets sort.Logic ty.Bool ty.Bool = Some operands.Bools
-meets _ _ _ = None
+-- `common_operands s t u` is what an operator takes operands of these types for, where it takes them: what both become.
+abbrev pub common_operands : OperatorClass → Ty → Ty → Option Operands
+common_operands operator_class.Arithmetic (ty.Integer j) (ty.Integer k) = Some (operands.Integers (common_integer_type j k))
+common_operands operator_class.Shift (ty.Integer j) (ty.Integer k) = Some (operands.Integers j)
+common_operands operator_class.Order (ty.Integer j) (ty.Integer k) = Some (operands.Integers (common_integer_type j k))
+common_operands operator_class.Equality (ty.Integer j) (ty.Integer k) = Some (operands.Integers (common_integer_type j k))
+common_operands operator_class.Equality ty.Bool ty.Bool = Some operands.Bools
+common_operands operator_class.Identity a b = if agrees a b then Some operands.Handles else None
+common_operands operator_class.Logic ty.Bool ty.Bool = Some operands.Bools
+common_operands _ _ _ = None
 
-abbrev pub outcome : OperatorClass → Operands → Ty
-outcome sort.Arithmetic (operands.Integers k) = ty.Integer k
-outcome sort.Shift (operands.Integers k) = ty.Integer k
-outcome _ _ = ty.Bool
+abbrev pub operator_result : OperatorClass → Operands → Ty
+operator_result operator_class.Arithmetic (operands.Integers k) = ty.Integer k
+operator_result operator_class.Shift (operands.Integers k) = ty.Integer k
+operator_result _ _ = ty.Bool

@@ -13,8 +13,8 @@ use Rattle.ash_tree.specs.declared.tree.operators.BinaryOp.{BinaryOp}
 use Rattle.ash_tree.specs.declared.tree.operators.AssignOp.{AssignOp}
 use Rattle.ash_tree.specs.declared.tree.operators.AssignOp.TheVariants as assigns
 use Rattle.ash_tree.specs.Tree as written
-use Rattle.ash_typed.specs.declared.types.Kind.{Kind}
-use Rattle.ash_typed.specs.declared.types.Kind.TheVariants.{Uint}
+use Rattle.ash_integers.specs.declared.int_type.IntType.{IntType}
+use Rattle.ash_integers.specs.declared.int_type.IntType.TheVariants.{Uint}
 use Rattle.ash_typed.specs.declared.types.Element.{Element}
 use Rattle.ash_typed.specs.declared.types.ObjectType.{ObjectType}
 use Rattle.ash_typed.specs.declared.types.ObjectType.TheVariants as objects
@@ -30,7 +30,7 @@ use Rattle.ash_typed.specs.declared.tree.operations.Operands.{Operands}
 use Rattle.ash_typed.specs.declared.tree.operations.Operands.TheVariants as operands
 use Rattle.ash_typed.specs.declared.tree.operations.Step.TheVariants as steps
 use Rattle.ash_typing.specs.Types.{is_variable, is_result, var_type, signed, common, object_of, ty_of, ty_of_element}
-use Rattle.ash_typing.specs.Types.{operator_class_of, binary_of, meets, outcome}
+use Rattle.ash_typing.specs.Types.{operator_class_of, binary_of, common_operands, operator_result}
 use Rattle.ash_typed.specs.Tree.{Expr, Truth, Null, This, Read, Invoke, Cast, Call, Alter, Conditional, Assign, Update}
 use Rattle.ash_typed.specs.Tree.{Count, Place, Held, Indexed, Exprs, no_expr, expr}
 use Rattle.ash_typing.specs.Coercions.{fits}
@@ -84,8 +84,10 @@ pub record IsKnown (env : Environment) : Type 0 where
 -- terms
 
 -- The operator takes the two terms, each adapted to the other, for these operands.
-abbrev pub Meet : BinaryOp → Term → Term → Operands → Type 0
-Meet op t u o = meets (operator_class_of op) (adapted_to (operator_class_of op) u t).ty (adapted_to (operator_class_of op) t u).ty ≡ Some o
+abbrev pub AreUnified : BinaryOp → Term → Term → Operands → Type 0
+AreUnified op t u o =
+    common_operands (operator_class_of op) (adapted_to (operator_class_of op) u t).ty (adapted_to (operator_class_of op) t u).ty
+    ≡ Some o
 
 -- `left_of` is what becomes of the left operand.
 abbrev pub left_of : BinaryOp → Operands → Term → Term → Expr
@@ -133,7 +135,7 @@ mutual
         → HasType env false e t
         → HasType env left (written.Brackets p e) (record { ty = t.ty; form = bracketed t.form; tree = t.tree })
     -- `prim(e)`, which can't be assigned
-    to_integer : {left : Bool} {p : place.Place} {to : Primitive} {e : written.Expr} {t : Term} {j k : Kind}
+    to_integer : {left : Bool} {p : place.Place} {to : Primitive} {e : written.Expr} {t : Term} {j k : IntType}
         → HasType env false e t
         → ty_of to ≡ ty.Integer k
         → t.ty ≡ ty.Integer j
@@ -165,16 +167,16 @@ mutual
         → SuffixesHaveType env t ss u
         → HasType env left (written.Postfix p e ss) u
     -- + e, which can't be assigned, - e, ~ e
-    plus : {left : Bool} {p : place.Place} {e : written.Expr} {t : Term} {k : Kind}
+    plus : {left : Bool} {p : place.Place} {e : written.Expr} {t : Term} {k : IntType}
         → HasType env false e t
         → t.ty ≡ ty.Integer k
         → HasType env left (written.Unary p unary.Plus e) (term (ty.Integer k) t.tree)
-    minus : {left : Bool} {p : place.Place} {e : written.Expr} {t : Term} {k : Kind}
+    minus : {left : Bool} {p : place.Place} {e : written.Expr} {t : Term} {k : IntType}
         → HasType env false e t
         → t.ty ≡ ty.Integer k
         → HasType env left (written.Unary p unary.Minus e)
         (term (ty.Integer (signed k)) (Alter (changes.Negate (signed k)) (converted_to (ty.Integer (signed k)) t)))
-    complement : {left : Bool} {p : place.Place} {e : written.Expr} {t : Term} {k : Kind}
+    complement : {left : Bool} {p : place.Place} {e : written.Expr} {t : Term} {k : IntType}
         → HasType env false e t
         → t.ty ≡ ty.Integer k
         → HasType env left (written.Unary p unary.BitNot e) (term (ty.Integer k) (Alter (changes.Complement k) t.tree))
@@ -184,12 +186,12 @@ mutual
         → t.ty ≡ ty.Bool
         → HasType env left (written.Unary p unary.Not e) (term ty.Bool (Alter changes.Not t.tree))
     -- ++ e, -- e
-    increment : {left : Bool} {p : place.Place} {e : written.Expr} {t : Term} {at : Place} {k : Kind}
+    increment : {left : Bool} {p : place.Place} {e : written.Expr} {t : Term} {at : Place} {k : IntType}
         → HasType env false e t
         → assignable t.form t.tree ≡ Some at
         → t.ty ≡ ty.Integer k
         → HasType env left (written.Unary p unary.Increment e) (term (ty.Integer k) (Count at k steps.Increment))
-    decrement : {left : Bool} {p : place.Place} {e : written.Expr} {t : Term} {at : Place} {k : Kind}
+    decrement : {left : Bool} {p : place.Place} {e : written.Expr} {t : Term} {at : Place} {k : IntType}
         → HasType env false e t
         → assignable t.form t.tree ≡ Some at
         → t.ty ≡ ty.Integer k
@@ -227,14 +229,14 @@ mutual
         → HasType env left (written.Assign p e assigns.Assign v) (term t.ty (Assign at (converted_to t.ty u)))
     -- e op= v, where e is a place of an integer type: what is there is an operand of its type
     update : {left : Bool} {p : place.Place} {op : AssignOp} {c : Calculator} {e v : written.Expr} {t u : Term}
-        {at : Place} {j k : Kind}
+        {at : Place} {j k : IntType}
         → operator_of op ≡ Some c
         → HasType env false e t
         → assignable t.form t.tree ≡ Some at
         → is_stored t.form t.ty ≡ true
         → t.ty ≡ ty.Integer k
         → HasType env false v u
-        → Meet (binary_of c) (term t.ty Null) u (operands.Integers j)
+        → AreUnified (binary_of c) (term t.ty Null) u (operands.Integers j)
         → HasType env left (written.Assign p e op v)
         (term t.ty (Update at k (record { operator = c; of = j })
         (right_of (binary_of c) (operands.Integers j) (term t.ty Null) u)))
@@ -252,8 +254,9 @@ mutual
     no_more : {t : Term} → LinksHaveType env t written.no_link t
     operated : {op : BinaryOp} {e : written.Expr} {ls : written.Links} {t u v : Term} {o : Operands}
         → HasType env false e u
-        → Meet op t u o
-        → LinksHaveType env (term (outcome (operator_class_of op) o) (applied op o (left_of op o t u) (right_of op o t u))) ls v
+        → AreUnified op t u o
+        → LinksHaveType env
+        (term (operator_result (operator_class_of op) o) (applied op o (left_of op o t u) (right_of op o t u))) ls v
         → LinksHaveType env t (written.link op e ls) v
 
   -- Suffixes have the type of the term, with what is before the first.
@@ -280,19 +283,19 @@ mutual
         → SuffixHasType env t (written.Method p text es)
         (term m.result (Invoke t.tree m.method (map var_type m.parameters) trees))
     -- [e], of an array
-    index : {e : written.Expr} {t u : Term} {elements : Element} {k : Kind}
+    index : {e : written.Expr} {t u : Term} {elements : Element} {k : IntType}
         → object_of t.ty ≡ Some (objects.Array elements)
         → HasType env false e u
         → u.ty ≡ ty.Integer k
         → SuffixHasType env t (written.Index e)
         (read_term (ty_of_element elements) (Read (Indexed t.tree (converted_to (ty.Integer Uint) u) elements)))
     -- ++
-    increment_after : {t : Term} {at : Place} {k : Kind}
+    increment_after : {t : Term} {at : Place} {k : IntType}
         → assignable t.form t.tree ≡ Some at
         → t.ty ≡ ty.Integer k
         → SuffixHasType env t written.Increment (term (ty.Integer k) (Count at k steps.IncrementAfter))
     -- --
-    decrement_after : {t : Term} {at : Place} {k : Kind}
+    decrement_after : {t : Term} {at : Place} {k : IntType}
         → assignable t.form t.tree ≡ Some at
         → t.ty ≡ ty.Integer k
         → SuffixHasType env t written.Decrement (term (ty.Integer k) (Count at k steps.DecrementAfter))

@@ -2,7 +2,7 @@
 
 use ash_typed::{Calculator, Comparator, Lazy, Target, VarType};
 
-/// What an operator between two operands is of.
+/// The class of an operator between two operands, by the types that it takes.
 #[derive(Clone, Copy)]
 pub enum OperatorClass {
     /// `+ - * / % & ^ |`

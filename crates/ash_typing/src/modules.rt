@@ -48,18 +48,21 @@ pub fn typing_of_modules()
 /// That the fault of a module is at one of the tokens that derive it, whatever is registered, and at one that means
 /// what a fault of its rule may be at. It does nothing when it runs.
 pub fn faults_are_at_tokens()
-    ensures at_a_token { (calls : List Registration) (free : ℕ) (tokens : Tokens) (is : List written.Item)
-        (fault : Fault) → Derives free tokens is → module_typed calls is ≡ Err fault
+    ensures at_a_token { (calls : List Registration) (free : ℕ) (tokens : Tokens)
+        (is : List written.Item) (fault : Fault)
+        → Derives free tokens is → module_typed calls is ≡ Err fault
         → IsTokenOf tokens fault.at }
-    ensures at_its_token { (calls : List Registration) (free : ℕ) (tokens : Tokens) (is : List written.Item)
-        (fault : Fault) → Derives free tokens is → module_typed calls is ≡ Err fault
+    ensures at_its_token { (calls : List Registration) (free : ℕ) (tokens : Tokens)
+        (is : List written.Item) (fault : Fault)
+        → Derives free tokens is → module_typed calls is ≡ Err fault
         → IsFaultOf tokens fault }
 {}
 
 /// That where the fault of a module is reported, its rule is broken: a phrase is there of which what the rule says is
 /// true, with what that phrase sees. It does nothing when it runs.
 pub fn faults_are_what_they_say()
-    ensures broken_there { (calls : List Registration) (free : ℕ) (tokens : Tokens) (is : List written.Item)
-        (fault : Fault) → Derives free tokens is → module_typed calls is ≡ Err fault
+    ensures broken_there { (calls : List Registration) (free : ℕ) (tokens : Tokens)
+        (is : List written.Item) (fault : Fault)
+        → Derives free tokens is → module_typed calls is ≡ Err fault
         → IsBrokenAt calls is tokens fault }
 {}

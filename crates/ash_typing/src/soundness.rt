@@ -30,7 +30,7 @@ pub fn typed_is_sound()
         → AllDeclareInBlocks ss → AreStmts scope ss ts → statements.AreStmts (seen_at scope) ts }
     ensures modules { (calls : List Registration) (is : List written.Item) (typed : Module)
         → ItemsDeclareInBlocks is → IsTyped calls is typed → IsSound (offered calls) typed }
-    ensures derived { (calls : List Registration) (free : ℕ) (tokens : Tokens) (is : List written.Item)
-        (typed : Module) → Derives free tokens is → IsTyped calls is typed
+    ensures derived { (calls : List Registration) (free : ℕ) (tokens : Tokens)
+        (is : List written.Item) (typed : Module) → Derives free tokens is → IsTyped calls is typed
         → IsSound (offered calls) typed }
 {}

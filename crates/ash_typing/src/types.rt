@@ -1,12 +1,12 @@
 //! Types, as the rules of typing see them (AngelScript manual, "Data types").
 
-use ash_typed::{Kind, ObjectType};
+use ash_typed::{IntType, ObjectType};
 
 /// The type of a variable or of an expression.
 #[derive(Clone, Copy, Debug)]
 pub enum Ty {
     Bool,
-    Integer(Kind),
+    Integer(IntType),
     /// An object that the variable itself is: `T x`.
     Object(ObjectType),
     /// A handle of an object: `T@ x`, and each expression that gives an object and is no variable.

@@ -14,7 +14,7 @@ use Rattle.ash_host.specs.Calls.{Start}
 use Rattle.ash_host.specs.Objects.{Plain, Array, Host, Objects}
 use Rattle.ash_typed.specs.declared.types.Element as typed_element
 use Rattle.ash_typed.specs.declared.types.Element.TheVariants as elements
-use Rattle.ash_typed.specs.declared.types.Kind.TheVariants as kinds
+use Rattle.ash_integers.specs.declared.int_type.IntType.TheVariants as ints
 use Rattle.ash_typed.specs.declared.types.ObjectType.TheVariants as objects
 use Rattle.ash_typed.specs.declared.types.VarType.TheVariants as vars
 use Rattle.ash_typed.specs.TypeOf.{value, type_of_element}
@@ -73,10 +73,10 @@ pub record IsMade (c : Context) (env : Environment) (envs : List Environment) (i
 
 pub zero_of_element : {p : Program} {all : Objects (List ℕ)} (e : typed_element.Element) → IsValue p all (type_of_element e) (zero_element (element_of p e))
 zero_of_element elements.Bool = is_truth
-zero_of_element (elements.Integer kinds.Int) = is_integer (integer_word kinds.Int (pos 0))
-zero_of_element (elements.Integer kinds.Uint) = is_integer (integer_word kinds.Uint (pos 0))
-zero_of_element (elements.Integer kinds.Int64) = is_integer (integer_word kinds.Int64 (pos 0))
-zero_of_element (elements.Integer kinds.Uint64) = is_integer (integer_word kinds.Uint64 (pos 0))
+zero_of_element (elements.Integer ints.Int) = is_integer (integer_word ints.Int (pos 0))
+zero_of_element (elements.Integer ints.Uint) = is_integer (integer_word ints.Uint (pos 0))
+zero_of_element (elements.Integer ints.Int64) = is_integer (integer_word ints.Int64 (pos 0))
+zero_of_element (elements.Integer ints.Uint64) = is_integer (integer_word ints.Uint64 (pos 0))
 zero_of_element (elements.Class class) = is_handle to_nothing
 zero_of_element (elements.Interface interface) = is_handle to_nothing
 zero_of_element (elements.Host kind) = is_handle to_nothing

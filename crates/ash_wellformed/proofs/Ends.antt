@@ -50,7 +50,7 @@ lived_reached frames w n false is lives = absurd (cc)
 primitive_given : {p : Program} {all : Objects (List ℕ)} {w : Word} (o : Option VarType) → IsNoObjectResult o → IsGiven p all (value_of_result o) w → IsGiven p [] (value_of_result o) w
 primitive_given None k gives_nothing = gives_nothing
 primitive_given (Some vars.Bool) k (gives is_truth) = gives is_truth
-primitive_given (Some (vars.Integer kind)) k (gives (is_integer i)) = gives (is_integer i)
+primitive_given (Some (vars.Integer int_type)) k (gives (is_integer i)) = gives (is_integer i)
 primitive_given (Some (vars.Object o)) k g = absurd k
 primitive_given (Some (vars.Handle o)) k g = absurd k
 

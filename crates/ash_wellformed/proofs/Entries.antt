@@ -85,7 +85,7 @@ pub data HasFields (c : Context) (env : Environment) : List Initialization → T
 pub record IsEntry (c : Context) (env : Environment) (result : Option VarType) (e : Entry) : Type 0 where
   pub signatures : env.signatures ≡ declared c
   pub fields : HasFields c env e.fields
-  pub body : AreStmts (record { env = env; gives = result; may_break = false; may_continue = false }) e.body
+  pub body : AreStmts (record { env = env; result = result; may_break = false; may_continue = false }) e.body
   pub returns : (result ≡ None) ⊎ AnyReturns e.body
 
 abbrev pub in_class : Context → ℕ → List VarType → Environment
@@ -156,9 +156,9 @@ module _ {c : Context} (context : IsContext c) where
 
   -- constructions
 
-  body_from : (class : ℕ) (k : Class) (o : Option Function) → IfSome o (IsConstructor (inside (declared c) class) k.name) → AreStmts (record { env = in_class c class (parameters_of o); gives = None; may_break = false; may_continue = false }) (option_map_or (λ (f : Function). f.body) o no_stmt)
+  body_from : (class : ℕ) (k : Class) (o : Option Function) → IfSome o (IsConstructor (inside (declared c) class) k.name) → AreStmts (record { env = in_class c class (parameters_of o); result = None; may_break = false; may_continue = false }) (option_map_or (λ (f : Function). f.body) o no_stmt)
   body_from class k None h = no_stmts
-  body_from class k (Some f) h = subst (λ (r : Option VarType). AreStmts (record { env = in_class c class f.parameters; gives = r; may_break = false; may_continue = false }) f.body) h.gives_nothing (h.function).body
+  body_from class k (Some f) h = subst (λ (r : Option VarType). AreStmts (record { env = in_class c class f.parameters; result = r; may_break = false; may_continue = false }) f.body) h.gives_nothing (h.function).body
 
   pub construction_entry : (class : ℕ) (k : Class) → slice_get ((c.program).tree).classes class ≡ Some k → (e : Entry) → entry_of (c.program).tree (Construction class) ≡ Some e → IsEntry c (in_class c class (parameters_of k.constructor)) None e
   construction_entry class k at e there =

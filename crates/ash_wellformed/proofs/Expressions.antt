@@ -5,7 +5,7 @@ use Rattle.std.specs.Prelude.{Option, Some}
 use Rattle.ash_host.specs.declared.word.Word.{Word}
 use Rattle.ash_host.specs.declared.word.Word.TheVariants as words
 use Rattle.ash_host.specs.Objects.{Objects, handle, handles}
-use Rattle.ash_typed.specs.declared.types.Kind.{Kind}
+use Rattle.ash_integers.specs.declared.int_type.IntType.{IntType}
 use Rattle.ash_typed.specs.declared.types.Element as typed_element
 use Rattle.ash_typed.specs.declared.types.ObjectType.{ObjectType}
 use Rattle.ash_typed.specs.declared.types.VarType.{VarType}
@@ -77,7 +77,7 @@ this_of : {p : Program} {all : Objects (List ℕ)} {class : ℕ} {o : Option ℕ
 this_of {p} {all} {class} (is_this {class = other} {number} at i) e = subst (λ (n : ℕ). IsReference all (IsOfClass p n) (words.Object number)) (same_Some other class e) (to_object at i)
 this_of no_this e = absurd (cc)
 
-integer_of : {p : Program} {all : Objects (List ℕ)} {kind : Kind} {w : Word} → IsGiven p all (value (vars.Integer kind)) w → IsInteger kind w
+integer_of : {p : Program} {all : Objects (List ℕ)} {int_type : IntType} {w : Word} → IsGiven p all (value (vars.Integer int_type)) w → IsInteger int_type w
 integer_of (gives (is_integer i)) = i
 
 null_is : {p : Program} {all : Objects (List ℕ)} {o : ObjectType} {w : Word} → IsGiven p all null_value w → IsGiven p all (value (vars.Handle o)) w
@@ -92,7 +92,7 @@ member_located number shape (operations.property i) there typed = in_property
 module _ {c : Context} {env : Environment} {envs : List Environment} where
   -- words that are no handles
 
-  integer_here : {a : Activity} {kind : Kind} {w : Word} → IsWellFormed c env envs a → IsInteger kind w → Evaluates c env envs (value (vars.Integer kind)) a w a
+  integer_here : {a : Activity} {int_type : IntType} {w : Word} → IsWellFormed c env envs a → IsInteger int_type w → Evaluates c env envs (value (vars.Integer int_type)) a w a
   integer_here h i = record { goes = goes_itself h; carried = record { value = gives (is_integer i); held = λ n e. absurd (integer_is_none n i e) } }
 
   truth_here : {a : Activity} (b : Bool) → IsWellFormed c env envs a → Evaluates c env envs (value vars.Bool) a (words.Bool b) a
@@ -117,7 +117,7 @@ module _ {c : Context} {env : Environment} {envs : List Environment} where
   altered_here : {a : Activity} {change : Change} {of : VarType} (w : Word) → IsChange change of → IsWellFormed c env envs a → Evaluates c env envs (value of) a (altered change w) a
   altered_here w x h = record { goes = goes_itself h; carried = record { value = gives (altered_value w x); held = λ n e. absurd (altered_is_none n w x e) } }
 
-  calculated_here : {a : Activity} (operator : Calculator) (of : Kind) → IsWellFormed c env envs a → (left right : Word) → IsInteger of left → IsShift operator ⊎ IsInteger of right → Leaves c (Evaluates c env envs (value (vars.Integer of)) a) (calculate (record { operator = operator; of = of }) left right a)
+  calculated_here : {a : Activity} (operator : Calculator) (of : IntType) → IsWellFormed c env envs a → (left right : Word) → IsInteger of left → IsShift operator ⊎ IsInteger of right → Leaves c (Evaluates c env envs (value (vars.Integer of)) a) (calculate (record { operator = operator; of = of }) left right a)
   calculated_here {a} operator of h left right l r = weaken (λ w b q. subst (Evaluates c env envs (value (vars.Integer of)) a w) (sym q.0) (integer_here h q.1)) (calculate_gives a (safe h) (record { operator = operator; of = of }) left right l r)
 
   element_located : {a : Activity} {e : typed_element.Element} (number : ℕ) (shape : Shape) (index : Word) → IsWellFormed c env envs a → shape_at number (a.world).objects ≡ Some shape → IsArrayOf c.program e shape → Leaves c (λ place b. (b ≡ a) × (place < length (words_in number a.world))) (index_in number index a)
@@ -131,7 +131,7 @@ module _ {c : Context} (context : IsContext c) (body : Entry → Run (Option Wor
   module _ {env : Environment} (same : env.signatures ≡ declared c) where
     mutual
       pub expression_gives : {e : Expr} {t : ValueType} → IsWellTyped env e t → {envs : List Environment} {a : Activity} → IsWellFormed c env envs a → Leaves c (Evaluates c env envs t a) (expression of_bodies e a)
-      expression_gives (sound.number {kind} {n} within) h = done (integer_here h (integer_word kind (pos n)))
+      expression_gives (sound.number {int_type} {n} within) h = done (integer_here h (integer_word int_type (pos n)))
       expression_gives (sound.truth {b}) h = done (truth_here b h)
       expression_gives sound.null h = done (null_here h)
       expression_gives (sound.this {class} is) {a = a} h = given_held (a.frame).this h (gives (is_handle (this_of (h.frame).this is)))
@@ -172,14 +172,14 @@ module _ {c : Context} (context : IsContext c) (body : Entry → Run (Option Wor
           bind (expression_gives e h) (λ w b got. bind (location_gives p (well_after got.goes)) (λ l d k.
           let still = carry (well_after got.goes) k.goes got.carried in
           after_all (goes_more got.goes k.goes) (store_gives context l w (well_after k.goes) k.located (fitting_value c of (subst (λ (x : Signatures). IsSubtype x from (value (as_value of))) same s) still.value) still.held)))
-      expression_gives (sound.update {place} {kind} {of} {operator} p e) h =
+      expression_gives (sound.update {place} {int_type} {of} {operator} p e) h =
           bind (expression_gives e h) (λ right b got. bind (location_gives p (well_after got.goes)) (λ l d k.
-          after_all (goes_more got.goes k.goes) (update_gives context kind (record { operator = operator; of = of }) right l (inr (integer_of (got.carried).value)) (well_after k.goes) k.located)))
-      expression_gives (sound.update_by_shift {place} {kind} {of} {count} {operator} s p e) h =
+          after_all (goes_more got.goes k.goes) (update_gives context int_type (record { operator = operator; of = of }) right l (inr (integer_of (got.carried).value)) (well_after k.goes) k.located)))
+      expression_gives (sound.update_by_shift {place} {int_type} {of} {count} {operator} s p e) h =
           bind (expression_gives e h) (λ right b got. bind (location_gives p (well_after got.goes)) (λ l d k.
-          after_all (goes_more got.goes k.goes) (update_gives context kind (record { operator = operator; of = of }) right l (inl s) (well_after k.goes) k.located)))
-      expression_gives (sound.count {place} {kind} {step} p) h =
-          bind (location_gives p h) (λ l b k. after_all k.goes (count_gives context kind step l (well_after k.goes) k.located))
+          after_all (goes_more got.goes k.goes) (update_gives context int_type (record { operator = operator; of = of }) right l (inl s) (well_after k.goes) k.located)))
+      expression_gives (sound.count {place} {int_type} {step} p) h =
+          bind (location_gives p h) (λ l b k. after_all k.goes (count_gives context int_type step l (well_after k.goes) k.located))
       expression_gives (sound.call {target} {parameters} {result} t args) h =
           bind (arguments_give args h) (λ ws b all. after_all all.goes (target_gives context body bodies ws (subst (λ (s : Signatures). IsTarget s target parameters result) same t) (well_after all.goes) all.carried))
 

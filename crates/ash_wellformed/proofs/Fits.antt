@@ -22,7 +22,7 @@ module _ {p : Program} {all : Objects (List ℕ)} where
 
   pub unkept : (of : VarType) {w : Word} → IsValue p all (as_value of) w → IsValue p all of w
   unkept vars.Bool v = v
-  unkept (vars.Integer kind) v = v
+  unkept (vars.Integer int_type) v = v
   unkept (vars.Object o) (is_handle r) = is_object r
   unkept (vars.Handle o) v = v
 

@@ -139,7 +139,8 @@ module _ (calls : Calls) (depth : ℕ) where
     stmt_breaks (If line c s (branch t)) a = then_yields (anyway ((tick line >> condition calls c) a)) (λ v b _. choice_yields (statement calls depth s) (statement calls depth t) v b (in_this_then (stmt_breaks s b)) (in_this_else (stmt_breaks t b)))
     stmt_breaks (Repeat line inside) a = then_yields (anyway _) (λ flow b _. no_break (after_break_yields flow b))
     stmt_breaks (For line head inside) a = then_yields (anyway _) (λ flow b _. no_break (after_break_yields flow b))
-    stmt_breaks (Switch line kind e cs) a = then_yields (anyway _) (λ flow b _. no_break (after_break_yields flow b))
+    stmt_breaks (Switch line int_type e cs) a =
+        then_yields (anyway _) (λ flow b _. no_break (after_break_yields flow b))
     stmt_breaks (Break line) a = then_yields (anyway _) (λ none b _. by_break)
     stmt_breaks (Continue line) a = then_yields (anyway _) (λ none b _. by_continue)
     stmt_breaks (Return line None) a = then_yields (anyway _) (λ none b _. by_return)

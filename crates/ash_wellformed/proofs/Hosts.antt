@@ -16,7 +16,7 @@ use Rattle.ash_host.specs.Calls.{HostCall, Invoke, Get, Set}
 use Rattle.ash_host.specs.Objects.{Plain, Script, Array, Host, Objects, handle}
 use Rattle.ash_host.specs.Records.{HostRecord, next_record}
 use Rattle.ash_host.proofs.RecordLaws.{next_record_says}
-use Rattle.ash_typed.specs.declared.types.Kind.TheVariants as kinds
+use Rattle.ash_integers.specs.declared.int_type.IntType.TheVariants as ints
 use Rattle.ash_typed.specs.declared.types.VarType.{VarType}
 use Rattle.ash_typed.specs.declared.types.VarType.TheVariants as vars
 use Rattle.ash_typed.specs.TypeOf.{ValueType, value, as_value, value_of_result}
@@ -145,18 +145,18 @@ answers_from target call w taken (Some before) e = (next_record_says target call
 
 primitive_given : {p : Program} {all : Objects (List ℕ)} (of : VarType) (w : Word) → is_of of w ≡ true → IsHostWord w → IsGiven p all (value (as_value of)) w
 primitive_given vars.Bool (words.Bool b) e f = gives is_truth
-primitive_given (vars.Integer kinds.Int) (words.Int n) e f = gives (is_integer (int f))
-primitive_given (vars.Integer kinds.Uint) (words.Uint n) e f = gives (is_integer (uint f))
-primitive_given (vars.Integer kinds.Int64) (words.Int64 n) e f = gives (is_integer (int64 f))
-primitive_given (vars.Integer kinds.Uint64) (words.Uint64 n) e f = gives (is_integer (uint64 f))
+primitive_given (vars.Integer ints.Int) (words.Int n) e f = gives (is_integer (int f))
+primitive_given (vars.Integer ints.Uint) (words.Uint n) e f = gives (is_integer (uint f))
+primitive_given (vars.Integer ints.Int64) (words.Int64 n) e f = gives (is_integer (int64 f))
+primitive_given (vars.Integer ints.Uint64) (words.Uint64 n) e f = gives (is_integer (uint64 f))
 primitive_given _ _ e f = absurd (cc)
 
 no_handle : (of : VarType) (w : Word) (n : ℕ) → is_of of w ≡ true → handle w ≡ Some n → ⊥
 no_handle vars.Bool (words.Object number) n e at = cc
-no_handle (vars.Integer kinds.Int) (words.Object number) n e at = cc
-no_handle (vars.Integer kinds.Uint) (words.Object number) n e at = cc
-no_handle (vars.Integer kinds.Int64) (words.Object number) n e at = cc
-no_handle (vars.Integer kinds.Uint64) (words.Object number) n e at = cc
+no_handle (vars.Integer ints.Int) (words.Object number) n e at = cc
+no_handle (vars.Integer ints.Uint) (words.Object number) n e at = cc
+no_handle (vars.Integer ints.Int64) (words.Object number) n e at = cc
+no_handle (vars.Integer ints.Uint64) (words.Object number) n e at = cc
 no_handle (vars.Object o) (words.Object number) n e at = cc
 no_handle (vars.Handle o) (words.Object number) n e at = cc
 no_handle of _ n e at = cc

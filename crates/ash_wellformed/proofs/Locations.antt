@@ -5,7 +5,7 @@ use Rattle.std.proofs.lemmas.Option.{same_Some}
 use Rattle.ash_host.specs.declared.word.Word.{Word}
 use Rattle.ash_host.specs.declared.word.Word.TheVariants as words
 use Rattle.ash_host.specs.Objects.{Objects, handle, handles, Lives}
-use Rattle.ash_typed.specs.declared.types.Kind.{Kind}
+use Rattle.ash_integers.specs.declared.int_type.IntType.{IntType}
 use Rattle.ash_typed.specs.declared.types.Element as typed_element
 use Rattle.ash_typed.specs.declared.types.VarType.{VarType}
 use Rattle.ash_typed.specs.declared.types.VarType.TheVariants as vars
@@ -63,7 +63,7 @@ record IsLeft (c : Context) (env : Environment) (envs : List Environment) (l : L
   pub goes : Goes c env envs a b
   pub located : IsLocated c env b l of
 
-integer_in : {p : Program} {all : Objects (List ℕ)} {kind : Kind} {w : Word} → IsValue p all (vars.Integer kind) w → IsInteger kind w
+integer_in : {p : Program} {all : Objects (List ℕ)} {int_type : IntType} {w : Word} → IsValue p all (vars.Integer int_type) w → IsInteger int_type w
 integer_in (is_integer i) = i
 
 one_lives : {p : Program} {all : Objects (List ℕ)} {of : VarType} {w : Word} → IsValue p all of w → (n : ℕ) → Contains (handles (w ∷ [])) n → Lives all n
@@ -152,25 +152,25 @@ module _ {c : Context} (context : IsContext c) {env : Environment} {envs : List 
   store_gives l w h located v held =
       bind (write_goes l w h located v) (λ none b g. done (record { goes = g; carried = carry h g (record { value = gives (kept_value v); held = held }) }))
 
-  store_integer : {a : Activity} (l : Location) {kind : Kind} (w : Word) → IsWellFormed c env envs a → IsLocated c env a l (vars.Integer kind) → IsInteger kind w → Leaves c (Evaluates c env envs (value (vars.Integer kind)) a) (store w l a)
+  store_integer : {a : Activity} (l : Location) {int_type : IntType} (w : Word) → IsWellFormed c env envs a → IsLocated c env a l (vars.Integer int_type) → IsInteger int_type w → Leaves c (Evaluates c env envs (value (vars.Integer int_type)) a) (store w l a)
   store_integer l w h located i = store_gives l w h located (is_integer i) (λ n e. absurd (integer_is_none n i e))
 
   after : {a b d : Activity} {of : ValueType} {w : Word} → Goes c env envs a b → Evaluates c env envs of b w d → Evaluates c env envs of a w d
   after g e = record { goes = goes_more g e.goes; carried = e.carried }
 
-  pub update_gives : {a : Activity} (kind : Kind) (calculation : Calculation) (right : Word) (l : Location) → IsShift calculation.operator ⊎ IsInteger calculation.of right → IsWellFormed c env envs a → IsLocated c env a l (vars.Integer kind) → Leaves c (Evaluates c env envs (value (vars.Integer kind)) a) (update kind calculation right l a)
-  update_gives {a} kind calculation right l operand h located =
+  pub update_gives : {a : Activity} (int_type : IntType) (calculation : Calculation) (right : Word) (l : Location) → IsShift calculation.operator ⊎ IsInteger calculation.of right → IsWellFormed c env envs a → IsLocated c env a l (vars.Integer int_type) → Leaves c (Evaluates c env envs (value (vars.Integer int_type)) a) (update int_type calculation right l a)
+  update_gives {a} int_type calculation right l operand h located =
       bind (bind (read_gives l h located) (λ left b r. still r (calculate_gives b (safe (well_after r.goes)) calculation (converted_to calculation.of left) right (integer_word calculation.of _) operand)))
-      (λ w d k. weaken (λ x y e. after k.goes e) (store_integer l (converted_to kind w) (well_after k.goes) k.located (integer_word kind _)))
+      (λ w d k. weaken (λ x y e. after k.goes e) (store_integer l (converted_to int_type w) (well_after k.goes) k.located (integer_word int_type _)))
     where
-      still : {b : Activity} {left : Word} {P : Word → Type 0} {x : Progress Word} → IsRead c env envs l (vars.Integer kind) a left b → Leaves c (λ w d. (d ≡ b) × P w) x → Leaves c (λ (w : Word) d. IsLeft c env envs l (vars.Integer kind) a d) x
-      still r got = weaken (λ w d q. subst (IsLeft c env envs l (vars.Integer kind) a) (sym q.0) (record { goes = r.goes; located = r.located })) got
+      still : {b : Activity} {left : Word} {P : Word → Type 0} {x : Progress Word} → IsRead c env envs l (vars.Integer int_type) a left b → Leaves c (λ w d. (d ≡ b) × P w) x → Leaves c (λ (w : Word) d. IsLeft c env envs l (vars.Integer int_type) a d) x
+      still r got = weaken (λ w d q. subst (IsLeft c env envs l (vars.Integer int_type) a) (sym q.0) (record { goes = r.goes; located = r.located })) got
 
-  pub count_gives : {a : Activity} (kind : Kind) (step : Step) (l : Location) → IsWellFormed c env envs a → IsLocated c env a l (vars.Integer kind) → Leaves c (Evaluates c env envs (value (vars.Integer kind)) a) (count_at kind step l a)
-  count_gives kind step l h located =
+  pub count_gives : {a : Activity} (int_type : IntType) (step : Step) (l : Location) → IsWellFormed c env envs a → IsLocated c env a l (vars.Integer int_type) → Leaves c (Evaluates c env envs (value (vars.Integer int_type)) a) (count_at int_type step l a)
+  count_gives int_type step l h located =
       bind (read_gives l h located) (λ old b r.
-      let new = counted_integer step kind old in
-      bind (write_goes l (counted step kind old) (well_after r.goes) r.located (is_integer new)) (λ none d g.
+      let new = counted_integer step int_type old in
+      bind (write_goes l (counted step int_type old) (well_after r.goes) r.located (is_integer new)) (λ none d g.
       let given = given_integer step (integer_in r.value) new in
       done (record {
         goes = goes_more r.goes g;

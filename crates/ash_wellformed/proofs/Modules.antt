@@ -6,7 +6,7 @@ use Rattle.std.proofs.lemmas.Option.{same_Some}
 use Rattle.ash_host.specs.declared.word.Word.{Word}
 use Rattle.ash_host.specs.Objects.{Element, Plain, Array, Host, Objects, object_at, handle, handles, fields_of}
 use Rattle.ash_host.specs.Reach.{Root, Field, ReachableIn}
-use Rattle.ash_typed.specs.declared.types.Kind.TheVariants as kinds
+use Rattle.ash_integers.specs.declared.int_type.IntType.TheVariants as ints
 use Rattle.ash_typed.specs.declared.types.Element as typed_element
 use Rattle.ash_typed.specs.declared.types.Element.TheVariants as elements
 use Rattle.ash_typed.specs.declared.types.ObjectType.{ObjectType}
@@ -26,7 +26,7 @@ more_for : (modules others : Known) (p : Program) (e : typed_element.Element) �
 more_for modules others p (elements.Class class) all k = all p.name p.tree k
 more_for modules others p (elements.Interface interface) all k = all p.name p.tree k
 more_for modules others p elements.Bool all k = tt
-more_for modules others p (elements.Integer kind) all k = tt
+more_for modules others p (elements.Integer int_type) all k = tt
 more_for modules others p (elements.Host kind) all k = tt
 
 more_object : (modules others : Known) {all : Objects (List ℕ)} {o : Plain (List ℕ)} → KnowsAll modules others → IsObject modules all o → IsObject others all o
@@ -42,10 +42,10 @@ more_modules_keep modules others all knows h = record { each = λ n o at. more_o
 module _ (modules : Known) where
   elements_known : (q : Program) (of : typed_element.Element) → IsSome (modules q.name) → IsKnownShape modules (OfElements (element_of q of))
   elements_known q elements.Bool some = tt
-  elements_known q (elements.Integer kinds.Int) some = tt
-  elements_known q (elements.Integer kinds.Uint) some = tt
-  elements_known q (elements.Integer kinds.Int64) some = tt
-  elements_known q (elements.Integer kinds.Uint64) some = tt
+  elements_known q (elements.Integer ints.Int) some = tt
+  elements_known q (elements.Integer ints.Uint) some = tt
+  elements_known q (elements.Integer ints.Int64) some = tt
+  elements_known q (elements.Integer ints.Uint64) some = tt
   elements_known q (elements.Class class) some = some
   elements_known q (elements.Interface interface) some = some
   elements_known q (elements.Host kind) some = tt
@@ -80,7 +80,7 @@ module _ (modules : Known) where
 
   element_known : {p : Program} {all : Objects (List ℕ)} (e : typed_element.Element) {w : Word} (n : ℕ) (shape : Shape) → IsKnownShape modules (OfElements (element_of p e)) → IsValue p all (type_of_element e) w → handle w ≡ Some n → shape_at n all ≡ Some shape → IsKnownShape modules shape
   element_known elements.Bool n shape k is_truth e at = absurd (cc)
-  element_known (elements.Integer kind) n shape k (is_integer i) e at = absurd (integer_is_none n i e)
+  element_known (elements.Integer int_type) n shape k (is_integer i) e at = absurd (integer_is_none n i e)
   element_known (elements.Class class) n shape k v e at = value_known n shape k v e at
   element_known (elements.Interface interface) n shape k v e at = value_known n shape k v e at
   element_known (elements.Host kind) n shape k (is_handle r) e at = reference_known n shape (λ s i. subst (IsKnownShape modules) (sym i) tt) r e at
@@ -120,7 +120,7 @@ fewer_for : (modules others : Known) (p : Program) (e : typed_element.Element) �
 fewer_for modules others p (elements.Class class) knows shape k = known_tree modules others p.name p.tree knows shape k
 fewer_for modules others p (elements.Interface interface) knows shape k = known_tree modules others p.name p.tree knows shape k
 fewer_for modules others p elements.Bool knows shape k = tt
-fewer_for modules others p (elements.Integer kind) knows shape k = tt
+fewer_for modules others p (elements.Integer int_type) knows shape k = tt
 fewer_for modules others p (elements.Host kind) knows shape k = tt
 
 fewer_object : (modules others : Known) {all : Objects (List ℕ)} {o : Plain (List ℕ)} → KnowsAll others modules → IsKnownShape others (shape_of o) → IsObject modules all o → IsObject others all o

@@ -4,7 +4,7 @@ use Rattle.std.specs.Prelude.{Some, slice_get}
 use Rattle.std.proofs.lemmas.Option.{same_Some}
 use Rattle.ash_host.specs.declared.word.Word.{Word}
 use Rattle.ash_host.specs.Objects.{Element, Handles, Hosts, Plain, Script, Array, Host, Objects, fields_of}
-use Rattle.ash_typed.specs.declared.types.Kind.TheVariants as kinds
+use Rattle.ash_integers.specs.declared.int_type.IntType.TheVariants as ints
 use Rattle.ash_typed.specs.declared.types.Element as typed_element
 use Rattle.ash_typed.specs.declared.types.Element.TheVariants as elements
 use Rattle.ash_typed.specs.declared.types.VarType.{VarType}
@@ -139,31 +139,31 @@ module _ {c : Context} (context : IsContext c) where
   -- a module that has the same elements by its types has values of the same type
   element_as : {all : Objects (List ℕ)} (q : Program) (e d : typed_element.Element) {w : Word} → IsKnownFor c.modules q d → IsNamed p.tree e → IsNamed q.tree d → element_of q d ≡ element_of p e → IsValue q all (type_of_element d) w → IsValue p all (type_of_element e) w
   element_as q elements.Bool elements.Bool k ne nd same is_truth = is_truth
-  element_as q (elements.Integer kinds.Int) (elements.Integer kinds.Int) k ne nd same (is_integer i) = is_integer i
-  element_as q (elements.Integer kinds.Uint) (elements.Integer kinds.Uint) k ne nd same (is_integer i) = is_integer i
-  element_as q (elements.Integer kinds.Int64) (elements.Integer kinds.Int64) k ne nd same (is_integer i) = is_integer i
-  element_as q (elements.Integer kinds.Uint64) (elements.Integer kinds.Uint64) k ne nd same (is_integer i) = is_integer i
+  element_as q (elements.Integer ints.Int) (elements.Integer ints.Int) k ne nd same (is_integer i) = is_integer i
+  element_as q (elements.Integer ints.Uint) (elements.Integer ints.Uint) k ne nd same (is_integer i) = is_integer i
+  element_as q (elements.Integer ints.Int64) (elements.Integer ints.Int64) k ne nd same (is_integer i) = is_integer i
+  element_as q (elements.Integer ints.Uint64) (elements.Integer ints.Uint64) k ne nd same (is_integer i) = is_integer i
   element_as q (elements.Class class) (elements.Class other) k ne nd same (is_handle r) = is_handle (refers_as (class_as q class other (one_program q k _ _ same) (level_class q k class other same)) r)
   element_as q (elements.Interface interface) (elements.Interface other) k ne nd same (is_handle r) = is_handle (refers_as (interface_as q interface other (one_program q k _ _ same) (level_interface q k interface other ne nd same)) r)
   element_as q (elements.Class class) (elements.Interface other) k ne nd same v = absurd (no_interface_there q k class other nd same)
   element_as q (elements.Interface interface) (elements.Class other) k ne nd same v = absurd (no_class_there q k interface other ne same)
   element_as q (elements.Host kind) (elements.Host other) k ne nd same (is_handle r) = is_handle (refers_as (λ shape e. e ∙ ap OfKind (same_kinds same)) r)
-  element_as q elements.Bool (elements.Integer kinds.Int) k ne nd same v = absurd (cc)
-  element_as q elements.Bool (elements.Integer kinds.Uint) k ne nd same v = absurd (cc)
-  element_as q elements.Bool (elements.Integer kinds.Int64) k ne nd same v = absurd (cc)
-  element_as q elements.Bool (elements.Integer kinds.Uint64) k ne nd same v = absurd (cc)
-  element_as q (elements.Class class) (elements.Integer kinds.Int) k ne nd same v = absurd (cc)
-  element_as q (elements.Class class) (elements.Integer kinds.Uint) k ne nd same v = absurd (cc)
-  element_as q (elements.Class class) (elements.Integer kinds.Int64) k ne nd same v = absurd (cc)
-  element_as q (elements.Class class) (elements.Integer kinds.Uint64) k ne nd same v = absurd (cc)
-  element_as q (elements.Interface interface) (elements.Integer kinds.Int) k ne nd same v = absurd (cc)
-  element_as q (elements.Interface interface) (elements.Integer kinds.Uint) k ne nd same v = absurd (cc)
-  element_as q (elements.Interface interface) (elements.Integer kinds.Int64) k ne nd same v = absurd (cc)
-  element_as q (elements.Interface interface) (elements.Integer kinds.Uint64) k ne nd same v = absurd (cc)
-  element_as q (elements.Host kind) (elements.Integer kinds.Int) k ne nd same v = absurd (cc)
-  element_as q (elements.Host kind) (elements.Integer kinds.Uint) k ne nd same v = absurd (cc)
-  element_as q (elements.Host kind) (elements.Integer kinds.Int64) k ne nd same v = absurd (cc)
-  element_as q (elements.Host kind) (elements.Integer kinds.Uint64) k ne nd same v = absurd (cc)
+  element_as q elements.Bool (elements.Integer ints.Int) k ne nd same v = absurd (cc)
+  element_as q elements.Bool (elements.Integer ints.Uint) k ne nd same v = absurd (cc)
+  element_as q elements.Bool (elements.Integer ints.Int64) k ne nd same v = absurd (cc)
+  element_as q elements.Bool (elements.Integer ints.Uint64) k ne nd same v = absurd (cc)
+  element_as q (elements.Class class) (elements.Integer ints.Int) k ne nd same v = absurd (cc)
+  element_as q (elements.Class class) (elements.Integer ints.Uint) k ne nd same v = absurd (cc)
+  element_as q (elements.Class class) (elements.Integer ints.Int64) k ne nd same v = absurd (cc)
+  element_as q (elements.Class class) (elements.Integer ints.Uint64) k ne nd same v = absurd (cc)
+  element_as q (elements.Interface interface) (elements.Integer ints.Int) k ne nd same v = absurd (cc)
+  element_as q (elements.Interface interface) (elements.Integer ints.Uint) k ne nd same v = absurd (cc)
+  element_as q (elements.Interface interface) (elements.Integer ints.Int64) k ne nd same v = absurd (cc)
+  element_as q (elements.Interface interface) (elements.Integer ints.Uint64) k ne nd same v = absurd (cc)
+  element_as q (elements.Host kind) (elements.Integer ints.Int) k ne nd same v = absurd (cc)
+  element_as q (elements.Host kind) (elements.Integer ints.Uint) k ne nd same v = absurd (cc)
+  element_as q (elements.Host kind) (elements.Integer ints.Int64) k ne nd same v = absurd (cc)
+  element_as q (elements.Host kind) (elements.Integer ints.Uint64) k ne nd same v = absurd (cc)
   element_as q _ _ k ne nd same v = absurd (cc)
 
   elements_as : {all : Objects (List ℕ)} (q : Program) (e d : typed_element.Element) {ws : List Word} → IsKnownFor c.modules q d → IsNamed p.tree e → IsNamed q.tree d → element_of q d ≡ element_of p e → AllAre q all (type_of_element d) ws → AllAre p all (type_of_element e) ws

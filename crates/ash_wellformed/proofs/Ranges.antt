@@ -14,54 +14,51 @@ use Rattle.ash_integers.specs.declared.int_type.IntType.TheVariants as ints
 use Rattle.ash_integers.specs.declared.shift.Shift.{Shift}
 use Rattle.ash_integers.specs.declared.shift.Shift.TheVariants as shifts
 use Rattle.ash_integers.specs.Integers.{bit_count_of, reduced, bits_of, from_bits, divided, shifted_by}
-use Rattle.ash_typed.specs.declared.types.Kind.{Kind}
-use Rattle.ash_typed.specs.declared.types.Kind.TheVariants as kinds
-use Rattle.ash_phrases.specs.Operators.{int_type}
 use Rattle.ash_wellformed.specs.WellFormed.{IsInRange}
 
 -- bits
 
-pub reduced_in : (kind : Kind) (z : ℤ) → IsInRange kind (reduced (int_type kind) z)
-reduced_in kinds.Int z = SFits-int_wrap w32 z
-reduced_in kinds.Uint (pos a) = omega arith
-reduced_in kinds.Uint (negsuc a) = omega arith
-reduced_in kinds.Int64 z = SFits-int_wrap w64 z
-reduced_in kinds.Uint64 (pos a) = omega arith
-reduced_in kinds.Uint64 (negsuc a) = omega arith
+pub reduced_in : (int_type : IntType) (z : ℤ) → IsInRange int_type (reduced int_type z)
+reduced_in ints.Int z = SFits-int_wrap w32 z
+reduced_in ints.Uint (pos a) = omega arith
+reduced_in ints.Uint (negsuc a) = omega arith
+reduced_in ints.Int64 z = SFits-int_wrap w64 z
+reduced_in ints.Uint64 (pos a) = omega arith
+reduced_in ints.Uint64 (negsuc a) = omega arith
 
-pub from_bits_in : (kind : Kind) (n : ℕ) → n < 2 ^ bit_count_of (int_type kind) → IsInRange kind (from_bits (int_type kind) n)
-from_bits_in kinds.Int n h = read_sfits w32 n
-from_bits_in kinds.Uint n h = h
-from_bits_in kinds.Int64 n h = read_sfits w64 n
-from_bits_in kinds.Uint64 n h = h
+pub from_bits_in : (int_type : IntType) (n : ℕ) → n < 2 ^ bit_count_of int_type → IsInRange int_type (from_bits int_type n)
+from_bits_in ints.Int n h = read_sfits w32 n
+from_bits_in ints.Uint n h = h
+from_bits_in ints.Int64 n h = read_sfits w64 n
+from_bits_in ints.Uint64 n h = h
 
-pub bits_in : (kind : Kind) (z : ℤ) → IsInRange kind z → bits_of (int_type kind) z < 2 ^ bit_count_of (int_type kind)
-bits_in kinds.Int (pos n) f = let within : n < 2 ^ 31 = f.sfits in omega arith
-bits_in kinds.Int (negsuc n) f = omega arith
-bits_in kinds.Uint (pos n) f = f
-bits_in kinds.Uint (negsuc n) f = absurd f
-bits_in kinds.Int64 (pos n) f = let within : n < 2 ^ 63 = f.sfits in omega arith
-bits_in kinds.Int64 (negsuc n) f = omega arith
-bits_in kinds.Uint64 (pos n) f = f
-bits_in kinds.Uint64 (negsuc n) f = absurd f
+pub bits_in : (int_type : IntType) (z : ℤ) → IsInRange int_type z → bits_of int_type z < 2 ^ bit_count_of int_type
+bits_in ints.Int (pos n) f = let within : n < 2 ^ 31 = f.sfits in omega arith
+bits_in ints.Int (negsuc n) f = omega arith
+bits_in ints.Uint (pos n) f = f
+bits_in ints.Uint (negsuc n) f = absurd f
+bits_in ints.Int64 (pos n) f = let within : n < 2 ^ 63 = f.sfits in omega arith
+bits_in ints.Int64 (negsuc n) f = omega arith
+bits_in ints.Uint64 (pos n) f = f
+bits_in ints.Uint64 (negsuc n) f = absurd f
 
-module _ (kind : Kind) (x y : ℤ) (f : IsInRange kind x) (g : IsInRange kind y) where
-  pub and_in : IsInRange kind (from_bits (int_type kind) (bit_and (bits_of (int_type kind) x) (bits_of (int_type kind) y)))
-  and_in = from_bits_in kind _ (and_lt (bit_count_of (int_type kind)) (bits_of (int_type kind) x) (bits_of (int_type kind) y) (bits_in kind x f) (bits_in kind y g))
+module _ (int_type : IntType) (x y : ℤ) (f : IsInRange int_type x) (g : IsInRange int_type y) where
+  pub and_in : IsInRange int_type (from_bits int_type (bit_and (bits_of int_type x) (bits_of int_type y)))
+  and_in = from_bits_in int_type _ (and_lt (bit_count_of int_type) (bits_of int_type x) (bits_of int_type y) (bits_in int_type x f) (bits_in int_type y g))
 
-  pub or_in : IsInRange kind (from_bits (int_type kind) (bit_or (bits_of (int_type kind) x) (bits_of (int_type kind) y)))
-  or_in = from_bits_in kind _ (or_lt (bit_count_of (int_type kind)) (bits_of (int_type kind) x) (bits_of (int_type kind) y) (bits_in kind x f) (bits_in kind y g))
+  pub or_in : IsInRange int_type (from_bits int_type (bit_or (bits_of int_type x) (bits_of int_type y)))
+  or_in = from_bits_in int_type _ (or_lt (bit_count_of int_type) (bits_of int_type x) (bits_of int_type y) (bits_in int_type x f) (bits_in int_type y g))
 
-  pub xor_in : IsInRange kind (from_bits (int_type kind) (bit_xor (bits_of (int_type kind) x) (bits_of (int_type kind) y)))
-  xor_in = from_bits_in kind _ (xor_lt (bit_count_of (int_type kind)) (bits_of (int_type kind) x) (bits_of (int_type kind) y) (bits_in kind x f) (bits_in kind y g))
+  pub xor_in : IsInRange int_type (from_bits int_type (bit_xor (bits_of int_type x) (bits_of int_type y)))
+  xor_in = from_bits_in int_type _ (xor_lt (bit_count_of int_type) (bits_of int_type x) (bits_of int_type y) (bits_in int_type x f) (bits_in int_type y g))
 
 -- shifts
 
-width_positive : (kind : Kind) → 0 < 2 ^ bit_count_of (int_type kind)
-width_positive kinds.Int = omega arith
-width_positive kinds.Uint = omega arith
-width_positive kinds.Int64 = omega arith
-width_positive kinds.Uint64 = omega arith
+width_positive : (int_type : IntType) → 0 < 2 ^ bit_count_of int_type
+width_positive ints.Int = omega arith
+width_positive ints.Uint = omega arith
+width_positive ints.Int64 = omega arith
+width_positive ints.Uint64 = omega arith
 
 below_32 : (z : ℤ) → mag z < 2 ^ 31 → cast_unsigned w32 z < 2 ^ 32
 below_32 (pos n) h = omega arith
@@ -77,16 +74,16 @@ shr_32 n k = below_32 (int_shr (cast_signed w32 n) k) (let within : mag (cast_si
 shr_64 : (n k : ℕ) → cast_unsigned w64 (int_shr (cast_signed w64 n) k) < 2 ^ 64
 shr_64 n k = below_64 (int_shr (cast_signed w64 n) k) (let within : mag (cast_signed w64 n) < 2 ^ 63 = (read_sfits w64 n).sfits in let less = mag_shr (cast_signed w64 n) (2 ^ k) in omega arith)
 
-shr_in : (kind : Kind) (z : ℤ) (k : ℕ) → IsInRange kind (shifted_by shifts.RightArithmetic (int_type kind) z k)
-shr_in kinds.Int z k = from_bits_in kinds.Int _ (shr_32 (bits_of ints.Int z) k)
-shr_in kinds.Uint z k = shr_32 (bits_of ints.Uint z) k
-shr_in kinds.Int64 z k = from_bits_in kinds.Int64 _ (shr_64 (bits_of ints.Int64 z) k)
-shr_in kinds.Uint64 z k = shr_64 (bits_of ints.Uint64 z) k
+shr_in : (int_type : IntType) (z : ℤ) (k : ℕ) → IsInRange int_type (shifted_by shifts.RightArithmetic int_type z k)
+shr_in ints.Int z k = from_bits_in ints.Int _ (shr_32 (bits_of ints.Int z) k)
+shr_in ints.Uint z k = shr_32 (bits_of ints.Uint z) k
+shr_in ints.Int64 z k = from_bits_in ints.Int64 _ (shr_64 (bits_of ints.Int64 z) k)
+shr_in ints.Uint64 z k = shr_64 (bits_of ints.Uint64 z) k
 
-pub shifted_in : (s : Shift) (kind : Kind) (z : ℤ) (k : ℕ) → IsInRange kind z → IsInRange kind (shifted_by s (int_type kind) z k)
-shifted_in shifts.Left kind z k f = from_bits_in kind _ (mod-lt (bits_of (int_type kind) z * 2 ^ k) (width_positive kind))
-shifted_in shifts.Right kind z k f = from_bits_in kind _ (let bits = bits_in kind z f in let less = div-le_self (bits_of (int_type kind) z) (2 ^ k) in omega arith)
-shifted_in shifts.RightArithmetic kind z k f = shr_in kind z k
+pub shifted_in : (s : Shift) (int_type : IntType) (z : ℤ) (k : ℕ) → IsInRange int_type z → IsInRange int_type (shifted_by s int_type z k)
+shifted_in shifts.Left int_type z k f = from_bits_in int_type _ (mod-lt (bits_of int_type z * 2 ^ k) (width_positive int_type))
+shifted_in shifts.Right int_type z k f = from_bits_in int_type _ (let bits = bits_in int_type z f in let less = div-le_self (bits_of int_type z) (2 ^ k) in omega arith)
+shifted_in shifts.RightArithmetic int_type z k f = shr_in int_type z k
 
 -- quotients and remainders
 
@@ -135,23 +132,23 @@ quotient_mag t h (negsuc a) (negsuc zero) z half m e =
 quotient_mag t h (pos a) (negsuc (suc b)) z half m e = subst (λ (k : ℤ). mag k < h) (same_Ok (neg_ℤ (pos (a / suc (suc b)))) z e) (let less = mag-neg (a / suc (suc b)) {a = a} (let l = div-le_self a (suc (suc b)) in omega arith) in omega arith)
 quotient_mag t h (negsuc a) (negsuc (suc b)) z half m e = subst (λ (k : ℤ). mag k < h) (same_Ok (pos (suc a / suc (suc b))) z e) (let less = halved a b in omega arith)
 
-pub quotient_in : (kind : Kind) (x y z : ℤ) → IsInRange kind x → IsInRange kind y → divided (int_type kind) x y (int_div x y) ≡ Ok z → IsInRange kind z
-quotient_in kinds.Int x y z f g e = record { sfits = quotient_mag ints.Int (2 ^ 31) x y z refl f.sfits e }
-quotient_in kinds.Int64 x y z f g e = record { sfits = quotient_mag ints.Int64 (2 ^ 63) x y z refl f.sfits e }
-quotient_in kinds.Uint (pos a) (pos b) z f g e = subst (IsInRange kinds.Uint) (divided_is ints.Uint (pos a) (pos b) (pos (a / b)) z e) (let less = div-le_self a b in omega arith)
-quotient_in kinds.Uint (pos a) (negsuc b) z f g e = absurd g
-quotient_in kinds.Uint (negsuc a) y z f g e = absurd f
-quotient_in kinds.Uint64 (pos a) (pos b) z f g e = subst (IsInRange kinds.Uint64) (divided_is ints.Uint64 (pos a) (pos b) (pos (a / b)) z e) (let less = div-le_self a b in omega arith)
-quotient_in kinds.Uint64 (pos a) (negsuc b) z f g e = absurd g
-quotient_in kinds.Uint64 (negsuc a) y z f g e = absurd f
+pub quotient_in : (int_type : IntType) (x y z : ℤ) → IsInRange int_type x → IsInRange int_type y → divided int_type x y (int_div x y) ≡ Ok z → IsInRange int_type z
+quotient_in ints.Int x y z f g e = record { sfits = quotient_mag ints.Int (2 ^ 31) x y z refl f.sfits e }
+quotient_in ints.Int64 x y z f g e = record { sfits = quotient_mag ints.Int64 (2 ^ 63) x y z refl f.sfits e }
+quotient_in ints.Uint (pos a) (pos b) z f g e = subst (IsInRange ints.Uint) (divided_is ints.Uint (pos a) (pos b) (pos (a / b)) z e) (let less = div-le_self a b in omega arith)
+quotient_in ints.Uint (pos a) (negsuc b) z f g e = absurd g
+quotient_in ints.Uint (negsuc a) y z f g e = absurd f
+quotient_in ints.Uint64 (pos a) (pos b) z f g e = subst (IsInRange ints.Uint64) (divided_is ints.Uint64 (pos a) (pos b) (pos (a / b)) z e) (let less = div-le_self a b in omega arith)
+quotient_in ints.Uint64 (pos a) (negsuc b) z f g e = absurd g
+quotient_in ints.Uint64 (negsuc a) y z f g e = absurd f
 
-rem_in : (kind : Kind) (x y : ℤ) → IsInRange kind x → IsInRange kind (int_rem x y)
-rem_in kinds.Int x y f = record { sfits = let within : mag x < 2 ^ 31 = f.sfits in let less = mag_rem x y in omega arith }
-rem_in kinds.Int64 x y f = record { sfits = let within : mag x < 2 ^ 63 = f.sfits in let less = mag_rem x y in omega arith }
-rem_in kinds.Uint (pos a) y f = let less = mag_rem (pos a) y in omega arith
-rem_in kinds.Uint (negsuc a) y f = absurd f
-rem_in kinds.Uint64 (pos a) y f = let less = mag_rem (pos a) y in omega arith
-rem_in kinds.Uint64 (negsuc a) y f = absurd f
+rem_in : (int_type : IntType) (x y : ℤ) → IsInRange int_type x → IsInRange int_type (int_rem x y)
+rem_in ints.Int x y f = record { sfits = let within : mag x < 2 ^ 31 = f.sfits in let less = mag_rem x y in omega arith }
+rem_in ints.Int64 x y f = record { sfits = let within : mag x < 2 ^ 63 = f.sfits in let less = mag_rem x y in omega arith }
+rem_in ints.Uint (pos a) y f = let less = mag_rem (pos a) y in omega arith
+rem_in ints.Uint (negsuc a) y f = absurd f
+rem_in ints.Uint64 (pos a) y f = let less = mag_rem (pos a) y in omega arith
+rem_in ints.Uint64 (negsuc a) y f = absurd f
 
-pub remainder_in : (kind : Kind) (x y z : ℤ) → IsInRange kind x → divided (int_type kind) x y (int_rem x y) ≡ Ok z → IsInRange kind z
-remainder_in kind x y z f e = subst (IsInRange kind) (divided_is (int_type kind) x y (int_rem x y) z e) (rem_in kind x y f)
+pub remainder_in : (int_type : IntType) (x y z : ℤ) → IsInRange int_type x → divided int_type x y (int_rem x y) ≡ Ok z → IsInRange int_type z
+remainder_in int_type x y z f e = subst (IsInRange int_type) (divided_is int_type x y (int_rem x y) z e) (rem_in int_type x y f)

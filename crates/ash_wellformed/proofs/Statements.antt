@@ -8,7 +8,7 @@ use Rattle.ash_host.specs.declared.word.Word.TheVariants as words
 use Rattle.ash_host.specs.Objects.{Objects}
 use Rattle.ash_integers.specs.Integers.{number_of}
 use Rattle.ash_tree.specs.declared.tree.statements.Label.{Label}
-use Rattle.ash_typed.specs.declared.types.Kind.{Kind}
+use Rattle.ash_integers.specs.declared.int_type.IntType.{IntType}
 use Rattle.ash_typed.specs.declared.types.VarType.{VarType}
 use Rattle.ash_typed.specs.declared.tree.statements.Test.{Test}
 use Rattle.ash_typed.specs.declared.tree.statements.Test.TheVariants as tests
@@ -241,7 +241,7 @@ module _ {c : Context} (context : IsContext c) (body : Entry → Run (Option Wor
 
   module _ (depth : ℕ) where
     mutual
-      pub stmt_leads : {scope : Scope} {s : Stmt} → IsStmt scope s → (scope.env).signatures ≡ declared c → {envs : List Environment} {a : Activity} → IsWellFormed c scope.env envs a → Leaves c (Leads c scope.env scope.gives scope.may_break scope.may_continue envs a) (statement here depth s a)
+      pub stmt_leads : {scope : Scope} {s : Stmt} → IsStmt scope s → (scope.env).signatures ≡ declared c → {envs : List Environment} {a : Activity} → IsWellFormed c scope.env envs a → Leaves c (Leads c scope.env scope.result scope.may_break scope.may_continue envs a) (statement here depth s a)
       stmt_leads (sound.empty {line = line}) same h = bind (tick_goes line h) (λ none b g. done (stays_on g.passes))
       stmt_leads (sound.evaluate {line = line} e) same h =
           bind (bind (tick_goes line h) (λ none b g. weaken (λ one d q. passes_more g.passes q) (evaluate_passes _ same _ e.1 (g.passes).well))) (λ none b p. done (stays_on p))
@@ -260,7 +260,7 @@ module _ {c : Context} (context : IsContext c) (body : Entry → Run (Option Wor
           (λ flow b p. breaks_end flow (λ e. absurd (cc)) p)
       stmt_leads (sound.switch {scope = scope} {line = line} e cs) same {envs} h =
           bind (bind (bind (tick_goes line h) (λ none b g. weaken (λ w d q. passes_more g.passes q) (evaluated _ same _ e (g.passes).well)))
-          (λ w b p. after_passes p (switch_leads (scope.env) (scope.gives) true scope.may_continue (cases here depth _) w (cases_keep cs same envs) b p.well)))
+          (λ w b p. after_passes p (switch_leads (scope.env) (scope.result) true scope.may_continue (cases here depth _) w (cases_keep cs same envs) b p.well)))
           (λ flow b p. breaks_end flow (λ e. e) p)
       stmt_leads (sound.break_out {line = line} may) same h = bind (tick_goes line h) (λ none b g. done (record { passes = g.passes; left = by_break may }))
       stmt_leads (sound.continue_on {line = line} may) same h = bind (tick_goes line h) (λ none b g. done (record { passes = g.passes; left = by_continue may }))
@@ -268,7 +268,7 @@ module _ {c : Context} (context : IsContext c) (body : Entry → Run (Option Wor
           bind (tick_goes line h) (λ none b g. done (record { passes = g.passes; left = by_return (subst (λ (o : Option VarType). IsCarried c (value_of_result o) b words.Null) (sym is) (record { value = gives_nothing; held = λ n e. absurd (cc) })) }))
       stmt_leads (sound.return_value {line = line} is e) same h = bind (tick_goes line h) (λ none b g. after_passes g.passes (return_gives _ same _ is e (g.passes).well))
 
-      loop_leads : {scope : Scope} {inside : Loop} (line : ℕ) → IsLoop scope inside → (scope.env).signatures ≡ declared c → {envs : List Environment} {a : Activity} → IsWellFormed c scope.env envs a → Leaves c (Leads c scope.env scope.gives true false envs a) (loop here depth line inside a)
+      loop_leads : {scope : Scope} {inside : Loop} (line : ℕ) → IsLoop scope inside → (scope.env).signatures ≡ declared c → {envs : List Environment} {a : Activity} → IsWellFormed c scope.env envs a → Leaves c (Leads c scope.env scope.result true false envs a) (loop here depth line inside a)
       loop_leads line (sound.loop {test = test} {c = e} {steps = es} {s = s} k steps b) same {a = a} h =
           repeats (record { line = line; condition = condition_or_true here e; steps = evaluate_all here es; body = statement here depth s }) (record {
             condition = λ x well. condition_or_true_passes _ same _ e k well;
@@ -276,17 +276,17 @@ module _ {c : Context} (context : IsContext c) (body : Entry → Run (Option Wor
             body = λ x well. stmt_leads b same well;
           }) test depth a h
 
-      pub stmts_lead : {scope : Scope} {ss : Stmts} → AreStmts scope ss → (scope.env).signatures ≡ declared c → {envs : List Environment} {a : Activity} → IsWellFormed c scope.env envs a → Leaves c (LeadsOn c scope.env scope.gives scope.may_break scope.may_continue envs a) (statements here depth ss a)
+      pub stmts_lead : {scope : Scope} {ss : Stmts} → AreStmts scope ss → (scope.env).signatures ≡ declared c → {envs : List Environment} {a : Activity} → IsWellFormed c scope.env envs a → Leaves c (LeadsOn c scope.env scope.result scope.may_break scope.may_continue envs a) (statements here depth ss a)
       stmts_lead sound.no_stmts same h = done (as_on (stays_on (passes_itself h)))
       stmts_lead (sound.declare {scope} {line} {vs = list} {types} vs ss) same {envs} {a} h =
           let begun : Leaves c (λ (flow : Flow) b. (flow ≡ On) × Passes c (with_locals scope.env types) envs a b) ((tick line >> declare_all here list >> give On) a) = bind (bind (tick_goes line h) (λ none b g. weaken (λ one d q. passes_more g.passes q) (all_declared vs same (g.passes).well))) (λ none b p. done (refl, p)) in
           bind begun (λ flow b q. on_after _ flow b q.0 (weaken (λ f d on. declared_on types q.1 on) (stmts_lead ss same (q.1).well)))
       stmts_lead (sound.more_stmts s ss) same h = bind (stmt_leads s same h) (λ flow b p. go_on_leads _ flow p (stmts_lead ss same (p.passes).well))
 
-      cases_keep : {scope : Scope} {kind : Kind} {before : List Label} {cs : Cases} → AreCases scope kind before cs → (scope.env).signatures ≡ declared c → (envs : List Environment) → AllByRecursion (KeepsLabel c scope.env envs scope.gives scope.may_break scope.may_continue) (cases here depth cs)
+      cases_keep : {scope : Scope} {int_type : IntType} {before : List Label} {cs : Cases} → AreCases scope int_type before cs → (scope.env).signatures ≡ declared c → (envs : List Environment) → AllByRecursion (KeepsLabel c scope.env envs scope.result scope.may_break scope.may_continue) (cases here depth cs)
       cases_keep sound.no_cases same envs = tt
       cases_keep (sound.more_cases l ss cs) same envs = ((λ a h. labelled_leads ss same h), cases_keep cs same envs)
 
-      labelled_leads : {scope : Scope} {ss : Stmts} → AreLabelled scope ss → (scope.env).signatures ≡ declared c → {envs : List Environment} {a : Activity} → IsWellFormed c scope.env envs a → Leaves c (Leads c scope.env scope.gives scope.may_break scope.may_continue envs a) (statements here depth ss a)
+      labelled_leads : {scope : Scope} {ss : Stmts} → AreLabelled scope ss → (scope.env).signatures ≡ declared c → {envs : List Environment} {a : Activity} → IsWellFormed c scope.env envs a → Leaves c (Leads c scope.env scope.result scope.may_break scope.may_continue envs a) (statements here depth ss a)
       labelled_leads sound.none_labelled same h = done (stays_on (passes_itself h))
       labelled_leads (sound.and_labelled s ss) same h = bind (stmt_leads s same h) (λ flow b p. go_on_stays _ flow p (labelled_leads ss same (p.passes).well))

@@ -6,7 +6,7 @@ use Rattle.std.proofs.lemmas.Option.{same_Some}
 use Rattle.std.proofs.lemmas.List.Elements.{Contains-append_left, Contains-append_right}
 use Rattle.ash_host.specs.declared.word.Word.{Word}
 use Rattle.ash_host.specs.Objects.{Plain, Objects, object_at, handle, handles, fields_of, Lives}
-use Rattle.ash_typed.specs.declared.types.Kind.{Kind}
+use Rattle.ash_integers.specs.declared.int_type.IntType.{IntType}
 use Rattle.ash_typed.specs.declared.types.VarType.{VarType}
 use Rattle.ash_typed.specs.TypeOf.{ValueType}
 use Rattle.ash_typed.specs.SoundExpressions.{Environment}
@@ -72,7 +72,7 @@ reference_lives : {all : Objects (List ℕ)} {Fits : Shape → Type 0} {w : Word
 reference_lives n to_nothing e = absurd (cc)
 reference_lives {all} n (to_object {number} {shape} at fits) e = subst (λ (k : ℕ). Lives all k) (same_Some number n e) (shape_lives number all shape at)
 
-pub integer_is_none : {kind : Kind} {w : Word} (n : ℕ) → IsInteger kind w → handle w ≡ Some n → ⊥
+pub integer_is_none : {int_type : IntType} {w : Word} (n : ℕ) → IsInteger int_type w → handle w ≡ Some n → ⊥
 integer_is_none n (int f) e = cc
 integer_is_none n (uint f) e = cc
 integer_is_none n (int64 f) e = cc

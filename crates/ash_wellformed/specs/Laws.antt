@@ -85,7 +85,7 @@ pub record IsSettled (c : Context) (w : World) : Type 0 where
 -- a type of no objects
 abbrev pub IsPrimitive : VarType → Type 0
 IsPrimitive vars.Bool = Unit {0}
-IsPrimitive (vars.Integer kind) = Unit {0}
+IsPrimitive (vars.Integer int_type) = Unit {0}
 IsPrimitive _ = ⊥
 
 abbrev pub IsNoObjectResult : Option VarType → Type 0
@@ -114,7 +114,7 @@ module _ (c : Context) (depth : ℕ) where
       → (scope.env).signatures ≡ declared c
       → IsStmt scope s
       → IsWellFormed c scope.env envs a
-      → Leaves c (Leads c scope.env scope.gives scope.may_break scope.may_continue envs a) (statement (calls_within c.program depth) depth s a)
+      → Leaves c (Leads c scope.env scope.result scope.may_break scope.may_continue envs a) (statement (calls_within c.program depth) depth s a)
 
   abbrev pub BlocksKeep : Type 0
   BlocksKeep =
@@ -122,7 +122,7 @@ module _ (c : Context) (depth : ℕ) where
       → (scope.env).signatures ≡ declared c
       → AreStmts scope ss
       → IsWellFormed c scope.env envs a
-      → Leaves c (LeadsOn c scope.env scope.gives scope.may_break scope.may_continue envs a) (statements (calls_within c.program depth) depth ss a)
+      → Leaves c (LeadsOn c scope.env scope.result scope.may_break scope.may_continue envs a) (statements (calls_within c.program depth) depth ss a)
 
   -- functions, services, and constructions of objects and of arrays
   abbrev pub CallsKeep : Type 0

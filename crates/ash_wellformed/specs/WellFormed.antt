@@ -11,8 +11,8 @@ use Rattle.ash_host.specs.Calls.{max_state}
 use Rattle.ash_host.specs.Objects.{Element, Plain, Script, Array, Host, Objects, object_at, Lives, AreNumbered}
 use Rattle.ash_host.specs.Records.{HostRecord}
 use Rattle.ash_tree.specs.declared.tree.types.Primitive.{Primitive}
-use Rattle.ash_typed.specs.declared.types.Kind.{Kind}
-use Rattle.ash_typed.specs.declared.types.Kind.TheVariants as kinds
+use Rattle.ash_integers.specs.declared.int_type.IntType.{IntType}
+use Rattle.ash_integers.specs.declared.int_type.IntType.TheVariants as ints
 use Rattle.ash_typed.specs.declared.types.Element as typed_element
 use Rattle.ash_typed.specs.declared.types.Element.TheVariants as elements
 use Rattle.ash_typed.specs.declared.types.ObjectType.{ObjectType}
@@ -110,23 +110,23 @@ pub data IsReference (all : Objects (List ℕ)) (Fits : Shape → Type 0) : Word
       → IsReference all Fits (words.Object number)
 
 -- the numbers that a type has
-abbrev pub IsInRange : Kind → ℤ → Type 0
-IsInRange kinds.Int z = FitsSigned w32 z
-IsInRange kinds.Uint z = FitsUnsignedBits 32 z
-IsInRange kinds.Int64 z = FitsSigned w64 z
-IsInRange kinds.Uint64 z = FitsUnsignedBits 64 z
+abbrev pub IsInRange : IntType → ℤ → Type 0
+IsInRange ints.Int z = FitsSigned w32 z
+IsInRange ints.Uint z = FitsUnsignedBits 32 z
+IsInRange ints.Int64 z = FitsSigned w64 z
+IsInRange ints.Uint64 z = FitsUnsignedBits 64 z
 
 -- a word is an integer of the type
-pub data IsInteger : Kind → Word → Type 0 where
-  int : {n : ℤ} → IsInRange kinds.Int n → IsInteger kinds.Int (words.Int n)
-  uint : {n : ℕ} → IsInRange kinds.Uint (pos n) → IsInteger kinds.Uint (words.Uint n)
-  int64 : {n : ℤ} → IsInRange kinds.Int64 n → IsInteger kinds.Int64 (words.Int64 n)
-  uint64 : {n : ℕ} → IsInRange kinds.Uint64 (pos n) → IsInteger kinds.Uint64 (words.Uint64 n)
+pub data IsInteger : IntType → Word → Type 0 where
+  int : {n : ℤ} → IsInRange ints.Int n → IsInteger ints.Int (words.Int n)
+  uint : {n : ℕ} → IsInRange ints.Uint (pos n) → IsInteger ints.Uint (words.Uint n)
+  int64 : {n : ℤ} → IsInRange ints.Int64 n → IsInteger ints.Int64 (words.Int64 n)
+  uint64 : {n : ℕ} → IsInRange ints.Uint64 (pos n) → IsInteger ints.Uint64 (words.Uint64 n)
 
 -- a word is a value of the type: null where there is no object
 pub data IsValue (p : Program) (all : Objects (List ℕ)) : VarType → Word → Type 0 where
   is_truth : {b : Bool} → IsValue p all vars.Bool (words.Bool b)
-  is_integer : {kind : Kind} {word : Word} → IsInteger kind word → IsValue p all (vars.Integer kind) word
+  is_integer : {int_type : IntType} {word : Word} → IsInteger int_type word → IsValue p all (vars.Integer int_type) word
   is_object : {of : ObjectType} {word : Word} → IsReference all (IsOf p of) word → IsValue p all (vars.Object of) word
   is_handle : {of : ObjectType} {word : Word} → IsReference all (IsOf p of) word → IsValue p all (vars.Handle of) word
 
@@ -215,10 +215,10 @@ pub record AllLive (all : Objects (List ℕ)) (numbers : List ℕ) : Type 0 wher
 
 -- a word that a host answers with has a number that its type has
 abbrev pub IsHostWord : Word → Type 0
-IsHostWord (words.Int n) = IsInRange kinds.Int n
-IsHostWord (words.Uint n) = IsInRange kinds.Uint (pos n)
-IsHostWord (words.Int64 n) = IsInRange kinds.Int64 n
-IsHostWord (words.Uint64 n) = IsInRange kinds.Uint64 (pos n)
+IsHostWord (words.Int n) = IsInRange ints.Int n
+IsHostWord (words.Uint n) = IsInRange ints.Uint (pos n)
+IsHostWord (words.Int64 n) = IsInRange ints.Int64 n
+IsHostWord (words.Uint64 n) = IsInRange ints.Uint64 (pos n)
 IsHostWord _ = Unit {0}
 
 abbrev pub IsAnswer : HostAnswer → Type 0

@@ -10,7 +10,7 @@ use Rattle.ash_typed.specs.declared.types.VarType.{VarType}
 use Rattle.ash_typed.specs.declared.types.VarType.TheVariants as vars
 use Rattle.ash_typed.specs.Signatures.{Host}
 use Rattle.ash_phrases.specs.Activity.{World}
-use Rattle.ash_phrases.specs.Operators.{int_type, word_at}
+use Rattle.ash_phrases.specs.Operators.{word_at}
 use Rattle.ash_phrases.specs.Classes.{Program}
 use Rattle.ash_phrases.specs.Ends.{End, Finished, Threw, Aborted, call_function, load_module}
 use Rattle.ash_wellformed.specs.WellFormed.{IsValue, is_truth, is_integer, AreValues, no_values, and_value}
@@ -31,15 +31,15 @@ use Rattle.ash_wellformed_states.proofs.Came.{loading, discard_keeps, load_settl
 
 -- arguments
 
-number_from : {p : Program} {all : Objects (List ℕ)} (kind : _) (z : _) (w : Word) (b : Bool) → (if b then Some (word_at kind z) else None) ≡ Some w → IsValue p all (vars.Integer kind) w
-number_from {p} {all} kind z w true e = subst (IsValue p all (vars.Integer kind)) (same_Some (word_at kind z) w e) (is_integer (integer_word kind z))
-number_from kind z w false e = absurd (cc)
+number_from : {p : Program} {all : Objects (List ℕ)} (int_type : _) (z : _) (w : Word) (b : Bool) → (if b then Some (word_at int_type z) else None) ≡ Some w → IsValue p all (vars.Integer int_type) w
+number_from {p} {all} int_type z w true e = subst (IsValue p all (vars.Integer int_type)) (same_Some (word_at int_type z) w e) (is_integer (integer_word int_type z))
+number_from int_type z w false e = absurd (cc)
 
 argument_value : {p : Program} {all : Objects (List ℕ)} (of : VarType) (a : Argument) (w : Word) → argument_of of a ≡ Some w → IsValue p all of w
 argument_value {p} {all} vars.Bool (arguments.Truth b) w e = subst (IsValue p all vars.Bool) (same_Some _ w e) is_truth
 argument_value vars.Bool (arguments.Number z) w e = absurd (cc)
-argument_value (vars.Integer kind) (arguments.Truth b) w e = absurd (cc)
-argument_value (vars.Integer kind) (arguments.Number z) w e = number_from kind z w (int_eq (reduced (int_type kind) z) z) e
+argument_value (vars.Integer int_type) (arguments.Truth b) w e = absurd (cc)
+argument_value (vars.Integer int_type) (arguments.Number z) w e = number_from int_type z w (int_eq (reduced int_type z) z) e
 argument_value (vars.Object o) a w e = absurd (cc)
 argument_value (vars.Handle o) a w e = absurd (cc)
 

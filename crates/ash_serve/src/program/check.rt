@@ -1,8 +1,8 @@
 // Checking a script: its bytes are read and judged, and the verdict is written.
 
 ghost use Rattle.ash_registry.specs.Registered.{registered};
-ghost use Rattle.ash_serve.specs.Checking.{EndsCheck, ChecksFile, ChecksScript, ReadsScript};
-ghost use Rattle.ash_serve.specs.Checking.{Judges, WritesVerdict, verdict_of};
+ghost use Rattle.ash_serve.specs.CheckRun.{EndsCheck, ChecksFile, ChecksScript, ReadsScript};
+ghost use Rattle.ash_serve.specs.CheckRun.{Judges, WritesVerdict, verdict_of};
 
 use super::ending::{End, Ending};
 use super::fault::Fault;

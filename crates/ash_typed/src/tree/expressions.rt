@@ -6,7 +6,8 @@
 use crate::tree::operations::{
     Calculation, Change, Conversion, Lazy, Member, Method, Operation, Step, Target, Variable,
 };
-use crate::types::{Element, Kind, ObjectType, VarType};
+use crate::types::{Element, ObjectType, VarType};
+use ash_integers::IntType;
 
 /// A typed expression.
 #[cycle(typed_expressions)]
@@ -14,7 +15,7 @@ use crate::types::{Element, Kind, ObjectType, VarType};
 pub enum Expr {
     /// A number of an integer type that holds it.
     Number {
-        kind: Kind,
+        of: IntType,
         value: u64,
     },
     Bool(bool),
@@ -66,13 +67,13 @@ pub enum Expr {
     /// comes out is converted back.
     Update {
         place: Place,
-        of: Kind,
+        of: IntType,
         calculation: Calculation,
         value: Box<Expr>,
     },
     Step {
         place: Place,
-        of: Kind,
+        of: IntType,
         step: Step,
     },
     /// The parameters are the types of the arguments, in order.

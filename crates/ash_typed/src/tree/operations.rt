@@ -1,6 +1,7 @@
-//! What a typed tree names: variables, members, functions, and operators with their kinds.
+//! What a typed tree names: variables, members, functions, and operators with their integer types.
 
-use crate::types::{Element, Kind, VarType};
+use crate::types::{Element, VarType};
+use ash_integers::IntType;
 
 /// A variable, with its type.
 #[derive(Clone, Copy)]
@@ -92,7 +93,7 @@ pub enum Target {
 /// What is compared: both operands are of it.
 #[derive(Clone, Copy, Debug)]
 pub enum Operands {
-    Integers(Kind),
+    Integers(IntType),
     Bools,
     /// Objects and null.
     Handles,
@@ -130,7 +131,7 @@ pub enum Calculator {
 #[derive(Clone, Copy)]
 pub struct Calculation {
     pub operator: Calculator,
-    pub of: Kind,
+    pub of: IntType,
 }
 
 /// An operator that makes a truth value of two operands, and evaluates both.
@@ -176,9 +177,9 @@ pub enum Lazy {
 #[derive(Clone, Copy)]
 pub enum Change {
     /// Unary `-`.
-    Negate(Kind),
+    Negate(IntType),
     /// `~`
-    Complement(Kind),
+    Complement(IntType),
     /// `!`
     Not,
 }
@@ -186,8 +187,8 @@ pub enum Change {
 /// A conversion among integer types.
 #[derive(Clone, Copy)]
 pub struct Conversion {
-    pub from: Kind,
-    pub to: Kind,
+    pub from: IntType,
+    pub to: IntType,
 }
 
 /// What `++` or `--` does to a place, and which of its values it gives.

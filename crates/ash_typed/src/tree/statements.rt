@@ -2,7 +2,8 @@
 //! statement.
 
 use crate::tree::expressions::Expr;
-use crate::types::{Kind, VarType};
+use crate::types::VarType;
+use ash_integers::IntType;
 use ash_tree::Label;
 
 /// A variable that is declared: its name, its type, and what it begins with; where nothing is written, with zero,
@@ -63,7 +64,7 @@ pub enum StmtKind {
     },
     /// The value is of an integer type, which holds the constant of each label.
     Switch {
-        kind: Kind,
+        of: IntType,
         value: Expr,
         cases: Vec<Case>,
     },

@@ -8,12 +8,13 @@ use Rattle.ash_typed.specs.Modules.{module_of}
 use Rattle.ash_classes.specs.declared.cycles.Cycle.{Cycle}
 use Rattle.ash_classes.specs.References.{Refers, classes_of}
 use Rattle.ash_classes.specs.ReportedCycle.{reported_cycle}
-use Rattle.ash_classes.specs.Ways.{IsReported, AreRanks}
+use Rattle.ash_classes.specs.Ways.{IsReportedCycle, AreRanks}
 use Rattle.ash_check.specs.CheckedModules.{IsChecked}
 use Rattle.ash_check.specs.Checks.{checked, Cyclic, GoesRound}
 use Rattle.ash_check.specs.Faults.{fault_of_error}
 use Rattle.ash_check.proofs.CheckedLaws.{is_checked}
-use Rattle.ash_check.proofs.CheckLaws.{error_is_reported, reported_if_err, typed_is_checked, cycle_is_reported, way_begins_within, way_is_within, goes_round}
+use Rattle.ash_check.proofs.CheckLaws.{error_is_reported, reported_if_err, typed_is_checked, cycle_is_reported}
+use Rattle.ash_check.proofs.CheckLaws.{way_begins_within, way_is_within, goes_round}
 use Rattle.ash_typing.proofs.ModuleLaws.{module_typed-exact}
 use Rattle.ash_check.proofs.checks.check_against.Goals as goal
 
@@ -25,13 +26,13 @@ returns-in_err-module-clause-answer c =
 pub cycle_names-requires-clause-first : goal.cycle_names-requires-clause-first
 cycle_names-requires-clause-first c =
     let classes = classes_of (written_module c.args.script.now) in
-    let reported : IsReported (Refers classes) c.in-Err.cycle.first c.in-Err.cycle.others.items = subst (λ r. IfErr r (λ (cycle : Cycle). IsReported (Refers classes) cycle.first cycle.others.items)) c.in-Err.is c.in_ok-ranks.ensures.cycle in
+    let reported : IsReportedCycle (Refers classes) c.in-Err.cycle.first c.in-Err.cycle.others.items = subst (λ r. IfErr r (λ (cycle : Cycle). IsReportedCycle (Refers classes) cycle.first cycle.others.items)) c.in-Err.is c.in_ok-ranks.ensures.cycle in
     way_begins_within classes c.in-Err.cycle.first c.in-Err.cycle.others.items c.in-Err.cycle.first reported.round.way
 
 pub cycle_names-requires-clause-others : goal.cycle_names-requires-clause-others
 cycle_names-requires-clause-others c =
     let classes = classes_of (written_module c.args.script.now) in
-    let reported : IsReported (Refers classes) c.in-Err.cycle.first c.in-Err.cycle.others.items = subst (λ r. IfErr r (λ (cycle : Cycle). IsReported (Refers classes) cycle.first cycle.others.items)) c.in-Err.is c.in_ok-ranks.ensures.cycle in
+    let reported : IsReportedCycle (Refers classes) c.in-Err.cycle.first c.in-Err.cycle.others.items = subst (λ r. IfErr r (λ (cycle : Cycle). IsReportedCycle (Refers classes) cycle.first cycle.others.items)) c.in-Err.is c.in_ok-ranks.ensures.cycle in
     way_is_within classes c.in-Err.cycle.first c.in-Err.cycle.others.items c.in-Err.cycle.first reported.round.way
 
 pub returns-in-Ok-clause-answer : goal.returns-in-Ok-clause-answer
@@ -53,7 +54,7 @@ pub returns-in_ok-cycle_names-in-Err-clause-round :
     goal.returns-in_ok-cycle_names-in-Err-clause-round
 returns-in_ok-cycle_names-in-Err-clause-round c =
     let classes = classes_of (written_module c.args.script.now) in
-    let reported : IsReported (Refers classes) c.in-Err.cycle.first c.in-Err.cycle.others.items = subst (λ r. IfErr r (λ (cycle : Cycle). IsReported (Refers classes) cycle.first cycle.others.items)) c.in-Err.is c.in_ok-ranks.ensures.cycle in
+    let reported : IsReportedCycle (Refers classes) c.in-Err.cycle.first c.in-Err.cycle.others.items = subst (λ r. IfErr r (λ (cycle : Cycle). IsReportedCycle (Refers classes) cycle.first cycle.others.items)) c.in-Err.is c.in_ok-ranks.ensures.cycle in
     subst (GoesRound classes) (sym c.in_ok-cycle_names-in-Err.ensures) (goes_round classes c.in-Err.cycle.first c.in-Err.cycle.others.items reported.round.way)
 
 pub returns-in-Ok-clause-typed : goal.returns-in-Ok-clause-typed

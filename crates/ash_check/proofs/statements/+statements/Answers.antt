@@ -12,7 +12,10 @@ use Rattle.ash_typing.specs.Switches.{label_typed}
 use Rattle.ash_expressions.specs.Agreement.{Agrees, FailsWith}
 use Rattle.ash_expressions.specs.Views.{binding_of}
 use Rattle.ash_check.specs.StatementViews.{locals_of, scope_of}
-use Rattle.ash_check.proofs.StatementLaws.{Extends, at_first, extends_itself, extends_next, locals_go, block_step, block_end, block_of_source, switch_of_source, for_of_source, block_typed, block_fails, cases_step, label_fails, labelled_fails, cases_end, first_is_all, any_ok}
+use Rattle.ash_check.proofs.StatementLaws.{Extends, at_first, extends_itself, extends_next, locals_go, block_step}
+use Rattle.ash_check.proofs.StatementLaws.{block_end, block_of_source, switch_of_source, for_of_source, block_typed}
+use Rattle.ash_check.proofs.StatementLaws.{block_fails, cases_step, label_fails, labelled_fails, cases_end}
+use Rattle.ash_check.proofs.StatementLaws.{first_is_all, any_ok}
 use Rattle.ash_check.proofs.statements.+statements.Goals as goal
 
 pub check_block-loop-source-preserved : goal.check_block-loop-source-preserved
@@ -49,9 +52,9 @@ check_cases-returns-in_err-known-clause-typed t c =
     let last = is_last (written.cases (map case_of (drop (c.loop-i.i + 1) labels))) in
     let at = (code_case.out-Case x).place.at in
     let l = (code_case.out-Case x).label in
-    let same_label : label_typed c.args.kind c.loop-i.before.items last at l ≡ label_typed c.args.kind c.deref.result.now c.is_last-last.result at l =
-    ap (λ before. label_typed c.args.kind before last at l) (sym c.deref.ensures.value) ∙ ap (λ b. label_typed c.args.kind c.deref.result.now b at l) (sym c.is_last-last.ensures) in
-    rw (p.1, p.2) (label_fails c.loop-i.typed.items (scope_of c.args.scope.now (locals_of c.loop-i.locals)) c.args.kind c.loop-i.before.items labels c.loop-i.i x c.in_err-known.field-0.0 _ c.loop-i-test.true c.index-labels-i.is (subst (FailsWith c.in_err-known.field-0.0) (sym same_label) c.in_err-known.ensures) c.loop-i.invariant.0)
+    let same_label : label_typed c.args.int_type c.loop-i.before.items last at l ≡ label_typed c.args.int_type c.deref.result.now c.is_last-last.result at l =
+    ap (λ before. label_typed c.args.int_type before last at l) (sym c.deref.ensures.value) ∙ ap (λ b. label_typed c.args.int_type c.deref.result.now b at l) (sym c.is_last-last.ensures) in
+    rw (p.1, p.2) (label_fails c.loop-i.typed.items (scope_of c.args.scope.now (locals_of c.loop-i.locals)) c.args.int_type c.loop-i.before.items labels c.loop-i.i x c.in_err-known.field-0.0 _ c.loop-i-test.true c.index-labels-i.is (subst (FailsWith c.in_err-known.field-0.0) (sym same_label) c.in_err-known.ensures) c.loop-i.invariant.0)
 
 pub check_cases-returns-in_err-body-clause-typed : goal.check_cases-returns-in_err-body-clause-typed
 check_cases-returns-in_err-body-clause-typed t c =
@@ -61,11 +64,11 @@ check_cases-returns-in_err-body-clause-typed t c =
     let last = is_last (written.cases (map case_of (drop (c.loop-i.i + 1) labels))) in
     let at = (code_case.out-Case x).place.at in
     let l = (code_case.out-Case x).label in
-    let same_label : label_typed c.args.kind c.loop-i.before.items last at l ≡ label_typed c.args.kind c.deref.result.now c.is_last-last.result at l =
-    ap (λ before. label_typed c.args.kind before last at l) (sym c.deref.ensures.value) ∙ ap (λ b. label_typed c.args.kind c.deref.result.now b at l) (sym c.is_last-last.ensures) in
+    let same_label : label_typed c.args.int_type c.loop-i.before.items last at l ≡ label_typed c.args.int_type c.deref.result.now c.is_last-last.result at l =
+    ap (λ before. label_typed c.args.int_type before last at l) (sym c.deref.ensures.value) ∙ ap (λ b. label_typed c.args.int_type c.deref.result.now b at l) (sym c.is_last-last.ensures) in
     let scope = scope_of c.args.scope.now (locals_of c.loop-i.locals) in
     let body : stmts_typed scope (written.stmts (map stmt_of (code_case.out-Case x).body.items)) ≡ stmts_typed scope (written.stmts (map stmt_of c.deref-in-loop-i.result.now)) = ap (λ xs. stmts_typed scope (written.stmts (map stmt_of xs))) (sym c.deref-in-loop-i.ensures.value) in
-    rw (p.1, p.2) (labelled_fails c.loop-i.typed.items scope c.args.kind c.loop-i.before.items labels c.loop-i.i x c.in_ok-known.known c.in_err-body.field-0.0 _ c.loop-i-test.true c.index-labels-i.is (same_label ∙ c.in_ok-known.ensures) (subst (FailsWith c.in_err-body.field-0.0) (sym body) c.in_err-body.ensures.typed) c.loop-i.invariant.0)
+    rw (p.1, p.2) (labelled_fails c.loop-i.typed.items scope c.args.int_type c.loop-i.before.items labels c.loop-i.i x c.in_ok-known.known c.in_err-body.field-0.0 _ c.loop-i-test.true c.index-labels-i.is (same_label ∙ c.in_ok-known.ensures) (subst (FailsWith c.in_err-body.field-0.0) (sym body) c.in_err-body.ensures.typed) c.loop-i.invariant.0)
 
 pub check_cases-loop-i-preserved : goal.check_cases-loop-i-preserved
 check_cases-loop-i-preserved t c =
@@ -74,18 +77,18 @@ check_cases-loop-i-preserved t c =
     let last = is_last (written.cases (map case_of (drop (c.loop-i.i + 1) labels))) in
     let at = (code_case.out-Case x).place.at in
     let l = (code_case.out-Case x).label in
-    let same_label : label_typed c.args.kind c.loop-i.before.items last at l ≡ label_typed c.args.kind c.deref.result.now c.is_last-last.result at l =
-    ap (λ before. label_typed c.args.kind before last at l) (sym c.deref.ensures.value) ∙ ap (λ b. label_typed c.args.kind c.deref.result.now b at l) (sym c.is_last-last.ensures) in
+    let same_label : label_typed c.args.int_type c.loop-i.before.items last at l ≡ label_typed c.args.int_type c.deref.result.now c.is_last-last.result at l =
+    ap (λ before. label_typed c.args.int_type before last at l) (sym c.deref.ensures.value) ∙ ap (λ b. label_typed c.args.int_type c.deref.result.now b at l) (sym c.is_last-last.ensures) in
     let scope = scope_of c.args.scope.now (locals_of c.loop-i.locals) in
     let body : stmts_typed scope (written.stmts (map stmt_of (code_case.out-Case x).body.items)) ≡ stmts_typed scope (written.stmts (map stmt_of c.deref-in-loop-i.result.now)) = ap (λ xs. stmts_typed scope (written.stmts (map stmt_of xs))) (sym c.deref-in-loop-i.ensures.value) in
     let next = scope_of c.args.scope.now (locals_of c.check_block.new.locals) in (
-      cases_step c.loop-i.typed.items c.push-in-loop-i.new.self.items c.case.result scope next c.args.kind c.loop-i.before.items c.push.new.self.items labels c.loop-i.i x c.in_ok-known.known (typed_views.body_of c.in_ok-body.body.items) _ c.in_ok-push-2.ensures.items c.in_ok-push.ensures.items (ap (scope_of c.args.scope.now) c.in_ok-body.ensures.unchanged) c.loop-i-test.true c.index-labels-i.is (same_label ∙ c.in_ok-known.ensures) (body ∙ c.in_ok-body.ensures.typed) c.case.ensures c.loop-i.invariant.0,
+      cases_step c.loop-i.typed.items c.push-in-loop-i.new.self.items c.case.result scope next c.args.int_type c.loop-i.before.items c.push.new.self.items labels c.loop-i.i x c.in_ok-known.known (typed_views.body_of c.in_ok-body.body.items) _ c.in_ok-push-2.ensures.items c.in_ok-push.ensures.items (ap (scope_of c.args.scope.now) c.in_ok-body.ensures.unchanged) c.loop-i-test.true c.index-labels-i.is (same_label ∙ c.in_ok-known.ensures) (body ∙ c.in_ok-body.ensures.typed) c.case.ensures c.loop-i.invariant.0,
       c.in_ok-body.ensures.unchanged ∙ c.loop-i.invariant.1,
     )
 
 pub check_cases-returns-clause-typed : goal.check_cases-returns-clause-typed
 check_cases-returns-clause-typed t c =
-    cases_end c.loop-i.typed.items (scope_of c.args.scope.now (locals_of c.loop-i.locals)) c.args.kind c.loop-i.before.items c.args.labels.now c.loop-i.i _ c.loop-i-test.false c.loop-i.invariant.0
+    cases_end c.loop-i.typed.items (scope_of c.args.scope.now (locals_of c.loop-i.locals)) c.args.int_type c.loop-i.before.items c.args.labels.now c.loop-i.i _ c.loop-i-test.false c.loop-i.invariant.0
 
 pub check_inner_block-returns-in_err-body-clause-typed : goal.check_inner_block-returns-in_err-body-clause-typed
 check_inner_block-returns-in_err-body-clause-typed t c =

@@ -54,5 +54,5 @@ invariant-check_block-loop-source l =
 
 abbrev pub invariant-check_cases-loop-i : goal.invariant-check_cases-loop-i
 invariant-check_cases-loop-i l =
-    (cases_after (map case_of l.typed.items) (definition.cases_typed (scope_of l.scope (locals_of l.locals)) l.kind l.before.items (cases (map written.case_of (drop l.i l.labels)))) ≡ definition.cases_typed (scope_of l.scope (locals_of l.initial.locals)) l.kind [] (cases (map written.case_of l.labels)))
+    (cases_after (map case_of l.typed.items) (definition.cases_typed (scope_of l.scope (locals_of l.locals)) l.int_type l.before.items (cases (map written.case_of (drop l.i l.labels)))) ≡ definition.cases_typed (scope_of l.scope (locals_of l.initial.locals)) l.int_type [] (cases (map written.case_of l.labels)))
     × (locals_of l.locals ≡ locals_of l.initial.locals)

@@ -1,4 +1,4 @@
-use Rattle.ash_durable.proofs.LifeLaws.{power_failure, process_end}
+use Rattle.ash_durable.proofs.CrashedDisks.{power_failure, process_end}
 use Rattle.ash_durable.proofs.lives.kinds_of_crash.Goals as goal
 
 pub returns-clause-power : goal.returns-clause-power

@@ -2,7 +2,8 @@ use Rattle.std.proofs.Common.{◌≡◌, List, ℕ, arith, [], ◌∷◌, length
 use Rattle.std.proofs.lemmas.Grind.{common_steps}
 use Rattle.std.proofs.lemmas.Result.{err_from_is_err_and}
 use Rattle.ash_lines.specs.Reading.{ReadsLinePart}
-use Rattle.ash_lines.proofs.SourceLemmas.{next_end, next_byte, part-push, part-end, part-fault, part-nil, part-none, long_line}
+use Rattle.ash_lines.proofs.SourceLemmas.{next_end, next_byte, part-push, part-end, part-fault, part-nil, part-none}
+use Rattle.ash_lines.proofs.SourceLemmas.{long_line}
 use Rattle.ash_lines.proofs.line.read_line.Goals as goal
 
 pub bytes-init : goal.bytes-init

@@ -1,6 +1,7 @@
 use Rattle.std.proofs.Common.{◌≡◌, refl, arith, [], ◌∷◌, ◌++◌, length-append}
 use Rattle.std.proofs.lemmas.Result.{err_from_is_err_and}
-use Rattle.ash_lines.proofs.SourceLemmas.{next_end, next_byte, part-push, part-whole, part-end, part-fault, whole-none, is_line-nil}
+use Rattle.ash_lines.proofs.SourceLemmas.{next_end, next_byte, part-push, part-whole, part-end, part-fault, whole-none}
+use Rattle.ash_lines.proofs.SourceLemmas.{is_line-nil}
 use Rattle.ash_lines.proofs.line.skip_line.Goals as goal
 
 pub bytes-init : goal.bytes-init

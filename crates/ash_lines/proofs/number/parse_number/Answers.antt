@@ -1,6 +1,7 @@
 use Rattle.std.proofs.Common.{◌≡◌, get_or, sym, ◌∙◌, true, arith, rules}
 use Rattle.ash_lines.specs.Lines.{number_of, is_number}
-use Rattle.ash_lines.proofs.NumberLemmas.{number-parts, digit-at, below-step, value-step, value-end, tens-most, some_number}
+use Rattle.ash_lines.proofs.NumberLemmas.{number-parts, digit-at, below-step, value-step, value-end, tens-most}
+use Rattle.ash_lines.proofs.NumberLemmas.{some_number}
 use Rattle.ash_lines.proofs.number.parse_number.Goals as goal
 
 pub returns-then-not-is_number-clause-value : goal.returns-then-not-is_number-clause-value

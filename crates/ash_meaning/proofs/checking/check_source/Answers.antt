@@ -1,7 +1,8 @@
 use Rattle.ash_registry.specs.Registered.{registered}
 use Rattle.ash_tree.specs.Views.{module_of as items_of}
 use Rattle.ash_meaning.specs.Refusals.{refusal_of}
-use Rattle.ash_meaning.proofs.CheckingLaws.{found_accepted, accepted_only, cycle_reported, cycle_not_found, cycle_only}
+use Rattle.ash_meaning.proofs.CheckedAnswers.{found_accepted, accepted_only, cycle_reported, cycle_not_found}
+use Rattle.ash_meaning.proofs.CheckedAnswers.{cycle_only}
 use Rattle.ash_meaning.proofs.checking.check_source.Goals as goal
 
 pub returns-in-Ok-clause-accepted : goal.returns-in-Ok-clause-accepted

@@ -4,7 +4,7 @@ use Rattle.ash_lex.specs.declared.tokens.Token.{Token}
 use Rattle.ash_registry.specs.Registered.{registered}
 use Rattle.ash_meaning.specs.Lexing.{Lexes}
 use Rattle.ash_meaning.specs.Refusals.{refusal_of}
-use Rattle.ash_meaning.proofs.CheckingLaws.{tokens_refused, source_found, source_refused}
+use Rattle.ash_meaning.proofs.CheckedAnswers.{tokens_refused, source_found, source_refused}
 use Rattle.ash_meaning.proofs.checking.checked_module.Goals as goal
 
 pub returns-in-Err-clause-refused : goal.returns-in-Err-clause-refused

@@ -1,4 +1,4 @@
-use Rattle.ash_meaning.proofs.CheckingLaws.{checked_source-exact}
+use Rattle.ash_meaning.proofs.CheckedSourceLaws.{checked_source-exact}
 use Rattle.ash_meaning.proofs.checking.checking_has_one_result.Goals as goal
 
 pub returns : goal.returns

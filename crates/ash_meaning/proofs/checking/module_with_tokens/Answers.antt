@@ -2,7 +2,7 @@ use Rattle.ash_registry.specs.Registered.{registered}
 use Rattle.ash_tree.specs.Views.{module_of as items_of}
 use Rattle.ash_typing.proofs.SoundnessNesting.{derived_proper}
 use Rattle.ash_meaning.specs.Refusals.{refusal_of}
-use Rattle.ash_meaning.proofs.CheckingLaws.{script_found, script_refused, fault_read}
+use Rattle.ash_meaning.proofs.CheckedAnswers.{script_found, script_refused, fault_read}
 use Rattle.ash_meaning.proofs.checking.module_with_tokens.Goals as goal
 
 pub typed_module-requires : goal.typed_module-requires

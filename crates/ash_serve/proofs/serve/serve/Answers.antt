@@ -2,7 +2,8 @@ use Rattle.std.proofs.Common.{◌∙◌, sym, inl, inr}
 use Rattle.std.proofs.lemmas.Result.{err_from_is_err_and}
 use Rattle.ash_lines.specs.Replies.{line_reply_of}
 use Rattle.ash_serve.specs.declared.fault.RunFault.TheVariants as faults
-use Rattle.ash_serve.proofs.ServingLemmas.{ongoing-nil, ongoing-more, served-falls, serves_fault, fault_ends, input_ends, write_ends, quit_ends, goes_on}
+use Rattle.ash_serve.proofs.ServingLemmas.{ongoing-nil, ongoing-more, served-falls, serves_fault, fault_ends}
+use Rattle.ash_serve.proofs.ServingLemmas.{input_ends, write_ends, quit_ends, goes_on}
 use Rattle.ash_serve.proofs.serve.serve.Goals as goal
 
 pub requests-init : goal.requests-init

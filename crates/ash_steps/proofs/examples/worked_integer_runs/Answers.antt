@@ -2,14 +2,6 @@ use Rattle.std.proofs.Common.{refl}
 use Rattle.ash_steps.proofs.Computing.{computing}
 use Rattle.ash_steps.proofs.examples.worked_integer_runs.Goals as goal
 
-pub returns-clause-enough_ticks : goal.returns-clause-enough_ticks
-unfolding computing
-returns-clause-enough_ticks c = refl
-
-pub returns-clause-one_tick_too_few : goal.returns-clause-one_tick_too_few
-unfolding computing
-returns-clause-one_tick_too_few c = refl
-
 pub returns-clause-wrapped_sum : goal.returns-clause-wrapped_sum
 unfolding computing
 returns-clause-wrapped_sum c = refl
@@ -34,10 +26,6 @@ pub returns-clause-another_load : goal.returns-clause-another_load
 unfolding computing
 returns-clause-another_load c = refl
 
-pub returns-clause-unending_loop : goal.returns-clause-unending_loop
-unfolding computing
-returns-clause-unending_loop c = refl
-
 pub returns-clause-empty_module : goal.returns-clause-empty_module
 unfolding computing
 returns-clause-empty_module c = refl
@@ -57,11 +45,3 @@ returns-clause-shifts c = refl
 pub returns-clause-refusals : goal.returns-clause-refusals
 unfolding computing
 returns-clause-refusals c = refl
-
-pub returns-clause-seventeenth_module : goal.returns-clause-seventeenth_module
-unfolding computing
-returns-clause-seventeenth_module c = refl
-
-pub returns-clause-last_answer : goal.returns-clause-last_answer
-unfolding computing
-returns-clause-last_answer c = refl

@@ -41,19 +41,3 @@ returns-clause-through_an_interface c = refl
 pub returns-clause-in_an_array : goal.returns-clause-in_an_array
 unfolding computing
 returns-clause-in_an_array c = refl
-
-pub returns-clause-longest_array : goal.returns-clause-longest_array
-unfolding computing
-returns-clause-longest_array c = refl
-
-pub returns-clause-last_number : goal.returns-clause-last_number
-unfolding computing
-returns-clause-last_number c = refl
-
-pub returns-clause-most_objects : goal.returns-clause-most_objects
-unfolding computing
-returns-clause-most_objects c = refl
-
-pub returns-clause-one_object_fewer : goal.returns-clause-one_object_fewer
-unfolding computing
-returns-clause-one_object_fewer c = refl

@@ -2,4 +2,4 @@ use Rattle.ash_typed.proofs.StatementRows.{switch_is}
 use Rattle.ash_typed.proofs.nodes.switch.Goals as goal
 
 pub returns : goal.returns
-returns c = switch_is c.args.line c.args.of c.args.value c.args.labels
+returns c = switch_is c.args.line c.args.int_type c.args.value c.args.labels

@@ -1,6 +1,7 @@
 use Rattle.ash_meaning.specs.Refusals.{refusal_of}
 use Rattle.ash_meaning.specs.State.{Call, Refused, answer_of}
-use Rattle.ash_durable.proofs.Handling.{seen_host, served_runs, served_refused, served, handles_no_room}
+use Rattle.ash_durable.proofs.HandledRequests.{seen_host}
+use Rattle.ash_durable.proofs.Handling.{served_runs, served_refused, served, handles_no_room}
 use Rattle.ash_durable.proofs.Refusing.{refuses_first}
 use Rattle.ash_durable.proofs.host.Host.call.Goals as goal
 

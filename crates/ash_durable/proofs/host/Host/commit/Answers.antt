@@ -1,7 +1,7 @@
 use Rattle.std.proofs.Common.{rules, ◌≡◌, Some, IsSome, Ok, Err, sym, subst}
 use Rattle.ash_durable.specs.Hosting.{Hosted, state_unless}
 use Rattle.ash_durable.specs.Requests.{CommitsAnswer}
-use Rattle.ash_durable.proofs.Handling.{seen_host}
+use Rattle.ash_durable.proofs.HandledRequests.{seen_host}
 use Rattle.ash_durable.proofs.Requesting.{commit_ok, commit_err}
 use Rattle.ash_durable.proofs.host.Host.commit.Goals as goal
 

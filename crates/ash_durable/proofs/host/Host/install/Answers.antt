@@ -1,7 +1,7 @@
 use Rattle.std.proofs.Common.{IsSome, Ok, sym, subst}
 use Rattle.ash_durable.specs.Hosting.{Hosted, state_unless}
 use Rattle.ash_durable.specs.Requests.{TriesInstall}
-use Rattle.ash_durable.proofs.Handling.{seen_host}
+use Rattle.ash_durable.proofs.HandledRequests.{seen_host}
 use Rattle.ash_durable.proofs.Requesting.{install_ok}
 use Rattle.ash_durable.proofs.host.Host.install.Goals as goal
 

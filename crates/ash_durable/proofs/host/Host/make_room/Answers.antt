@@ -2,7 +2,7 @@ use Rattle.std.proofs.Common.{rules, ◌≡◌, ◌≤◌, false, is_some, sym, 
 use Rattle.ash_journal.specs.Journal.{record_bytes}
 use Rattle.ash_durable.specs.Hosting.{Hosted, full_record_bytes}
 use Rattle.ash_durable.specs.Requests.{TriesInstall, MakesRoom}
-use Rattle.ash_durable.proofs.Handling.{seen_host}
+use Rattle.ash_durable.proofs.HandledRequests.{seen_host}
 use Rattle.ash_durable.proofs.Requesting.{room_wanted}
 use Rattle.ash_durable.proofs.host.Host.make_room.Goals as goal
 

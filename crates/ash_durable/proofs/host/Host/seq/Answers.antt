@@ -1,7 +1,8 @@
 use Rattle.std.proofs.Common.{rules, ◌≡◌, ℕ, unwrap_or, subst}
 use Rattle.ash_meaning.specs.State.{Seq, Number}
 use Rattle.ash_durable.specs.Hosting.{Hosted, Handles}
-use Rattle.ash_durable.proofs.Handling.{seen_host, handles_seq}
+use Rattle.ash_durable.proofs.HandledRequests.{seen_host}
+use Rattle.ash_durable.proofs.Handling.{handles_seq}
 use Rattle.ash_durable.proofs.host.Host.seq.Goals as goal
 
 pub returns-clause-handled : goal.returns-clause-handled

@@ -1,5 +1,5 @@
 use Rattle.std.proofs.Common.{rules, ap}
-use Rattle.ash_serve.proofs.CheckingLemmas.{file_checked}
+use Rattle.ash_serve.proofs.CheckRunLemmas.{file_checked}
 use Rattle.ash_serve.proofs.program.check.check_file.Goals as goal
 
 pub returns : goal.returns

@@ -1,8 +1,8 @@
 use Rattle.std.proofs.Common.{sym, subst, List, ℕ}
 use Rattle.std.proofs.lemmas.Result.{err_from_is_err_and}
 use Rattle.ash_registry.specs.Registered.{registered}
-use Rattle.ash_serve.specs.Checking.{ReadsScript, verdict_of}
-use Rattle.ash_serve.proofs.CheckingLemmas.{script_read, script_unjudged, script_reported}
+use Rattle.ash_serve.specs.CheckRun.{ReadsScript, verdict_of}
+use Rattle.ash_serve.proofs.CheckRunLemmas.{script_read, script_unjudged, script_reported}
 use Rattle.ash_serve.proofs.program.check.check_script.Goals as goal
 
 pub returns-in_err-verdict-in-Ok : goal.returns-in_err-verdict-in-Ok

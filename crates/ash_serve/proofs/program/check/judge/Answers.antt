@@ -1,4 +1,4 @@
-use Rattle.ash_serve.proofs.CheckingLemmas.{takes_memory}
+use Rattle.ash_serve.proofs.CheckRunLemmas.{takes_memory}
 use Rattle.ash_serve.proofs.program.check.judge.Goals as goal
 
 pub returns-in-Err-NoMemory : goal.returns-in-Err-NoMemory

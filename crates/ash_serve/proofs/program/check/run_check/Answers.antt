@@ -1,8 +1,8 @@
 use Rattle.std.proofs.Common.{sym, subst}
 use Rattle.ash_registry.specs.Registered.{registered}
-use Rattle.ash_serve.specs.Checking.{EndsCheck}
+use Rattle.ash_serve.specs.CheckRun.{EndsCheck}
 use Rattle.ash_serve.specs.declared.program.ending.End.{End}
-use Rattle.ash_serve.proofs.CheckingLemmas.{ends_check}
+use Rattle.ash_serve.proofs.CheckRunLemmas.{ends_check}
 use Rattle.ash_serve.proofs.program.check.run_check.Goals as goal
 
 pub returns : goal.returns

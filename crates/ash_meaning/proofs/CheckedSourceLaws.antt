@@ -1,0 +1,233 @@
+-- The function that checks a source says exactly what the relation says.
+use Rattle.std.proofs.Common.{◌≡◌, ◌↔◌, ℕ, ◌-◌, inl, inr, List, [], ◌∷◌, length, Option, Some, None, option_map}
+use Rattle.std.proofs.Common.{Result, Ok, Err, refl, sym, ◌∙◌, ap, subst}
+use Rattle.std.specs.List.{slice_get}
+use Rattle.std.proofs.lemmas.List.{length-map}
+use Rattle.std.proofs.lemmas.Option.{slice_get-map}
+use Rattle.ash_lex.specs.Tokens.{Lexeme, FirstFault, lexeme_of, lexemes}
+use Rattle.ash_lex.specs.declared.tokens.Token.{Token}
+use Rattle.ash_lex.specs.declared.faults.LexFault.{LexFault}
+use Rattle.ash_lex.specs.declared.faults.LexFault.TheVariants as faults
+use Rattle.ash_tree.specs.Tree.{Item}
+use Rattle.ash_tree.specs.Tokens.{Tokens, tokens_of, placed}
+use Rattle.ash_tree.specs.Grammar.{Derives}
+use Rattle.ash_parse.specs.declared.faults.UnsupportedPart.{UnsupportedPart}
+use Rattle.ash_parse.specs.Readers.{Halt, Unexpected, TooDeep, ParseResult}
+use Rattle.ash_parse.specs.ItemReader.{module_at}
+use Rattle.ash_parse.specs.Faults.{end_of, fault_at}
+use Rattle.ash_parse.specs.Faults as parse_spec
+use Rattle.ash_parse.proofs.ItemComplete.{module_read as parsed_again}
+use Rattle.ash_parse.proofs.WholeModules.{module_derived}
+use Rattle.ash_parse.proofs.FirstFaults.{module_stops_first, first_is_stop}
+use Rattle.ash_registry.specs.Calls.{Registration}
+use Rattle.ash_typing.specs.declared.fault.Rule.{Rule}
+use Rattle.ash_typing.specs.declared.fault.Rule.TheVariants as rules
+use Rattle.ash_typed.specs.Modules.{Module as Typed}
+use Rattle.ash_classes.specs.References.{classes_of}
+use Rattle.ash_check.specs.Checks.{ScriptFault, Broken, Cyclic, checked, round_of}
+use Rattle.ash_check.proofs.ExactLaws.{accepted_is, cycle_is, broken_is}
+use Rattle.ash_meaning.specs.Lexing.{IsText, Lexes, lexical}
+use Rattle.ash_meaning.specs.Scanning.{scan, lex_result, lexed}
+use Rattle.ash_meaning.specs.CheckedSource.{CheckResult, tokens_in, end_by, end_in, syntactic, refusal_at, IsNoScript}
+use Rattle.ash_meaning.specs.CheckedSource.{broken_at, untyped, IsTypedScript, IsUntypedScript}
+use Rattle.ash_meaning.specs.CheckedSource.{IsCyclicScript, ChecksTokens, Checks, no_tokens, has_tokens}
+use Rattle.ash_meaning.specs.CheckedSource.{unless_fault, items_checked, script_checked}
+use Rattle.ash_meaning.specs.CheckedSource.{tokens_checked, checked_on, checked_source, TakesMemoryToRefuse}
+use Rattle.ash_meaning.specs.CheckedSource.{TakesMemoryToCheck}
+use Rattle.ash_meaning.specs.Refusals.{Refusal}
+use Rattle.ash_meaning.specs.Refusals as refusals
+use Rattle.ash_meaning.proofs.LexingLaws.{lexed-is, lexed-only, of_text}
+use Rattle.ash_meaning.proofs.ScanLaws.{IsScan, scan-is}
+
+-- the code's tokens as the grammar sees them
+
+pub seen_tokens : (ts : List Token) → tokens_of ts ≡ tokens_in (lexemes ts)
+seen_tokens [] = refl
+seen_tokens (t ∷ ts) = ap (λ (l : Tokens). placed t ∷ l) (seen_tokens ts)
+
+seen_last : (o : Option Token) → parse_spec.end_by o ≡ end_by (option_map lexeme_of o)
+seen_last None = refl
+seen_last (Some t) = refl
+
+pub seen_end : (ts : List Token) → end_of ts ≡ end_in (lexemes ts)
+seen_end ts = rw (length-map ts lexeme_of, slice_get-map lexeme_of ts (length ts - 1))
+    (seen_last (slice_get ts (length ts - 1)))
+
+-- what checking tokens comes to
+
+items_is : (registered : List Registration) (tokens : List Lexeme) (items : List Item) → Derives 0 (tokens_in tokens) items
+    → (r : Result Typed ScriptFault) → checked registered items ≡ r → ChecksTokens registered tokens (unless_fault items r)
+items_is registered tokens items derived (Ok typed) e =
+    let h = (accepted_is registered items typed).0 e in
+    record { derived = derived; typed = typed; by_rules = h.0; acyclic = h.1 }
+items_is registered tokens items derived (Err (Broken fault)) e =
+    inr (inl (record {
+      items = items;
+      derived = derived;
+      fault = fault;
+      first = (broken_is registered items fault).0 e;
+      reported = refl;
+    }))
+items_is registered tokens items derived (Err (Cyclic names)) e =
+    let h = (cycle_is registered items names).0 e in
+    inr (inr (record {
+      items = items;
+      derived = derived;
+      typed = h.0;
+      by_rules = h.3;
+      first = h.1;
+      others = h.2;
+      cycle = h.4;
+      reported = ap refusals.CyclicType h.5;
+    }))
+
+script_is : (registered : List Registration) (tokens : List Lexeme) (o : ParseResult (List Item)) → module_at (tokens_in tokens) ≡ o
+    → ChecksTokens registered tokens (script_checked registered tokens o)
+script_is registered tokens (Ok script) e =
+    items_is registered tokens script.0 (module_derived (tokens_in tokens) script.0 script.1 e)
+    (checked registered script.0) refl
+script_is registered tokens (Err halt) e =
+    inl (record { halt = halt; first = module_stops_first (tokens_in tokens) halt e; reported = refl })
+
+tokens_is : (registered : List Registration) (tokens : List Lexeme)
+    → ChecksTokens registered tokens (tokens_checked registered tokens)
+unfolding tokens_checked
+tokens_is registered tokens = script_is registered tokens (module_at (tokens_in tokens)) refl
+
+-- and to nothing else
+
+pub parsed : (registered : List Registration) (tokens : List Lexeme) (items : List Item) → Derives 0 (tokens_in tokens) items
+    → tokens_checked registered tokens ≡ items_checked registered items
+unfolding tokens_checked
+parsed registered tokens items derived = ap (script_checked registered tokens)
+    (parsed_again (tokens_in tokens) items derived)
+
+typed_only : (registered : List Registration) (tokens : List Lexeme) (items : List Item) → IsTypedScript registered tokens items
+    → tokens_checked registered tokens ≡ Ok items
+typed_only registered tokens items h = parsed registered tokens items h.derived
+    ∙ ap (unless_fault items) ((accepted_is registered items h.typed).1 (h.by_rules, h.acyclic))
+
+stopped : (registered : List Registration) (tokens : List Lexeme) (refusal : Refusal) → IsNoScript tokens refusal
+    → tokens_checked registered tokens ≡ Err refusal
+unfolding tokens_checked
+stopped registered tokens refusal h = ap (script_checked registered tokens)
+    (first_is_stop (tokens_in tokens) h.halt h.first) ∙ ap (λ (r : Refusal). Err r) (sym h.reported)
+
+untyped_only : (registered : List Registration) (tokens : List Lexeme) (refusal : Refusal)
+    → IsUntypedScript registered tokens refusal → tokens_checked registered tokens ≡ Err refusal
+untyped_only registered tokens refusal h = parsed registered tokens h.items h.derived
+    ∙ ap (unless_fault h.items) ((broken_is registered h.items h.fault).1 h.first)
+    ∙ ap (λ (r : Refusal). Err r) (sym h.reported)
+
+cyclic_only : (registered : List Registration) (tokens : List Lexeme) (refusal : Refusal)
+    → IsCyclicScript registered tokens refusal → tokens_checked registered tokens ≡ Err refusal
+cyclic_only registered tokens refusal h =
+    let found = (cycle_is registered h.items (round_of (classes_of h.items) (h.first, h.others))).1
+    (h.typed, h.first, h.others, h.by_rules, h.cycle, refl) in
+    parsed registered tokens h.items h.derived ∙ ap (unless_fault h.items) found
+    ∙ ap (λ (r : Refusal). Err r) (sym h.reported)
+
+tokens_only : (registered : List Registration) (tokens : List Lexeme) (outcome : CheckResult)
+    → ChecksTokens registered tokens outcome → tokens_checked registered tokens ≡ outcome
+tokens_only registered tokens (Ok items) h = typed_only registered tokens items h
+tokens_only registered tokens (Err refusal) (inl h) = stopped registered tokens refusal h
+tokens_only registered tokens (Err refusal) (inr (inl h)) = untyped_only registered tokens refusal h
+tokens_only registered tokens (Err refusal) (inr (inr h)) = cyclic_only registered tokens refusal h
+
+-- what checking a source comes to
+
+checked_on-is : (registered : List Registration) (source : List ℕ) (l : Result (List Lexeme) Refusal) → Lexes source l
+    → Checks registered source (checked_on registered l)
+checked_on-is registered source (Ok ts) h = has_tokens ts h (tokens_is registered ts)
+checked_on-is registered source (Err refusal) h = no_tokens refusal refl h
+
+pub checked_source-is : (registered : List Registration) (source : List ℕ)
+    → Checks registered source (checked_source registered source)
+unfolding checked_source
+checked_source-is registered source = checked_on-is registered source (lexed source) (lexed-is source)
+
+pub checked_source-only : (registered : List Registration) (source : List ℕ) (outcome : CheckResult)
+    → Checks registered source outcome → checked_source registered source ≡ outcome
+unfolding checked_source
+checked_source-only registered source outcome (no_tokens refusal e h) =
+    ap (checked_on registered) (lexed-only source (Err refusal) h) ∙ sym e
+checked_source-only registered source outcome (has_tokens ts h checks) =
+    ap (checked_on registered) (lexed-only source (Ok ts) h) ∙ tokens_only registered ts outcome checks
+
+pub checked_source-exact : (registered : List Registration) (source : List ℕ) (outcome : CheckResult)
+    → (checked_source registered source ≡ outcome) ↔ Checks registered source outcome
+checked_source-exact registered source outcome = (
+  λ e. subst (Checks registered source) e (checked_source-is registered source),
+  checked_source-only registered source outcome,
+)
+
+-- a source with tokens is checked as they are
+pub of_tokens : (registered : List Registration) (source : List ℕ) (ts : List Lexeme) → Lexes source (Ok ts)
+    → checked_source registered source ≡ tokens_checked registered ts
+unfolding checked_source
+of_tokens registered source ts h = ap (checked_on registered) (lexed-only source (Ok ts) h)
+
+-- and one without is refused
+pub of_refusal : (registered : List Registration) (source : List ℕ) (refusal : Refusal) → Lexes source (Err refusal)
+    → checked_source registered source ≡ Err refusal
+of_refusal registered source refusal h = checked_source-only registered source (Err refusal) (no_tokens refusal refl h)
+
+-- a text takes memory to check
+
+takes_fault : (source : List ℕ) (fault : LexFault) → FirstFault source fault → TakesMemoryToRefuse (lexical fault)
+takes_fault source (faults.BadCharacter at) h = tt
+takes_fault source (faults.UnclosedComment at) h = tt
+takes_fault source (faults.NumberTooLarge at) h = tt
+takes_fault source faults.SourceTooLong h = absurd h.5
+takes_fault source faults.NoMemory h = absurd h.5
+
+takes_rule : (rule : Rule) (at : ℕ) → TakesMemoryToRefuse (broken_at rule at)
+takes_rule rules.UnknownName at = tt
+takes_rule rules.UnknownType at = tt
+takes_rule rules.NameTaken at = tt
+takes_rule rules.TypeMismatch at = tt
+takes_rule rules.WrongArgumentCount at = tt
+takes_rule rules.NotAssignable at = tt
+takes_rule rules.NoReturn at = tt
+takes_rule rules.Misplaced at = tt
+takes_rule rules.NoFactory at = tt
+takes_rule rules.TooMany at = tt
+takes_rule rules.ConstantOutOfRange at = tt
+takes_rule rules.DuplicateCase at = tt
+
+pub takes_untyped : (why : ScriptFault) → TakesMemoryToRefuse (untyped why)
+takes_untyped (Broken fault) = takes_rule fault.rule fault.at
+takes_untyped (Cyclic names) = tt
+
+takes_items : (items : List Item) (r : Result Typed ScriptFault) → TakesMemoryToCheck (unless_fault items r)
+takes_items items (Ok typed) = tt
+takes_items items (Err why) = takes_untyped why
+
+takes_part : (at : ℕ) (part : Option UnsupportedPart) → TakesMemoryToRefuse (syntactic (fault_at at part))
+takes_part at None = tt
+takes_part at (Some part) = tt
+
+pub takes_halt : (tokens : List Lexeme) (halt : Halt) → TakesMemoryToRefuse (refusal_at tokens halt)
+takes_halt tokens (Unexpected []) = tt
+takes_halt tokens (Unexpected ((m, p) ∷ rest)) = takes_part p.at _
+takes_halt tokens (TooDeep rest) = tt
+
+takes_script : (registered : List Registration) (tokens : List Lexeme) (o : ParseResult (List Item))
+    → TakesMemoryToCheck (script_checked registered tokens o)
+takes_script registered tokens (Ok script) = takes_items script.0 (checked registered script.0)
+takes_script registered tokens (Err halt) = takes_halt tokens halt
+
+takes_tokens : (registered : List Registration) (tokens : List Lexeme) → TakesMemoryToCheck (tokens_checked registered tokens)
+unfolding tokens_checked
+takes_tokens registered tokens = takes_script registered tokens (module_at (tokens_in tokens))
+
+takes_reported : (registered : List Registration) (source : List ℕ) (r : Result (List Lexeme) LexFault) → IsScan source r
+    → TakesMemoryToCheck (checked_on registered (lex_result r))
+takes_reported registered source (Ok ts) h = takes_tokens registered ts
+takes_reported registered source (Err fault) h = takes_fault source fault h
+
+pub takes_text : (registered : List Registration) (source : List ℕ) → IsText source
+    → TakesMemoryToCheck (checked_source registered source)
+unfolding checked_source
+takes_text registered source text = subst (λ l. TakesMemoryToCheck (checked_on registered l))
+    (sym (of_text source text)) (takes_reported registered source (scan source) (scan-is source))

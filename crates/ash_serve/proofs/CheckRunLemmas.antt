@@ -1,0 +1,167 @@
+-- Checking a script: from what was read and written to what that says of the whole check.
+use Rattle.std.proofs.Common.{◌≡◌, ◌<◌, ◌≤◌, ◌⊎◌, ℕ, ◌^◌, List, [], ◌++◌, length, refl, sym, ap, ◌∙◌, subst, arith}
+use Rattle.std.proofs.Common.{Option, Some, None, Ok, Err, Result, inl, inr, ⊎_elim}
+use Rattle.std.proofs.lemmas.List.{append-nil, take_all, take_at}
+use Rattle.std.specs.Io.KnownBytes.{Consumes, IsAtEnd, Appends, Keeps}
+use Rattle.ash_registry.specs.Calls.{Registration}
+use Rattle.ash_meaning.specs.declared.refusal.Refusal as code
+use Rattle.ash_meaning.specs.declared.refusal.Refusal.TheVariants as the
+use Rattle.ash_meaning.specs.Refusals.{Refusal, refusal_of}
+use Rattle.ash_meaning.specs.Refusals as refusals
+use Rattle.ash_meaning.specs.CheckedSource.{CheckResult, TakesMemoryToCheck}
+use Rattle.ash_lines.specs.Source.{Feed}
+use Rattle.ash_lines.specs.Sink.{Outlet}
+use Rattle.ash_lines.specs.Reading.{source_prefix, ReadsBytes}
+use Rattle.ash_serve.specs.Serving.{fault_of}
+use Rattle.ash_serve.specs.CheckRun.{verdict_line, verdict_on, verdict_status, ending_of, Judges, WritesVerdict}
+use Rattle.ash_serve.specs.CheckRun.{ReadsScript, ChecksScript, IsScriptOf, ChecksFile, EndsCheck}
+use Rattle.ash_serve.specs.Program.{ending_status, end_of}
+use Rattle.ash_lines.specs.Reader.{left_of, allowance_of, reader_feed}
+use Rattle.ash_lines.specs.Writer.{writer_outlet}
+use Rattle.ash_lines.specs.declared.reader.Reader.{Reader}
+use Rattle.ash_lines.specs.declared.writer.Writer.{Writer}
+use Rattle.ash_lines.specs.declared.bytes.BytesRead.{BytesRead}
+use Rattle.ash_lines.specs.declared.bytes.BytesRead.TheVariants as bytes_read
+use Rattle.ash_lines.specs.declared.source.ReadFault.{ReadFault}
+use Rattle.ash_lines.specs.declared.source.ReadFault.TheVariants as read_faults
+use Rattle.ash_serve.specs.declared.fault.RunFault.TheVariants as faults
+use Rattle.ash_serve.specs.declared.program.ending.Ending.{Ending}
+use Rattle.ash_serve.specs.declared.program.fault.Fault.{Fault}
+use Rattle.ash_serve.specs.declared.program.fault.Fault.TheVariants as program
+
+-- so few bytes are all stored
+prefix-whole : (bytes : List ℕ) → length bytes ≤ 65537 → source_prefix bytes ≡ bytes
+unfolding source_prefix
+prefix-whole bytes h = take_all 65537 bytes h
+
+prefix-exact : (start rest : List ℕ) → length start ≡ 65537 → source_prefix (start ++ rest) ≡ start
+unfolding source_prefix
+prefix-exact start rest e = take_at start rest 65537 e
+
+-- Judging a source.
+
+abbrev IsNoMemory : CheckResult → Type 0
+IsNoMemory (Err refusals.NoMemory) = Unit {0}
+IsNoMemory _ = ⊥
+
+pub takes_memory : (outcome : CheckResult) (refusal : code.Refusal) → ((refusal_of refusal ≡ refusals.NoMemory) × TakesMemoryToCheck outcome) ⊎ (outcome ≡ Err (refusal_of refusal)) → refusal ≡ the.NoMemory → outcome ≡ Err refusals.SourceTooLong → ⊥
+takes_memory outcome refusal h n e =
+    ⊎_elim
+    (λ (t : (refusal_of refusal ≡ refusals.NoMemory) × TakesMemoryToCheck outcome). subst TakesMemoryToCheck e t.1)
+    (λ (r : outcome ≡ Err (refusal_of refusal)). subst IsNoMemory (sym (subst (λ (x : code.Refusal). outcome ≡ Err (refusal_of x)) n r) ∙ e) cc)
+    h
+
+-- Over a source and a sink.
+
+-- what is stored of 65,537 bytes, or of fewer where the source ends, is the script
+pub script_read : {S : Type 0} (feed : Feed S) (s t : S) (came : BytesRead) (prefix : List ℕ) → ReadsBytes feed s (Ok came) 65537 prefix t → ReadsScript feed s prefix t
+script_read feed s t bytes_read.All prefix h = subst (λ (x : List ℕ). ReadsScript feed s x t) (sym (h.3 ∙ prefix-whole h.0 (omega (arith, h.2)))) (h.1, inl h.2)
+script_read feed s t bytes_read.Cut prefix h = subst (λ (x : List ℕ). ReadsScript feed s x t) (sym (h.4 ∙ prefix-whole h.0 (omega (arith, h.2)))) (h.1, inr (h.2, h.3))
+
+-- a read failed before that
+pub script_unread : {S K : Type 0} (feed : Feed S) (outlet : Outlet K) (registered : List Registration) (s t : S) (k : K) (fault : ReadFault) (prefix : List ℕ) → ReadsBytes feed s (Err fault) 65537 prefix t → ChecksScript feed outlet registered s k (Err (program.Run (fault_of fault))) t k
+script_unread feed outlet registered s t k read_faults.TooLong prefix h = (h.0, h.2, h.1, refl)
+script_unread feed outlet registered s t k read_faults.Failed prefix h = (h.0, h.2, h.1, refl)
+
+-- there was no memory to judge it
+pub script_unjudged : {S K : Type 0} (feed : Feed S) (outlet : Outlet K) (registered : List Registration) (s t : S) (k : K) (script : List ℕ) (fault : Fault) → ReadsScript feed s script t → Judges registered script (Err fault) → ChecksScript feed outlet registered s k (Err fault) t k
+script_unjudged feed outlet registered s t k script program.NoMemory h j = (inr (script, h, j), refl)
+script_unjudged feed outlet registered s t k script program.Usage h j = absurd j
+script_unjudged feed outlet registered s t k script (program.Registry fault) h j = absurd j
+script_unjudged feed outlet registered s t k script (program.Store fault) h j = absurd j
+script_unjudged feed outlet registered s t k script (program.Run fault) h j = absurd j
+
+-- the script was read, and the verdict on it was written
+pub script_reported : {S K : Type 0} (feed : Feed S) (outlet : Outlet K) (registered : List Registration) (s t : S) (k o : K) (script : List ℕ) (verdict : Option Refusal) (r : Result Ending Fault) → ReadsScript feed s script t → verdict ≡ verdict_on registered script → WritesVerdict outlet k verdict r o → ChecksScript feed outlet registered s k r t o
+script_reported feed outlet registered s t k o script verdict (Ok ending) h e w = (script, h, subst (λ (x : Option Refusal). WritesVerdict outlet k x (Ok ending) o) e w)
+script_reported feed outlet registered s t k o script verdict (Err (program.Run faults.Write)) h e w = (script, h, subst (λ (x : Option Refusal). WritesVerdict outlet k x (Err (program.Run faults.Write)) o) e w)
+script_reported feed outlet registered s t k o script verdict (Err (program.Run faults.Truncated)) h e w = absurd w
+script_reported feed outlet registered s t k o script verdict (Err (program.Run faults.TooLong)) h e w = absurd w
+script_reported feed outlet registered s t k o script verdict (Err (program.Run faults.Read)) h e w = absurd w
+script_reported feed outlet registered s t k o script verdict (Err (program.Run faults.NoMemory)) h e w = absurd w
+script_reported feed outlet registered s t k o script verdict (Err program.Usage) h e w = absurd w
+script_reported feed outlet registered s t k o script verdict (Err program.NoMemory) h e w = absurd w
+script_reported feed outlet registered s t k o script verdict (Err (program.Registry fault)) h e w = absurd w
+script_reported feed outlet registered s t k o script verdict (Err (program.Store fault)) h e w = absurd w
+
+-- Over a reader and a writer.
+
+script_of : (file left : Option (List ℕ)) (script : List ℕ) → Consumes file left script → (length script ≡ 65537) ⊎ ((length script < 65537) × IsAtEnd left) → IsScriptOf file script
+script_of None left script h r = tt
+script_of (Some xs) None script h r = absurd h
+script_of (Some xs) (Some ys) script h r =
+    ⊎_elim
+    (λ (full : length script ≡ 65537). sym (ap source_prefix h ∙ prefix-exact script ys full))
+    (λ (e : (length script < 65537) × (ys ≡ [])).
+    let all : xs ≡ script = h ∙ (ap (λ (y : List ℕ). script ++ y) e.1 ∙ append-nil script) in
+    sym (ap source_prefix all ∙ prefix-whole script (omega (arith, e.0))))
+    r
+
+keeps-same : {W : Type 0} (contents : W → Option (List ℕ)) (k o : Writer W) → o ≡ k → Keeps (contents k.writer.now) (contents o.writer.now)
+keeps-same contents k o e = subst (λ (y : Writer _). Keeps (contents k.writer.now) (contents y.writer.now)) (sym e) (keeps (contents k.writer.now))
+  where
+    keeps : (known : Option (List ℕ)) → Keeps known known
+    keeps None = tt
+    keeps (Some xs) = refl
+
+file-checked : {R W : Type 0} (remaining : R → Option (List ℕ)) (contents : W → Option (List ℕ)) (registered : List Registration) (s t : Reader R) (k o : Writer W) (file : Option (List ℕ)) (r : Result Ending Fault) → left_of remaining s ≡ file → allowance_of s ≡ 2 ^ 40 → k.buffer.items ≡ [] → ChecksScript (reader_feed remaining) (writer_outlet contents) registered s k r t o → ChecksFile registered file (contents k.writer.now) r (contents o.writer.now)
+file-checked remaining contents registered s t k o file (Ok ending) e a b w = (
+  w.0,
+  script_of file (left_of remaining t) w.0 (subst (λ (y : Option (List ℕ)). Consumes y (left_of remaining t) w.0) e w.1.0.0) w.1.1,
+  w.2.0,
+  subst (λ (y : List ℕ). Appends (contents k.writer.now) (contents o.writer.now) (y ++ verdict_line (verdict_on registered w.0))) b w.2.1.written.0,
+)
+file-checked remaining contents registered s t k o file (Err (program.Run faults.Write)) e a b w = (
+  w.0,
+  script_of file (left_of remaining t) w.0 (subst (λ (y : Option (List ℕ)). Consumes y (left_of remaining t) w.0) e w.1.0.0) w.1.1,
+  w.2.out,
+  w.2.lost,
+  w.2.broke.0,
+  subst (λ (y : List ℕ). y ++ verdict_line (verdict_on registered w.0) ≡ w.2.out ++ w.2.lost) b w.2.whole,
+)
+file-checked remaining contents registered s t k o file (Err (program.Run faults.Read)) e a b w = keeps-same contents k o w.3
+file-checked remaining contents registered s t k o file (Err (program.Run faults.TooLong)) e a b w = absurd (omega (arith, w.1, w.2.0.1, w.2.1, a))
+file-checked remaining contents registered s t k o file (Err (program.Run faults.Truncated)) e a b w = absurd w
+file-checked remaining contents registered s t k o file (Err (program.Run faults.NoMemory)) e a b w = absurd w
+file-checked remaining contents registered s t k o file (Err program.Usage) e a b w = absurd w
+file-checked remaining contents registered s t k o file (Err program.NoMemory) e a b w = keeps-same contents k o w.1
+file-checked remaining contents registered s t k o file (Err (program.Registry fault)) e a b w = absurd w
+file-checked remaining contents registered s t k o file (Err (program.Store fault)) e a b w = absurd w
+
+-- the sink writes into the writer that it was made with
+checked-name : {R W : Type 0} (remaining : R → Option (List ℕ)) (contents : W → Option (List ℕ)) (registered : List Registration) (s t : Reader R) (k o : Writer W) (r : Result Ending Fault) → ChecksScript (reader_feed remaining) (writer_outlet contents) registered s k r t o → o.writer.ghost_name ≡ k.writer.ghost_name
+checked-name remaining contents registered s t k o (Ok ending) w = w.2.1.written.1
+checked-name remaining contents registered s t k o (Err (program.Run faults.Write)) w = w.2.broke.1
+checked-name remaining contents registered s t k o (Err (program.Run faults.Read)) w = ap (λ (y : Writer _). y.writer.ghost_name) w.3
+checked-name remaining contents registered s t k o (Err (program.Run faults.TooLong)) w = ap (λ (y : Writer _). y.writer.ghost_name) w.3
+checked-name remaining contents registered s t k o (Err (program.Run faults.Truncated)) w = absurd w
+checked-name remaining contents registered s t k o (Err (program.Run faults.NoMemory)) w = absurd w
+checked-name remaining contents registered s t k o (Err program.Usage) w = absurd w
+checked-name remaining contents registered s t k o (Err program.NoMemory) w = ap (λ (y : Writer _). y.writer.ghost_name) w.1
+checked-name remaining contents registered s t k o (Err (program.Registry fault)) w = absurd w
+checked-name remaining contents registered s t k o (Err (program.Store fault)) w = absurd w
+
+-- the script was checked, where x is what the writer ends as
+pub file_checked : {R W : Type 0} (remaining : R → Option (List ℕ)) (contents : W → Option (List ℕ)) (registered : List Registration) (s t : Reader R) (k o : Writer W) (file : Option (List ℕ)) (r : Result Ending Fault) (before x : W) → left_of remaining s ≡ file → allowance_of s ≡ 2 ^ 40 → k.buffer.items ≡ [] → k.writer.now ≡ before → (o.writer.ghost_name ≡ k.writer.ghost_name → x ≡ o.writer.now) → ChecksScript (reader_feed remaining) (writer_outlet contents) registered s k r t o → ChecksFile registered file (contents before) r (contents x)
+file_checked remaining contents registered s t k o file r before x e a b n f w =
+    let checked = file-checked remaining contents registered s t k o file r e a b w in
+    subst (λ (y : _). ChecksFile registered file (contents y) r (contents x)) n
+    (subst (λ (y : _). ChecksFile registered file (contents k.writer.now) r (contents y)) (sym (f (checked-name remaining contents registered s t k o r w))) checked)
+
+-- The program ends by the verdict.
+
+status-verdict : (verdict : Option Refusal) → ending_status (ending_of verdict) ≡ verdict_status verdict
+status-verdict None = refl
+status-verdict (Some refusal) = refl
+
+pub ends_check : (registered : List Registration) (file before after : Option (List ℕ)) (r : Result Ending Fault) → ChecksFile registered file before r after → EndsCheck registered file before (end_of r) after
+ends_check registered file before after (Ok ending) h = (h.0, h.1, ap ending_status h.2 ∙ status-verdict (verdict_on registered h.0), h.3)
+ends_check registered file before after (Err (program.Run faults.Write)) h = (h.0, h.1, refl, h.2, h.3, h.4, h.5)
+ends_check registered file before after (Err (program.Run faults.Read)) h = (refl, h)
+ends_check registered file before after (Err (program.Run faults.TooLong)) h = absurd h
+ends_check registered file before after (Err (program.Run faults.Truncated)) h = absurd h
+ends_check registered file before after (Err (program.Run faults.NoMemory)) h = absurd h
+ends_check registered file before after (Err program.Usage) h = absurd h
+ends_check registered file before after (Err program.NoMemory) h = (refl, h)
+ends_check registered file before after (Err (program.Registry fault)) h = absurd h
+ends_check registered file before after (Err (program.Store fault)) h = absurd h

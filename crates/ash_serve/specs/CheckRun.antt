@@ -1,0 +1,128 @@
+-- Checking a script: its bytes are read and judged, and the verdict is written.
+use Rattle.std.specs.Prelude.{◌≡◌, ◌<◌, ◌⊎◌, ℕ, List, [], ◌∷◌, ◌++◌, length, codes, Option, Some, None, option_map}
+use Rattle.std.specs.Prelude.{Result, Ok, Err, IfSome}
+use Rattle.std.specs.Io.KnownBytes.{Appends, Keeps}
+use Rattle.ash_registry.specs.Calls.{Registration}
+use Rattle.ash_meaning.specs.declared.refusal.Refusal as code
+use Rattle.ash_meaning.specs.Refusals.{Refusal, refusal_of}
+use Rattle.ash_meaning.specs.Refusals as refusals
+use Rattle.ash_meaning.specs.CheckedSource.{CheckResult, checked_source}
+use Rattle.ash_lines.specs.Source.{Feed, Faults}
+use Rattle.ash_lines.specs.Sink.{Outlet, WritesAll, FailsPartway}
+use Rattle.ash_lines.specs.Reading.{source_prefix}
+use Rattle.ash_lines.specs.Replies.{refusal_text}
+use Rattle.ash_lines.specs.declared.source.ReadFault.TheVariants as read_faults
+use Rattle.ash_serve.specs.declared.fault.RunFault.TheVariants as faults
+use Rattle.ash_serve.specs.declared.program.ending.End.{End}
+use Rattle.ash_serve.specs.declared.program.ending.Ending.{Ending}
+use Rattle.ash_serve.specs.declared.program.ending.Ending.TheVariants as endings
+use Rattle.ash_serve.specs.declared.program.fault.Fault.{Fault}
+use Rattle.ash_serve.specs.declared.program.fault.Fault.TheVariants as program
+
+-- the text of the verdict on a script: `ok`, or its refusal as the reply to a `load` has it
+abbrev pub verdict_text : Option Refusal → List ℕ
+verdict_text None = codes "ok"
+verdict_text (Some refusal) = codes "refused " ++ refusal_text refusal
+
+-- the verdict as a line
+abbrev pub verdict_line : Option Refusal → List ℕ
+verdict_line verdict = verdict_text verdict ++ 10 ∷ []
+
+-- how the program ends by the verdict
+abbrev pub ending_of : Option Refusal → Ending
+ending_of None = endings.Well
+ending_of (Some refusal) = endings.Refused
+
+-- what the code's verdict represents
+abbrev pub verdict_of : Option code.Refusal → Option Refusal
+verdict_of verdict = option_map refusal_of verdict
+
+-- why a source is refused, if it is
+abbrev pub refusal_in : CheckResult → Option Refusal
+refusal_in (Ok items) = None
+refusal_in (Err refusal) = Some refusal
+
+abbrev pub verdict_on : List Registration → List ℕ → Option Refusal
+verdict_on registered source = refusal_in (checked_source registered source)
+
+-- It may take memory to judge any source but one that is too long.
+abbrev pub TakesMemory : List Registration → List ℕ → Type 0
+TakesMemory registered source = checked_source registered source ≡ Err refusals.SourceTooLong → ⊥
+
+-- Judging a source gave why it is refused, if it is, or there was no memory.
+abbrev pub Judges : List Registration → List ℕ → Result (Option code.Refusal) Fault → Type 0
+Judges registered source (Ok verdict) = verdict_of verdict ≡ verdict_on registered source
+Judges registered source (Err program.NoMemory) = TakesMemory registered source
+Judges registered source (Err _) = ⊥
+
+-- The verdict was written, and this is how the program ends by it; or a write failed.
+abbrev pub WritesVerdict : {K : Type 0} → Outlet K → K → Option Refusal → Result Ending Fault → K → Type 0
+WritesVerdict outlet old verdict (Ok ending) new =
+    (ending ≡ ending_of verdict) × WritesAll outlet old (verdict_line verdict) new
+WritesVerdict outlet old verdict (Err (program.Run faults.Write)) new =
+    FailsPartway outlet old (verdict_line verdict) new
+WritesVerdict outlet old verdict (Err _) new = ⊥
+
+-- A script was read: all that a source gives, or the first 65,537 bytes, by which it is seen to be too long.
+abbrev pub ReadsScript : {S : Type 0} → Feed S → S → List ℕ → S → Type 0
+ReadsScript feed old script new =
+    feed.reads old script new × ((length script ≡ 65537) ⊎ ((length script < 65537) × feed.ended new))
+
+-- The script of a source was read and the verdict on it was written; or a read or a write failed, or there was no
+-- memory.
+abbrev pub ChecksScript : {S K : Type 0} → Feed S → Outlet K → List Registration → S → K → Result Ending Fault → S → K
+    → Type 0
+ChecksScript feed outlet registered s k (Ok ending) s' k' =
+    (script : List ℕ) × ReadsScript feed s script s'
+    × WritesVerdict outlet k (verdict_on registered script) (Ok ending) k'
+ChecksScript feed outlet registered s k (Err (program.Run faults.Write)) s' k' =
+    (script : List ℕ) × ReadsScript feed s script s'
+    × FailsPartway outlet k (verdict_line (verdict_on registered script)) k'
+ChecksScript feed outlet registered s k (Err (program.Run faults.Read)) s' k' =
+    (script : List ℕ) × (length script < 65537) × Faults feed s script read_faults.Failed s' × (k' ≡ k)
+ChecksScript feed outlet registered s k (Err (program.Run faults.TooLong)) s' k' =
+    (script : List ℕ) × (length script < 65537) × Faults feed s script read_faults.TooLong s' × (k' ≡ k)
+ChecksScript {S} feed outlet registered s k (Err program.NoMemory) s' k' =
+    ((s' ≡ s) ⊎ ((script : List ℕ) × ReadsScript feed s script s' × TakesMemory registered script)) × (k' ≡ k)
+ChecksScript feed outlet registered s k (Err _) s' k' = ⊥
+
+-- The script of a file, where its bytes are known, is all of them or the first 65,537.
+abbrev pub IsScriptOf : Option (List ℕ) → List ℕ → Type 0
+IsScriptOf file script = IfSome file (λ bytes. script ≡ source_prefix bytes)
+
+-- The same of a file and a writer, by their bytes alone, where these are known.
+abbrev pub ChecksFile : List Registration → Option (List ℕ) → Option (List ℕ) → Result Ending Fault → Option (List ℕ)
+    → Type 0
+ChecksFile registered file before (Ok ending) after =
+    (script : List ℕ) × IsScriptOf file script × (ending ≡ ending_of (verdict_on registered script))
+    × Appends before after (verdict_line (verdict_on registered script))
+ChecksFile registered file before (Err (program.Run faults.Write)) after =
+    (script : List ℕ) × IsScriptOf file script
+    × (out : List ℕ) × (lost : List ℕ) × Appends before after out
+    × (verdict_line (verdict_on registered script) ≡ out ++ lost)
+ChecksFile registered file before (Err (program.Run faults.Read)) after = Keeps before after
+ChecksFile registered file before (Err program.NoMemory) after = Keeps before after
+ChecksFile registered file before (Err _) after = ⊥
+
+-- The status that the program ends with once it has written this line: 1 for a refusal.
+abbrev pub verdict_status : Option Refusal → ℕ
+verdict_status None = 0
+verdict_status (Some refusal) = 1
+
+-- What a check of a file comes to as a program, by the fault that it writes on standard error, if there is one. With
+-- none, the line for the script is on standard output, and the status is that of the line. A fault has the status 1,
+-- and only where it is one of writing there may be a prefix of the line.
+abbrev pub EndsBy : List Registration → Option (List ℕ) → Option (List ℕ) → ℕ → Option Fault → Option (List ℕ) → Type 0
+EndsBy registered file before status None after =
+    (script : List ℕ) × IsScriptOf file script × (status ≡ verdict_status (verdict_on registered script))
+    × Appends before after (verdict_line (verdict_on registered script))
+EndsBy registered file before status (Some (program.Run faults.Write)) after =
+    (script : List ℕ) × IsScriptOf file script × (status ≡ 1)
+    × (out : List ℕ) × (lost : List ℕ) × Appends before after out
+    × (verdict_line (verdict_on registered script) ≡ out ++ lost)
+EndsBy registered file before status (Some (program.Run faults.Read)) after = (status ≡ 1) × Keeps before after
+EndsBy registered file before status (Some program.NoMemory) after = (status ≡ 1) × Keeps before after
+EndsBy registered file before status (Some _) after = ⊥
+
+abbrev pub EndsCheck : List Registration → Option (List ℕ) → Option (List ℕ) → End → Option (List ℕ) → Type 0
+EndsCheck registered file before end after = EndsBy registered file before end.status end.fault after
