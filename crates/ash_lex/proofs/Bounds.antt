@@ -12,7 +12,7 @@ use Rattle.ash_lex.specs.declared.signs.Sign.TheVariants.{Slash}
 use Rattle.ash_lex.specs.declared.pieces.Piece.{Piece}
 use Rattle.ash_lex.specs.declared.pieces.Piece.TheVariants.{Gap, Open, Name, Decimal, Hexadecimal, Sign as SignPiece}
 use Rattle.ash_lex.proofs.SignTable.{first_sign-longest}
-use Rattle.ash_lex.proofs.Prefixes.{both_true, starts-true, starts-append, length-le-prefix_len, comment_end-at, comment_end-none}
+use Rattle.ash_lex.proofs.Fronts.{both_true, starts-true, starts-append, length-le-prefix_len, comment_end-at, comment_end-none}
 
 -- how many bytes of the text the piece takes
 abbrev pub size : List ℕ → Option Piece → ℕ

@@ -13,7 +13,7 @@ use Rattle.ash_lex.specs.declared.signs.Sign.TheVariants.{NotIs}
 use Rattle.ash_lex.specs.declared.pieces.Piece.{Piece}
 use Rattle.ash_lex.specs.declared.pieces.Piece.TheVariants.{Gap, Open, Name, Decimal, Hexadecimal, Sign as SignPiece}
 use Rattle.ash_lex.proofs.SignTable.{first_sign-begins}
-use Rattle.ash_lex.proofs.Prefixes.{both_true, cond_cases, starts-true, Each-take_while, comment_end-some, comment_end-none_found}
+use Rattle.ash_lex.proofs.Fronts.{both_true, cond_cases, starts-true, Each-take_while, comment_end-some, comment_end-none_found}
 use Rattle.ash_lex.proofs.Bounds.{size, bound, letter_is_word}
 
 -- what the piece that is found says of the text

@@ -1,7 +1,7 @@
 pub mod WordTables
 pub mod WordLookups
 pub mod SignTable
-pub mod Prefixes
+pub mod Fronts
 pub mod Bounds
 pub mod Found
 pub mod Values

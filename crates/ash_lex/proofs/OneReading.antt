@@ -6,7 +6,7 @@ use Rattle.ash_lex.specs.Pieces.{IsOpenComment, IsGap, IsNumeral, open_comment, 
 use Rattle.ash_lex.specs.Tokens.{Meaning, Lexeme, Means, byte_order_mark, lexeme_at, Reads, marked, unmarked, gap, token, Spells, FaultAt, FirstFault, Rises}
 use Rattle.ash_lex.specs.declared.faults.LexFault.{LexFault}
 use Rattle.ash_lex.specs.declared.faults.LexFault.TheVariants.{BadCharacter, UnclosedComment, NumberTooLarge, SourceTooLong, NoMemory}
-use Rattle.ash_lex.proofs.Prefixes.{starts-append}
+use Rattle.ash_lex.proofs.Fronts.{starts-append}
 use Rattle.ash_lex.proofs.Found.{piece_nonempty}
 use Rattle.ash_lex.proofs.Sorts.{sort, gap_sort, open_sort, open_is_no_gap, numeral_sort, means_above, one_meaning, numeral_means}
 

@@ -1,4 +1,4 @@
--- Prefixes of a text: those that pass a test, those that a text begins with, and comments up to their end.
+-- Fronts of a text: those that pass a test, those that a text begins with, and comments up to their end.
 use Rattle.std.proofs.Common.{◌≡◌, ℕ, ◌+◌, ◌≤◌, Bool, true, false, not, cond, ◌&&◌, nat_eq, List, [], ◌∷◌, ◌++◌, length, drop, Option, Some, None, option_map, codes, sym, refl, ap, ◌∙◌, subst, inl, inr, ◌⊎◌, arith}
 use Rattle.std.specs.List.{starts_with, prefix_len, take_while}
 use Rattle.std.proofs.lemmas.Bool.Decides.{Decides-eqb}

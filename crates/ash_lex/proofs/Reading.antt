@@ -23,7 +23,7 @@ use Rattle.ash_lex.specs.declared.words.UnsupportedWord.{UnsupportedWord}
 use Rattle.ash_lex.specs.declared.words.UnsupportedWord.TheVariants.{Auto}
 use Rattle.ash_lex.specs.declared.faults.LexFault.{LexFault}
 use Rattle.ash_lex.specs.declared.faults.LexFault.TheVariants.{BadCharacter, UnclosedComment, NumberTooLarge, SourceTooLong, NoMemory}
-use Rattle.ash_lex.proofs.Prefixes.{starts-true, not_false}
+use Rattle.ash_lex.proofs.Fronts.{starts-true, not_false}
 use Rattle.ash_lex.proofs.Bounds.{letter_is_word}
 
 -- the text is read up to the place: its tokens so far, and the line there

@@ -16,7 +16,7 @@ use Rattle.ash_lex.specs.declared.words.UnsupportedWord.TheVariants.{Auto}
 use Rattle.ash_lex.proofs.SignTable.{sign_text-injective}
 use Rattle.ash_lex.proofs.WordTables.{reserved_word-of_text}
 use Rattle.ash_lex.proofs.WordLookups.{reserved_text-injective, unsupported_text-injective}
-use Rattle.ash_lex.proofs.Prefixes.{comment_end-at, comment_end-none}
+use Rattle.ash_lex.proofs.Fronts.{comment_end-at, comment_end-none}
 use Rattle.ash_lex.proofs.Bounds.{letter_is_no_blank, digit_is_no_blank, digit_is_no_letter}
 
 -- 0 for a blank, 1 for a comment, 2 for a word, 3 for a numeral, 4 for a sign

@@ -18,7 +18,7 @@ use Rattle.ash_lex.specs.declared.pieces.Piece.TheVariants as pieces
 use Rattle.ash_lex.specs.declared.faults.LexFault.{LexFault}
 use Rattle.ash_lex.specs.declared.faults.LexFault.TheVariants as faults
 use Rattle.ash_lex.proofs.WordLookups.{reserved_word-is, unsupported_word-is, reserved_word-none, unsupported_word-none}
-use Rattle.ash_lex.proofs.Prefixes.{starts-true}
+use Rattle.ash_lex.proofs.Fronts.{starts-true}
 use Rattle.ash_lex.proofs.Found.{prefix_is, none_stands}
 use Rattle.ash_lex.proofs.Reading.{IsReadTo, past_gap, past_token, first_fault, spelled, read_mark, read_nothing}
 use Rattle.ash_meaning.specs.Scanning.{Step, Gap, Token, Fault, word_by, step_over, after, From, scan_from, scan}
