@@ -1,4 +1,4 @@
-mod Kept
+mod CallLaws
 pub mod MomentLaws
 pub mod TornLaws
 pub mod DeviceLaws

@@ -1,23 +1,23 @@
--- What can be said of the disks of one type, and of one disk of it during calls.
+-- These definitions say what holds of the disks of one type, and of one disk of it during calls.
 use Rattle.std.specs.Prelude.{◌≡◌, ℕ, List}
 use Rattle.std.specs.Bool.{IsTrue}
 use Rattle.ash_disk.specs.Image.{Only}
 use Rattle.ash_disk.specs.Moments.{During, EveryMoment}
 use Rattle.ash_disk.specs.declared.disk.Disk.{Ghosts}
 
--- all ghost members of `Disk` as one record: `D.Disk` in a clause under the bound `D: Disk`
+-- `Device D` is the record of all ghost members of `Disk`: `D.Disk` in a clause under the bound `D: Disk`.
 abbrev pub Device : Type 0 → Type 1
 Device D = Ghosts D
 
--- a crash now leaves what a read of the disk gives, and nothing else
+-- A crash now leaves what a read of the disk gives, and nothing else.
 abbrev pub IsDurable : {D : Type 0} → Device D → D → Type 0
 IsDurable device disk = Only (device.seen disk) (device.leaves disk (device.clock disk))
 
--- calls took a disk from old to new, and at each moment of them a crash leaves only images with P
+-- Calls took a disk from old to new, and at each moment of them a crash leaves only images with P.
 abbrev pub Throughout : {D : Type 0} → Device D → D → D → (List ℕ → Type 0) → Type 0
 Throughout device old new P = During (device.clock old) (device.clock new) (device.leaves old) (device.leaves new) P
 
--- of every two images that two disks might have left at two moments, one of each disk, since two earlier times, R holds
+-- R holds of every two images that two disks might have left at two moments, one of each disk, since two earlier times.
 abbrev pub EveryMomentSince : {D : Type 0} → Device D → ℕ → ℕ → D → D → (List ℕ → List ℕ → Type 0) → Type 0
 EveryMomentSince device a b first second R =
     EveryMoment a (device.clock first) (device.leaves first) b (device.clock second) (device.leaves second) R

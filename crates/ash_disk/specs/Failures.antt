@@ -1,12 +1,12 @@
--- How a device counts its failures.
+-- These definitions say how a device counts its failures.
 use Rattle.std.specs.Prelude.{◌≡◌, ℕ, ◌+◌, ◌-◌, ◌^◌, ◌≤◌, min, Result, OnOk, OnErr}
 
--- the count rose, unless it stands at the most that 64 bits hold
+-- The count rose, unless it is the greatest that 64 bits hold.
 abbrev pub Rose : ℕ → ℕ → Type 0
 Rose old new = min (old + 1) (2 ^ 64 - 1) ≤ new
 
--- a call that fails is one more failure, and a call that does not fail is none
+-- A call that fails is one more failure, and a call that does not fail is none.
 pub record CountsFailure {T E : Type 0} (result : Result T E) (old new : ℕ) : Type 0 where
   pub never_falls : old ≤ new
-  pub reported : OnErr result (Rose old new)
+  pub counted : OnErr result (Rose old new)
   pub none : OnOk result (new ≡ old)

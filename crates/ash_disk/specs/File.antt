@@ -1,7 +1,7 @@
--- What a file of the system shows as a disk.
+-- This definition says what a file of the system shows as a disk.
 use Rattle.std.specs.Prelude.{ℕ}
 use Rattle.ash_disk.specs.declared.file.FileDisk.{FileDisk}
 
--- how often it has failed
+-- `file_failures f` is how often the file has failed.
 abbrev pub file_failures : FileDisk → ℕ
 file_failures f = f.failures

@@ -1,21 +1,21 @@
--- What a disk after a fuse shows.
+-- These definitions say what a disk with a fuse shows.
 use Rattle.std.specs.Prelude.{◌≡◌, ℕ, ◌+◌, ◌-◌, ◌<◌, Result, IsErr}
 use Rattle.ash_disk.specs.Failures.{CountsFailure}
 use Rattle.ash_disk.specs.declared.fuse.FuseDisk.{FuseDisk}
 
--- the disk that calls are passed on to
+-- `inner f` is the disk that calls are passed on to.
 abbrev pub inner : {D : Type 0} → FuseDisk D → D
 inner f = f.disk
 
--- how many more calls are passed on
+-- `calls_left f` is how many more calls are passed on.
 abbrev pub calls_left : {D : Type 0} → FuseDisk D → ℕ
 calls_left f = f.calls_left
 
--- the failures of the disk, and the calls that were not passed on
+-- `fuse_failures failures f` are the failures of the disk, and the calls that were not passed on.
 abbrev pub fuse_failures : {D : Type 0} → (D → ℕ) → FuseDisk D → ℕ
 fuse_failures failures f = failures f.disk + f.stopped
 
--- One call on a disk after a fuse. With no call left it fails and does not reach the disk. With some left there
+-- One call was made of a disk with a fuse. With no call left it fails and does not reach the disk. With some left there
 -- is one less, and a failure is that of the disk.
 pub record Burns {D T E : Type 0} (failures : D → ℕ) (result : Result T E) (old new : FuseDisk D) : Type 0 where
   pub one_less : calls_left new ≡ calls_left old - 1

@@ -4,7 +4,7 @@ ghost use Rattle.ash_disk.specs.Image.{after_write};
 
 use std::alloc::AllocError;
 
-// Writes over what stands at an offset, and past the end. An offset past the end means the end.
+// Writes over what is at an offset, and past the end. An offset past the end means the end.
 pub(crate) fn overwrite(file: &mut Vec<u8>, at: usize, bytes: &[u8]) -> Result<(), AllocError>
     ensures ok { OnOk result (file.new.items ≡ after_write file.old.items at bytes.now) }
     ensures err { OnErr result (file.new.items ≡ file.old.items) }

@@ -38,14 +38,14 @@ impl Picks {
         (self.next() & 0xff) as u8
     }
 
-    fn up_to(&mut self, most: usize) -> usize
-        ensures { result ≤ most }
+    fn up_to(&mut self, max: usize) -> usize
+        ensures { result ≤ max }
     {
         let pick = self.next() as usize;
-        if pick <= most {
+        if pick <= max {
             pick
         } else {
-            pick % (most + 1)
+            pick % (max + 1)
         }
     }
 }

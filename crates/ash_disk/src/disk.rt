@@ -13,7 +13,7 @@ use crate::DeviceFailed;
 /// Between two syncs each range that was written and the part past the old end may hold any bytes after a crash,
 /// and the bytes outside stay. A write that fails may be done in part, and a sync that fails counts as none.
 pub trait Disk {
-    /// Whether the disk does what this trait says of bytes and images. No code can tell.
+    /// Whether the disk does what this trait says of bytes and images. No code can test it.
     ghost honest: { Self → Bool };
 
     /// The bytes that a read gives.
@@ -51,7 +51,7 @@ pub trait Disk {
         ensures honesty { honest self.new ≡ honest self.old }
         ensures cause { CountsFailure result (failures self.old) (failures self.new) };
 
-    /// Writes at an offset in bytes, over what stands there and past the end.
+    /// Writes at an offset in bytes, over what is there and past the end.
     fn write_at(&mut self, at: u64, bytes: &[u8]) -> Result<(), DeviceFailed>
         ensures written { OnOk result (IsTrue (honest self.old) → at ≤ length (seen self.old)
             → seen self.new ≡ after_write (seen self.old) at bytes.now) }
@@ -75,5 +75,6 @@ pub trait Disk {
         ensures cause { CountsFailure result (failures self.old) (failures self.new) };
 
     /// A crash that loses nothing is one of those that may come.
-    ghost seen_may_stay: { (disk : Self) → IsTrue (honest disk) → leaves disk (clock disk) (seen disk) };
+    ghost seen_may_stay: { (disk : Self) → IsTrue (honest disk)
+        → leaves disk (clock disk) (seen disk) };
 }

@@ -32,7 +32,7 @@ impl<D: Disk> FuseDisk<D> {
         }
     }
 
-    /// The disk after the fuse.
+    /// The disk that calls were passed on to.
     pub fn into_inner(self) -> D
         ensures { result ≡ inner self }
     {
@@ -114,7 +114,8 @@ impl<D: Disk> Disk for FuseDisk<D> {
         ensures moments { IsTrue (D.honest (inner self.old)) → at ≤ length (D.seen (inner self.old))
             → During (D.clock (inner self.old)) (D.clock (inner self.new))
             (D.leaves (inner self.old)) (D.leaves (inner self.new))
-            (TornFrom at (length bytes.now) (D.leaves (inner self.old) (D.clock (inner self.old)))) }
+            (TornFrom at (length bytes.now)
+            (D.leaves (inner self.old) (D.clock (inner self.old)))) }
         ensures honesty { D.honest (inner self.new) ≡ D.honest (inner self.old) }
         ensures cause { CountsFailure result
             (fuse_failures D.failures self.old) (fuse_failures D.failures self.new) }
@@ -126,7 +127,8 @@ impl<D: Disk> Disk for FuseDisk<D> {
 
     fn sync(&mut self) -> Result<(), DeviceFailed>
         ensures durable { OnOk result (IsTrue (D.honest (inner self.old))
-            → Only (D.seen (inner self.new)) (D.leaves (inner self.new) (D.clock (inner self.new)))) }
+            → Only (D.seen (inner self.new))
+            (D.leaves (inner self.new) (D.clock (inner self.new)))) }
         ensures unchanged { IsTrue (D.honest (inner self.old))
             → D.seen (inner self.new) ≡ D.seen (inner self.old) }
         ensures moments { IsTrue (D.honest (inner self.old))

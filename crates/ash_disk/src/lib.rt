@@ -1,13 +1,13 @@
 //! Disks as the store sees them: files of bytes that are read, written over and synced, any call of which may fail.
-//! It stands on nothing. It promises, of every disk that is honest, what a read gives and which images a crash at
+//! It uses no other crate. It promises, of every disk that is honest, what a read gives and which images a crash at
 //! any moment may leave, and of every disk that `DeviceFailed` is reported only where the device has failed.
 //!
 //! In reading order: `failure` (the one error and its count), `disk` (the trait), `durably` (a write and its sync),
 //! `file` (a file of the system), `fuse` (a disk that fails from a chosen call on), `memory` (a disk in memory, with
 //! `call` and `bytes`, what it keeps and how it writes), `crash` (what a crash may leave of it, for tests). The words
-//! of the clauses are in `specs/Image` (files and torn writes), `specs/Moments` (times) and `specs/Device` (a disk during
-//! calls, which the crates above speak of by `D.Disk`), and the laws about them in `proofs/TornLaws`, `proofs/MomentLaws`
-//! and `proofs/DeviceLaws`.
+//! of the clauses are in `specs/Image` (files and torn writes), `specs/Moments` (times) and `specs/Device` (a disk
+//! during calls, for the crates above, which pass `D.Disk`), and the laws about them in `proofs/TornLaws`,
+//! `proofs/MomentLaws` and `proofs/DeviceLaws`.
 #![tactic(auto)]
 
 mod bytes;

@@ -1,6 +1,7 @@
 //! A disk in memory that keeps its first bytes and its calls.
-ghost use Rattle.std.specs.Prelude.{◌≡◌, ◌+◌, ◌≤◌, ◌∷◌, ◌++◌, [], length, reverse, true, IfOk, OnOk, OnErr, IsOk, Ok, ◌↔◌, if◌then◌else◌, is_ok, ℕ, List};
-ghost use Rattle.ash_disk.specs.Calls.{file_after, kept_may_stay};
+ghost use Rattle.std.specs.Prelude.{◌≡◌, ◌+◌, ◌≤◌, ◌∷◌, ◌++◌, ◌↔◌, [], length, reverse, true, if◌then◌else◌, ℕ, List};
+ghost use Rattle.std.specs.Prelude.{IfOk, OnOk, OnErr, IsOk, Ok, is_ok};
+ghost use Rattle.ash_disk.specs.Calls.{file_after, listed_may_stay};
 ghost use Rattle.ash_disk.specs.Failures.{CountsFailure};
 ghost use Rattle.ash_disk.specs.Image.{after_write, bytes_at, Torn, TornFrom, Only};
 ghost use Rattle.ash_disk.specs.Moments.{During};
@@ -13,8 +14,8 @@ use crate::{DeviceFailed, Disk};
 use std::alloc::{AllocError, Global};
 
 /// A file in memory, as honest as a disk can be. It keeps its first bytes and each write and sync that succeeded,
-/// so that it can say what a crash at any of them may have left. A call that finds no memory changes nothing and
-/// is a failure, and so is one beyond the file.
+/// so that it can give an image that a crash at any of them may have left. A call that finds no memory changes
+/// nothing and is a failure, and so is one beyond the file.
 #[derive(Drop)]
 pub struct MemoryDisk {
     alloc: Global,
@@ -26,7 +27,8 @@ pub struct MemoryDisk {
 }
 
 impl MemoryDisk {
-    ghost use Rattle.ash_disk.specs.Memory.{memory_bytes, memory_clock, memory_failures, bytes_after, bytes_synced, MemoryLeaves};
+    ghost use Rattle.ash_disk.specs.Memory.{memory_bytes, memory_clock, memory_failures, MemoryLeaves};
+    ghost use Rattle.ash_disk.specs.Memory.{bytes_after, bytes_synced};
 
     /// An empty file.
     pub fn new(alloc: Global) -> MemoryDisk
@@ -127,7 +129,8 @@ impl Disk for MemoryDisk {
 
     ghost failures = { memory_failures };
 
-    ghost seen_may_stay = { λ m _. kept_may_stay m.first.items m.bytes.items m.calls.items m.replayed };
+    ghost seen_may_stay = { λ m _.
+        listed_may_stay m.first.items m.bytes.items m.calls.items m.replayed };
 
     fn len(&mut self) -> Result<u64, DeviceFailed>
         ensures answer { result ≡ Ok (length (memory_bytes self.old)) }
@@ -138,7 +141,8 @@ impl Disk for MemoryDisk {
 
     fn read(&mut self, at: u64, into: &mut [u8]) -> Result<(), DeviceFailed>
         ensures within { IsOk result ↔ (at + length into.old ≤ length (memory_bytes self.old)) }
-        ensures answer { OnOk result (into.new ≡ bytes_at (memory_bytes self.old) at (length into.old)) }
+        ensures answer { OnOk result (into.new
+            ≡ bytes_at (memory_bytes self.old) at (length into.old)) }
         ensures same { OnOk result (self.new ≡ self.old) }
         ensures unchanged { memory_bytes self.new ≡ memory_bytes self.old }
         ensures moments { During (memory_clock self.old) (memory_clock self.new)
@@ -156,10 +160,13 @@ impl Disk for MemoryDisk {
 
     fn write_at(&mut self, at: u64, bytes: &[u8]) -> Result<(), DeviceFailed>
         ensures within { OnOk result (at ≤ length (memory_bytes self.old)) }
-        ensures written { OnOk result (memory_bytes self.new ≡ after_write (memory_bytes self.old) at bytes.now) }
+        ensures written { OnOk result (memory_bytes self.new
+            ≡ after_write (memory_bytes self.old) at bytes.now) }
         ensures unchanged { OnErr result (memory_bytes self.new ≡ memory_bytes self.old) }
-        ensures in_part { Torn at (length bytes.now) (memory_bytes self.old) (memory_bytes self.new) }
-        ensures one_more { memory_clock self.new ≡ memory_clock self.old + (if is_ok result then 1 else 0) }
+        ensures in_part { Torn at (length bytes.now)
+            (memory_bytes self.old) (memory_bytes self.new) }
+        ensures one_more { memory_clock self.new
+            ≡ memory_clock self.old + (if is_ok result then 1 else 0) }
         ensures moments { During (memory_clock self.old) (memory_clock self.new)
             (MemoryLeaves self.old) (MemoryLeaves self.new)
             (TornFrom at (length bytes.now) (MemoryLeaves self.old (memory_clock self.old))) }
@@ -179,9 +186,11 @@ impl Disk for MemoryDisk {
     }
 
     fn sync(&mut self) -> Result<(), DeviceFailed>
-        ensures durable { OnOk result (Only (memory_bytes self.new) (MemoryLeaves self.new (memory_clock self.new))) }
+        ensures durable { OnOk result (Only (memory_bytes self.new)
+            (MemoryLeaves self.new (memory_clock self.new))) }
         ensures unchanged { memory_bytes self.new ≡ memory_bytes self.old }
-        ensures one_more { memory_clock self.new ≡ memory_clock self.old + (if is_ok result then 1 else 0) }
+        ensures one_more { memory_clock self.new
+            ≡ memory_clock self.old + (if is_ok result then 1 else 0) }
         ensures moments { During (memory_clock self.old) (memory_clock self.new)
             (MemoryLeaves self.old) (MemoryLeaves self.new)
             (MemoryLeaves self.old (memory_clock self.old)) }

@@ -1,5 +1,5 @@
-//! Comparisons, each in one place, so that the tests that make them are proved quickly. Each names the row of a test and what
-//! of it is compared.
+//! Comparisons, each in one place, so that the tests that make them are proved quickly. Each names the row of a test
+//! and what of it is compared.
 
 use std::process::Abort;
 

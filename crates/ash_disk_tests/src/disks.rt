@@ -1,5 +1,5 @@
-//! Disks: that calls succeed, what a real file holds, and how much the crash images differ. No clause says these. The calls
-//! are data, so that each is proved once and not in each test.
+//! Disks: that calls succeed, what a real file holds, and how much the crash images differ. No clause states these. The
+//! calls are data, so that each is proved once and not in each test.
 
 use crate::compare::{check_bytes, check_number, check_true};
 use ash_disk::{Disk, FileDisk, FuseDisk, MemoryDisk, Survives, write_durably};
@@ -14,7 +14,7 @@ use std::{env, fs, io};
 enum Step {
     /// The disk has so many bytes.
     Length(u64),
-    /// These bytes stand from a place on, eight at the most.
+    /// These bytes are there from a place on, eight at the most.
     Read(u64, &'static [u8]),
     /// From a place on there are fewer bytes than these, so they are not read.
     Lacks(u64, &'static [u8]),
@@ -39,7 +39,7 @@ fn is_read<D: Disk>(disk: &mut D, at: u64, like: &[u8]) -> Option<bool> {
 }
 
 // Makes a call, and returns whether it came to what it must.
-fn take<D: Disk>(disk: &mut D, step: Step) -> bool {
+fn make_call<D: Disk>(disk: &mut D, step: Step) -> bool {
     match step {
         Step::Length(length) => disk.len() == Ok(length),
         Step::Read(at, bytes) => is_read(disk, at, bytes) == Some(true),
@@ -52,23 +52,23 @@ fn take<D: Disk>(disk: &mut D, step: Step) -> bool {
 }
 
 // How many calls came to what they must, up to the first that did not.
-fn count_met<D: Disk>(disk: &mut D, steps: &[Step]) -> u64 {
-    let mut met = 0_u64;
+fn count_passed<D: Disk>(disk: &mut D, steps: &[Step]) -> u64 {
+    let mut passed = 0_u64;
     for step in steps {
-        if !take(disk, *step) {
-            return met;
+        if !make_call(disk, *step) {
+            return passed;
         }
-        met = met.saturating_add(1);
+        passed = passed.saturating_add(1);
     }
-    met
+    passed
 }
 
 // Makes all of these calls. Where one does not come to what it must, it is the one of the number that is found.
 fn check_steps<D: Disk>(rt: &impl Abort, disk: &mut D, steps: &[Step], what: &str) {
-    let met = count_met(disk, steps);
+    let passed = count_passed(disk, steps);
     check_number(
         rt,
-        met,
+        passed,
         steps.len() as u64,
         what,
         "the calls that came to what they must",
@@ -77,7 +77,7 @@ fn check_steps<D: Disk>(rt: &impl Abort, disk: &mut D, steps: &[Step], what: &st
 
 /// A disk in memory: what it is called, what it holds, the calls of it, the bytes after them, and how many of the calls
 /// were writes and syncs.
-struct Memory {
+struct MemoryRow {
     what: &'static str,
     before: &'static [u8],
     steps: &'static [Step],
@@ -91,22 +91,22 @@ pub(crate) fn check_disk(rt: &impl Abort, disk: &MemoryDisk, wanted: &[u8], call
     check_number(rt, disk.calls() as u64, calls, row, "the writes and syncs");
 }
 
-fn check_memory(rt: &impl Abort, alloc: Global, row: &Memory) -> Result<(), Fail> {
+fn check_memory(rt: &impl Abort, alloc: Global, row: &MemoryRow) -> Result<(), Fail> {
     let mut disk = MemoryDisk::with_bytes(alloc, row.before)?;
     check_steps(rt, &mut disk, row.steps, row.what);
     check_disk(rt, &disk, row.after, row.calls, row.what);
     Ok(())
 }
 
-fn check_memories(rt: &impl Abort, alloc: Global, rows: &[Memory]) -> Result<(), Fail> {
+fn check_memories(rt: &impl Abort, alloc: Global, rows: &[MemoryRow]) -> Result<(), Fail> {
     for row in rows {
         check_memory(rt, alloc, row)?;
     }
     Ok(())
 }
 
-static READ_AND_WRITTEN: [Memory; 2] = [
-    Memory {
+static READ_AND_WRITTEN: [MemoryRow; 2] = [
+    MemoryRow {
         what: "an empty disk",
         before: b"",
         steps: &[
@@ -120,7 +120,7 @@ static READ_AND_WRITTEN: [Memory; 2] = [
         after: b"ganeration",
         calls: 3,
     },
-    Memory {
+    MemoryRow {
         what: "a disk that nothing is written to",
         before: b"seven",
         steps: &[],
@@ -134,7 +134,7 @@ fn memory_is_read_and_written(rt: HostRuntime) -> Result<(), Fail> {
     check_memories(&rt, rt.alloc(), &READ_AND_WRITTEN)
 }
 
-static BEYOND: [Memory; 1] = [Memory {
+static BEYOND: [MemoryRow; 1] = [MemoryRow {
     what: "a disk with five bytes",
     before: b"seven",
     steps: &[
@@ -164,11 +164,11 @@ static COMMIT: [Step; 5] = [
     Step::Length(3),
 ];
 
-// What a fuse lets through of that commit: its name, what the disk holds after it, how many calls were writes and syncs,
-// and how many steps were taken.
-type Fused = (&'static str, &'static [u8], u64, u64);
+// What a fuse lets through of that commit: its name, what the disk holds after it, how many calls were writes and
+// syncs, and how many steps succeeded.
+type FuseRow = (&'static str, &'static [u8], u64, u64);
 
-static FUSED: [Fused; 8] = [
+static FUSES: [FuseRow; 8] = [
     ("0 calls", b"0", 0, 0),
     ("1 call", b"0ab", 1, 1),
     ("2 calls", b"0ab", 2, 2),
@@ -179,12 +179,12 @@ static FUSED: [Fused; 8] = [
     ("7 calls", b"1ab", 4, 5),
 ];
 
-// Takes the commit over a disk that fails after so many calls.
-fn check_fuse(rt: &impl Abort, alloc: Global, calls: u64, row: &Fused) -> Result<(), Fail> {
+// Makes the calls of the commit over a disk that fails after so many calls.
+fn check_fuse(rt: &impl Abort, alloc: Global, calls: u64, row: &FuseRow) -> Result<(), Fail> {
     let (what, bytes, memory_calls, steps) = *row;
     let mut fuse = FuseDisk::new(MemoryDisk::with_bytes(alloc, b"0")?, calls);
-    let met = count_met(&mut fuse, &COMMIT);
-    check_number(rt, met, steps, what, "the calls that succeed");
+    let passed = count_passed(&mut fuse, &COMMIT);
+    check_number(rt, passed, steps, what, "the calls that succeed");
     check_disk(rt, &fuse.into_inner(), bytes, memory_calls, what);
     Ok(())
 }
@@ -192,7 +192,7 @@ fn check_fuse(rt: &impl Abort, alloc: Global, calls: u64, row: &Fused) -> Result
 #[test]
 fn a_fuse_fails_from_its_call_on(rt: HostRuntime) -> Result<(), Fail> {
     let mut calls = 0_u64;
-    for row in &FUSED {
+    for row in &FUSES {
         check_fuse(&rt, rt.alloc(), calls, row)?;
         calls = calls.saturating_add(1);
     }
@@ -290,20 +290,20 @@ fn torn_images_differ(rt: HostRuntime) -> Result<(), Fail> {
 
 /// How a file is opened.
 #[derive(Clone, Copy)]
-enum Way {
+enum OpenMode {
     /// It is made where there is none.
     Make,
     /// It is there.
     Existing,
-    /// It is there, and is open for reading alone.
-    Reading,
+    /// It is there, and is open only for reading.
+    ReadOnly,
 }
 
-fn opened(rt: &HostRuntime, path: &str, way: Way) -> io::Result<FileDisk> {
-    match way {
-        Way::Make => FileDisk::open_or_make(rt, path),
-        Way::Existing => FileDisk::open(rt, path),
-        Way::Reading => match fs::File::open(rt, path) {
+fn open_file(rt: &HostRuntime, path: &str, mode: OpenMode) -> io::Result<FileDisk> {
+    match mode {
+        OpenMode::Make => FileDisk::open_or_make(rt, path),
+        OpenMode::Existing => FileDisk::open(rt, path),
+        OpenMode::ReadOnly => match fs::File::open(rt, path) {
             Ok(file) => Ok(FileDisk::new(file)),
             Err(error) => Err(error),
         },
@@ -311,12 +311,12 @@ fn opened(rt: &HostRuntime, path: &str, way: Way) -> io::Result<FileDisk> {
 }
 
 /// What is done with a file from its opening on: what that is called, how it is opened, and the calls.
-type Use = (&'static str, Way, &'static [Step]);
+type FileUse = (&'static str, OpenMode, &'static [Step]);
 
-static USES: [Use; 4] = [
+static USES: [FileUse; 4] = [
     (
         "a new file",
-        Way::Make,
+        OpenMode::Make,
         &[
             Step::Length(0),
             Step::Write(0, b"gate and "),
@@ -326,7 +326,7 @@ static USES: [Use; 4] = [
     ),
     (
         "the file",
-        Way::Existing,
+        OpenMode::Existing,
         &[
             Step::Length(13),
             Step::Read(7, b"d body"),
@@ -334,11 +334,15 @@ static USES: [Use; 4] = [
             Step::WriteDurably(0, b"G"),
         ],
     ),
-    ("the file once more", Way::Make, &[Step::Read(0, b"Gate a")]),
-    // A file that is open for reading alone fails at a write.
+    (
+        "the file once more",
+        OpenMode::Make,
+        &[Step::Read(0, b"Gate a")],
+    ),
+    // A file that is open only for reading fails at a write.
     (
         "the file to be read",
-        Way::Reading,
+        OpenMode::ReadOnly,
         &[Step::Refuses(0, b"g")],
     ),
 ];
@@ -353,10 +357,10 @@ fn path_of(rt: &HostRuntime) -> Result<PathBuf, Fail> {
 #[test]
 fn a_file_is_read_after_it_is_opened_again(rt: HostRuntime) -> Result<(), Fail> {
     let path = path_of(&rt)?;
-    let is_absent = opened(&rt, path.as_str(), Way::Existing).is_err();
+    let is_absent = open_file(&rt, path.as_str(), OpenMode::Existing).is_err();
     check_true(&rt, is_absent, "before it is made", "no file is there");
-    for (what, way, steps) in &USES {
-        let mut disk = opened(&rt, path.as_str(), *way)?;
+    for (what, mode, steps) in &USES {
+        let mut disk = open_file(&rt, path.as_str(), *mode)?;
         check_steps(&rt, &mut disk, steps, what);
     }
     fs::remove_file(&rt, path.as_str())?;

@@ -43,7 +43,7 @@ pub counts_as : (F G : Type 0) (a b c d : ℕ) → (F → G) → (G → F) → C
 counts_as F G a b c d to from counts = record {
   first_never_falls = counts.first_never_falls;
   second_never_falls = counts.second_never_falls;
-  reported = λ failed. counts.reported (from failed);
+  counted = λ failed. counts.counted (from failed);
   none = λ not. counts.none (λ failed. not (to failed));
 }
 
@@ -52,7 +52,7 @@ pub counts_none : (F : Type 0) (a b : ℕ) → (F → ⊥) → CountsFailures F 
 counts_none F a b not = record {
   first_never_falls = omega arith;
   second_never_falls = omega arith;
-  reported = λ failed. absurd (not failed);
+  counted = λ failed. absurd (not failed);
   none = λ _. (refl, refl);
 }
 

@@ -7,7 +7,7 @@ use Rattle.ash_journal.specs.Layout.{LacksMark, IsCutAt}
 use Rattle.ash_journal.specs.Opening.{IsUnsound, IsCutCurrent, HasCurrent}
 use Rattle.ash_journal.proofs.LayoutLaws.{length-four, four_read, same_parts, length-mark, block_same, records-nil}
 use Rattle.ash_journal.proofs.LayoutLaws.{records-cons, same_mark, file_mark, open_closed, mark_closed}
-use Rattle.ash_journal.proofs.SettleLaws.{mark_after}
+use Rattle.ash_journal.proofs.SettleLaws.{mark_less}
 
 -- ---- bytes
 
@@ -114,15 +114,15 @@ current_sound g image bodies x y current (inl lacks) = lacks.1 g (file_mark g im
 current_sound g image bodies x y current (inr (inl lacks)) = after_marked g y current.older lacks
 current_sound g image bodies x y current (inr (inr both)) =
     let same : both.0 ≡ g = same_mark both.0 g x both.1 (file_mark g image bodies x current.file) in
-    let under : both.0 < g = mark_after both.0 g y both.2 current.older in
+    let under : both.0 < g = mark_less both.0 g y both.2 current.older in
     omega (arith, same, under)
 
 current_whole : (g : ℕ) (image : List ℕ) (bodies : List (List ℕ)) (x y : List ℕ) (at : ℕ) → IsCurrent g image bodies x y
     → IsCutCurrent at x y ⊎ IsCutCurrent at y x → ⊥
 current_whole g image bodies x y at current (inl cut) = file_not_cut g image bodies x at current.file cut.3
 current_whole g image bodies x y at current (inr cut) =
-    let above : g < cut.0 = mark_after g cut.0 x (file_mark g image bodies x current.file) cut.2 in
-    let under : cut.0 < g = mark_after cut.0 g y cut.1 current.older in
+    let above : g < cut.0 = mark_less g cut.0 x (file_mark g image bodies x current.file) cut.2 in
+    let under : cut.0 < g = mark_less cut.0 g y cut.1 current.older in
     omega (arith, above, under)
 
 -- ---- two files that represent contents

@@ -41,7 +41,7 @@ counted_none : (failed : Type 0) (f s f' s' : ℕ) → (failed → ⊥) → Coun
 counted_none failed f s f' s' not counts = record {
   first_never_falls = counts.first_never_falls;
   second_never_falls = counts.second_never_falls;
-  reported = λ is. absurd is;
+  counted = λ is. absurd is;
   none = λ never. counts.none not;
 }
 
@@ -50,7 +50,7 @@ uncounted : (failed : Type 0) (f s : ℕ) → (failed → ⊥) → CountsFailure
 uncounted failed f s not = record {
   first_never_falls = omega arith;
   second_never_falls = omega arith;
-  reported = λ is. absurd (not is);
+  counted = λ is. absurd (not is);
   none = λ never. (refl, refl);
 }
 
@@ -60,25 +60,25 @@ opening_counts : (fault : OpenFault) (f s f' s' : ℕ) → CountsFailures (fault
 opening_counts opening.DeviceFailed f s f' s' counts = record {
   first_never_falls = counts.first_never_falls;
   second_never_falls = counts.second_never_falls;
-  reported = λ is. counts.reported refl;
+  counted = λ is. counts.counted refl;
   none = λ not. absurd (not tt);
 }
 opening_counts opening.NoGeneration f s f' s' counts = record {
   first_never_falls = counts.first_never_falls;
   second_never_falls = counts.second_never_falls;
-  reported = λ is. absurd is;
+  counted = λ is. absurd is;
   none = λ not. counts.none (λ e. cc);
 }
 opening_counts (opening.Damaged at) f s f' s' counts = record {
   first_never_falls = counts.first_never_falls;
   second_never_falls = counts.second_never_falls;
-  reported = λ is. absurd is;
+  counted = λ is. absurd is;
   none = λ not. counts.none (λ e. cc);
 }
 opening_counts opening.NoMemory f s f' s' counts = record {
   first_never_falls = counts.first_never_falls;
   second_never_falls = counts.second_never_falls;
-  reported = λ is. absurd is;
+  counted = λ is. absurd is;
   none = λ not. counts.none (λ e. cc);
 }
 
@@ -223,7 +223,7 @@ module _ {D : Type 0} (device : Device D) where
               failures = record {
                 first_never_falls = counts.first_never_falls;
                 second_never_falls = counts.second_never_falls;
-                reported = λ is. counts.reported has;
+                counted = λ is. counts.counted has;
                 none = λ not. absurd (not is_failed);
               };
               honesty_first = honesty_first;

@@ -3,7 +3,7 @@ use Rattle.std.proofs.Common.{◌≡◌, inl, inr, ℕ, List, [], ◌∷◌, ◌
 use Rattle.std.specs.Bool.{IsTrue}
 use Rattle.ash_disk.specs.Device.{Device}
 use Rattle.ash_journal.specs.Current.{Contents, Represent}
-use Rattle.ash_journal.proofs.SettleLaws.{stand_now, represent_once}
+use Rattle.ash_journal.proofs.SettleLaws.{represent_now, represent_once}
 use Rattle.ash_meaning.specs.State.{State, empty}
 use Rattle.ash_registry.specs.Calls.{Registration}
 use Rattle.ash_durable.specs.Hosting.{Hosted, first, second}
@@ -35,7 +35,7 @@ module _ {D : Type 0} (device : Device D) (stays : (disk : D) → IsTrue (device
   reads_one : (a b : D) (P : State → Type 0) → AreHonest device a b → SettleNow device a b P → (contents : Contents)
       × HaveState P contents × Represent contents (device.seen a) (device.seen b)
   reads_one a b P honest run =
-      stand_now (HaveState P) (device.seen a) (device.seen b)
+      represent_now (HaveState P) (device.seen a) (device.seen b)
       (run.moments (device.clock a) (device.clock b) (device.seen a) (device.seen b) (omega arith) (omega arith)
       (omega arith) (omega arith) (stays a honest.honest_first) (stays b honest.honest_second))
 
@@ -89,7 +89,7 @@ module _ {D : Type 0} (device : Device D) (stays : (disk : D) → IsTrue (device
       → state ≡ empty registered
   first_state contents state x y with_it is is_state (inl closed) = absurd (represent_open contents x y is closed)
   first_state contents state x y with_it is is_state (inr settle) =
-      let one = stand_now (HaveState (IsOne (empty registered))) x y settle in
+      let one = represent_now (HaveState (IsOne (empty registered))) x y settle in
       let other : IsStateOf one.1.0 contents =
       subst (IsStateOf one.1.0) (represent_once one.0 contents x y one.2 is) one.1.2 in
       state_of_one state (empty registered) contents with_it is_state

@@ -62,19 +62,19 @@ creating_counts : (fault : CreateFault) (f s f' s' : ℕ) → CountsFailures (fa
 creating_counts creating.DeviceFailed f s f' s' counts = record {
   first_never_falls = counts.first_never_falls;
   second_never_falls = counts.second_never_falls;
-  reported = λ is. counts.reported refl;
+  counted = λ is. counts.counted refl;
   none = λ not. absurd (not tt);
 }
 creating_counts creating.AlreadyThere f s f' s' counts = record {
   first_never_falls = counts.first_never_falls;
   second_never_falls = counts.second_never_falls;
-  reported = λ is. absurd is;
+  counted = λ is. absurd is;
   none = λ not. counts.none (λ e. cc);
 }
 creating_counts creating.NoMemory f s f' s' counts = record {
   first_never_falls = counts.first_never_falls;
   second_never_falls = counts.second_never_falls;
-  reported = λ is. absurd is;
+  counted = λ is. absurd is;
   none = λ not. counts.none (λ e. cc);
 }
 

@@ -8,6 +8,6 @@ pub counts_as : (failed named : Type 0) (first second first' second' : ℕ) → 
 counts_as failed named first second first' second' to from counts = record {
   first_never_falls = counts.first_never_falls;
   second_never_falls = counts.second_never_falls;
-  reported = λ is. counts.reported (from is);
+  counted = λ is. counts.counted (from is);
   none = λ not. counts.none (λ is. not (to is));
 }

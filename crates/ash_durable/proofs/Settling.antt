@@ -7,7 +7,7 @@ use Rattle.ash_journal.specs.Current.{Contents, Is, Either, Represent, MaySettle
 use Rattle.ash_journal.specs.Journal.{first_disk, second_disk}
 use Rattle.ash_journal.specs.Runs.{Run, Extends, Nothing}
 use Rattle.ash_journal.proofs.RunLaws.{run_extends, represented}
-use Rattle.ash_journal.proofs.SettleLaws.{Said, Follow, settle_more, further}
+use Rattle.ash_journal.proofs.SettleLaws.{Property, Implies, settle_more, further}
 use Rattle.ash_meaning.specs.State.{State}
 use Rattle.ash_durable.specs.States.{IsImageOf, Leads, IsStateOf, HaveState, IsOne, IsEither, SettleSince, SettleNow}
 use Rattle.ash_durable.specs.States.{HoldsState, GoesOn, BeginsAnew}
@@ -23,7 +23,7 @@ further_on u v x y p q one two settle =
 
 module _ {D : Type 0} (device : Device D) where
   -- what a run says of contents may be said in a weaker way
-  pub run_more : (a b : ℕ) (first second : D) (P Q : Said) → Run device a b first second P → Follow P Q
+  pub run_more : (a b : ℕ) (first second : D) (P Q : Property) → Run device a b first second P → Implies P Q
       → Run device a b first second Q
   run_more a b first second P Q run more = record {
     first_began = run.first_began;

@@ -7,7 +7,7 @@ use Rattle.ash_journal.specs.declared.journal.Opened.{Opened}
 use Rattle.ash_journal.specs.Current.{Contents, Represent, SettleOn}
 use Rattle.ash_journal.specs.Failures.{CountsFailures}
 use Rattle.ash_journal.specs.Journal.{first_disk, second_disk, current_disk, generation, record_bytes, HasFailed}
-use Rattle.ash_journal.specs.Journal.{IsReady, Holds, KeepsUnrepaired, WritesGates, Finds as FindsIn}
+use Rattle.ash_journal.specs.Journal.{IsReady, Holds, LeavesRepaired, WritesGates, Finds as FindsIn}
 use Rattle.ash_journal.specs.Layout.{IsClosed}
 use Rattle.ash_journal.specs.Opening.{IsUnsound, IsCutCurrent, HasCurrent}
 use Rattle.ash_journal.specs.Reading.{AreAt, bodies_of}
@@ -158,7 +158,7 @@ pub record HoldsAsRead {D : Type 0} (device : Device D) (a b : D) (state : State
 -- A journal was settled, or was begun to be: of its disks, one on which no gate was to be written over is as it was, to
 -- another nothing was written but that gate, and the generation has the same number and the size of its records.
 pub record OnlySettled {D : Type 0} (device : Device D) (was journal : Journal D) : Type 0 where
-  pub only_pending : KeepsUnrepaired was journal
+  pub only_pending : LeavesRepaired was journal
   pub only_gates : (contents : Contents) → FindsIn device was contents.0 contents.1 → WritesGates device was journal
   pub number_same : generation journal ≡ generation was
   pub size_same : record_bytes journal ≡ record_bytes was

@@ -14,7 +14,7 @@ use Rattle.ash_journal.specs.OtherState.{is_older, is_stray, repaired as state_r
 use Rattle.ash_journal.specs.Journal.{EndIs, NeedsNoRepair, FilesAre}
 use Rattle.ash_journal.proofs.LayoutLaws.{length-block, length-mark, length-solid, records-nil, records-push}
 use Rattle.ash_journal.proofs.LayoutLaws.{solid_no_records, solid_mark, mark_open}
-use Rattle.ash_journal.proofs.SettleLaws.{Said, open_reopened, settle_more, further_same}
+use Rattle.ash_journal.proofs.SettleLaws.{Property, open_reopened, settle_more, further_same}
 use Rattle.ash_journal.proofs.InstallLaws.{IsAside, IsComing, IsGrowing, install_settles, repaired_settles}
 use Rattle.ash_journal.proofs.InstallLaws.{append_settles, fits_push, grown}
 use Rattle.ash_journal.proofs.ReopenLaws.{end_repair_settles, other_repair_settles}
@@ -112,7 +112,7 @@ reopened_alike : (gate : ℕ) (file : List ℕ) → reopened (gate ∷ drop 1 fi
 reopened_alike gate [] = refl
 reopened_alike gate (first ∷ rest) = refl
 
-other_settled : (other_state : OtherState) (g : ℕ) (x file y : List ℕ) (P : Said) → OtherIs other_state g file
+other_settled : (other_state : OtherState) (g : ℕ) (x file y : List ℕ) (P : Property) → OtherIs other_state g file
     → WhileRepaired (is_stray other_state) [] file y → SettleOn P x file → SettleOn P x y
 other_settled other_state g x file y P is (inl same) settle = subst (λ (l : List ℕ). SettleOn P x l) (sym same) settle
 other_settled Shut g x file y P is (inr torn) settle = absurd (false≢true torn.0)
@@ -234,7 +234,7 @@ module _ {D : Type 0} (device : Device D) where
         (λ (l : List ℕ). SettleFurther new (device.seen c) (device.seen o) x l) (sym q)
         (settles x (device.seen o) p)))
       where
-        new : Said
+        new : Property
         new = Is (image, bodies ++ body ∷ [])
 
         settles : (x y : List ℕ) → WhileCommitted (solid number image bodies) (block body ++ 0 ∷ []) files.after x
@@ -353,7 +353,7 @@ module _ {D : Type 0} (device : Device D) where
         not_shut true same is = is
         not_shut false same is = absurd (false≢true same)
 
-        end_settled : (P : Said) (x y : List ℕ)
+        end_settled : (P : Property) (x y : List ℕ)
             → WhileRepaired stray (solid number image bodies) (files.gate ∷ files.after) x
             → SettleOn P (device.seen c) y → SettleOn P x y
         end_settled P x y (inl same) settle = subst (λ (l : List ℕ). SettleOn P l y) (files.bytes ∙ sym same) settle

@@ -8,8 +8,8 @@ use Rattle.ash_journal.specs.Opening.{IsCreatedOrClosed}
 use Rattle.ash_journal.specs.Writes.{IsIdle, WhileCreated}
 use Rattle.ash_journal.proofs.LayoutLaws.{same_file, solid_mark, file_mark, mark_closed, mark_open, solid_no_records}
 use Rattle.ash_journal.proofs.LayoutLaws.{solid-push}
-use Rattle.ash_journal.proofs.SettleLaws.{Said, by_invariant, mark_after, older_by_mark, open_or_closed, open_reopened}
-use Rattle.ash_journal.proofs.SettleLaws.{open_shut, reopened_twice}
+use Rattle.ash_journal.proofs.SettleLaws.{Property, by_invariant, mark_less, older_by_mark, open_or_closed}
+use Rattle.ash_journal.proofs.SettleLaws.{open_reopened, open_shut, reopened_twice}
 use Rattle.ash_journal.proofs.ReopenLaws.{end_settles, rest_settles}
 
 -- ---- a new generation in the other file
@@ -39,7 +39,7 @@ aside_closed_or_older g file aside = elim (open_or_closed file) [
         inr (older.0, subst (λ (l : List ℕ). HasMark older.0 l) (sym (open_reopened file is_open)) older.1, older.2)
 
 aside_mark : (g h : ℕ) (file : List ℕ) → IsAside g file → HasMark h file → h < g
-aside_mark g h file aside marked = mark_after h g file marked (aside_closed_or_older g file aside)
+aside_mark g h file aside marked = mark_less h g file marked (aside_closed_or_older g file aside)
 
 reopened_shut : (file : List ℕ) → IsShut (reopened file) → ⊥
 reopened_shut [] shut = omega (arith, shut)
@@ -60,7 +60,7 @@ pub install_settles : (g n : ℕ) (image image' : List ℕ) (bodies : List (List
 install_settles g n image image' bodies x rest y is fits fits_new less coming =
     by_invariant both (Installs g n image' x) represents preserved x y (refl, coming)
   where
-    both : Said
+    both : Property
     both = Either (Is (image', [])) (Is (image, bodies))
 
     file : IsFile g image bodies x
@@ -124,7 +124,7 @@ install_settles g n image image' bodies x rest y is fits fits_new less coming =
             one.0.fits.numbered one.0.bytes
 
         ahead : g < one.0.generation
-        ahead = mark_after g one.0.generation x marked
+        ahead = mark_less g one.0.generation x marked
             (subst (λ (l : List ℕ). IsOlder one.0.generation l) holds.0 one.0.older)
 
         from : IsAside g b ⊎ IsComing n image' b → ⊥
@@ -171,7 +171,7 @@ grown g image bodies body rest =
     ∙ ap (λ (l : List ℕ). l ++ rest) (sym (solid-push g image bodies body))
 
 -- A file at rest settles, with any other, on what it did or on one record more, while that record is written.
-pub append_settles : (P : Said) (g : ℕ) (image : List ℕ) (bodies : List (List ℕ)) (body x rest u y : List ℕ)
+pub append_settles : (P : Property) (g : ℕ) (image : List ℕ) (bodies : List (List ℕ)) (body x rest u y : List ℕ)
     → x ≡ solid g image bodies ++ 0 ∷ rest → FieldsFit g image bodies → length body < 2 ^ 32
     → IsGrowing (solid g image bodies) body u → SettleOn P x y
     → SettleOn (Either (Is (image, bodies ++ body ∷ [])) P) u y
@@ -234,7 +234,7 @@ repaired_settles g image bodies x rest y is fits aside =
         solid_mark one.0.generation one.0.image one.0.bodies (one.0.gate ∷ one.0.after) b one.0.fits.numbered
         one.0.bytes in
         let ahead : g < one.0.generation =
-        mark_after g one.0.generation x marked
+        mark_less g one.0.generation x marked
         (subst (λ (l : List ℕ). IsOlder one.0.generation l) holds.0 one.0.older) in
         let under : one.0.generation < g = aside_mark g one.0.generation b holds.1 b_marked in
         absurd (omega (arith, under, ahead))

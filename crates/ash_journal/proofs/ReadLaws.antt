@@ -216,8 +216,8 @@ image_read g file image gate marked is_block = (
       ∙ sym (solid_no_records g image (gate ∷ is_block.1)),
 )
 
-pub length-alone : (g : ℕ) (image : List ℕ) → length (solid g image []) ≡ 21 + length image
-length-alone g image = omega (arith, length-solid g image [], ap length records-nil)
+pub length-no_records : (g : ℕ) (image : List ℕ) → length (solid g image []) ≡ 21 + length image
+length-no_records g image = omega (arith, length-solid g image [], ap length records-nil)
 
 -- ---- files that were idle before
 

@@ -4,20 +4,21 @@ use Rattle.std.proofs.lemmas.Bool.{cases_eq}
 use Rattle.ash_journal.specs.Layout.{solid, FieldsFit, IsFile, IsClosed, IsShut, HasMark}
 use Rattle.ash_journal.specs.Current.{IsOlder, RepresentOne, reopened, EndReopens, OtherReopens, Reopens, SettleOn}
 use Rattle.ash_journal.proofs.LayoutLaws.{same_file, same_mark, solid_mark, file_mark, mark_closed}
-use Rattle.ash_journal.proofs.SettleLaws.{Follow, Said, by_invariant, current_or_ahead, mark_after, older_by_mark}
-use Rattle.ash_journal.proofs.SettleLaws.{open_or_closed, open_reopened, settle_step, stand_now}
+use Rattle.ash_journal.proofs.SettleLaws.{Implies, Property, by_invariant, current_or_ahead, mark_less, older_by_mark}
+use Rattle.ash_journal.proofs.SettleLaws.{open_or_closed, open_reopened, settle_step, represent_now}
 
 -- ---- a current file that changes after its mark
 
 -- one file is this one, and with another in its place they settle
-abbrev Rests : Said → List ℕ → List ℕ → List ℕ → List ℕ → Type 0
+abbrev Rests : Property → List ℕ → List ℕ → List ℕ → List ℕ → Type 0
 Rests P x w a b = (a ≡ w) × SettleOn P x b
 
 -- A file of the same generation at rest in place of the first: they settle on what they did, and what the new file
 -- represents.
-pub rest_settles : (P Q : Said) (g : ℕ) (image image' : List ℕ) (bodies bodies' : List (List ℕ)) (x w rest y : List ℕ)
-    → IsFile g image bodies x → w ≡ solid g image' bodies' ++ 0 ∷ rest → FieldsFit g image' bodies'
-    → (P (image, bodies) → Q (image', bodies')) → Follow P Q → SettleOn P x y → SettleOn Q w y
+pub rest_settles : (P Q : Property) (g : ℕ) (image image' : List ℕ) (bodies bodies' : List (List ℕ))
+    (x w rest y : List ℕ) → IsFile g image bodies x → w ≡ solid g image' bodies' ++ 0 ∷ rest
+    → FieldsFit g image' bodies'
+    → (P (image, bodies) → Q (image', bodies')) → Implies P Q → SettleOn P x y → SettleOn Q w y
 rest_settles P Q g image image' bodies bodies' x w rest y file is fits among more settle =
     by_invariant Q (Rests P x w) represents preserved w y (refl, settle)
   where
@@ -33,7 +34,7 @@ rest_settles P Q g image image' bodies bodies' x w rest y file is fits among mor
     represents : (a b : List ℕ) → Rests P x w a b → RepresentOne Q a b
     represents a b holds =
         subst (λ (l : List ℕ). RepresentOne Q l b) (sym holds.0)
-        (elim (current_or_ahead g image bodies P x b file (stand_now P x b holds.1)) [
+        (elim (current_or_ahead g image bodies P x b file (represent_now P x b holds.1)) [
           | inl is_current ↦
               ((image', bodies'), among is_current.1, inl (g, record { file = at_rest; older = is_current.0 }))
           | inr ahead ↦ (
@@ -78,7 +79,7 @@ rest_settles P Q g image image' bodies bodies' x w rest y file is fits among mor
           not_open = one.0.not_open;
           not_shut = one.0.not_shut;
           older = older_by_mark g one.0.generation x x_marked
-              (mark_after g one.0.generation w marked
+              (mark_less g one.0.generation w marked
               (subst (λ (l : List ℕ). IsOlder one.0.generation l) holds.0 one.0.older));
           opened = one.0.opened;
         },
@@ -118,20 +119,20 @@ end_for g x w b t x_marked w_marked one =
         bytes = one.bytes;
         not_open = one.not_open;
         not_shut = one.not_shut;
-        older = older_by_mark g one.generation x x_marked (mark_after g one.generation w w_marked one.older);
+        older = older_by_mark g one.generation x x_marked (mark_less g one.generation w w_marked one.older);
         opened = one.opened;
       },
       refl,
     ))
 
 -- one file is this one, and with another in its place they settle; or these settle on Q
-abbrev Turns : Said → Said → List ℕ → List ℕ → List ℕ → List ℕ → Type 0
+abbrev Turns : Property → Property → List ℕ → List ℕ → List ℕ → List ℕ → Type 0
 Turns P Q x u a b = Rests P x u a b ⊎ SettleOn Q a b
 
 -- A file in place of the first that differs from it from the gate after its last open record on, and has no 1 there:
 -- they settle so, where they do with 1 there.
-pub end_settles : (P Q : Said) (g : ℕ) (image : List ℕ) (bodies : List (List ℕ)) (x : List ℕ) (c : ℕ) (rest y : List ℕ)
-    → IsFile g image bodies x → c ≢ 1 → Follow P Q
+pub end_settles : (P Q : Property) (g : ℕ) (image : List ℕ) (bodies : List (List ℕ)) (x : List ℕ) (c : ℕ)
+    (rest y : List ℕ) → IsFile g image bodies x → c ≢ 1 → Implies P Q
     → ((v : List ℕ) → SettleOn P x v → IsOlder g v → SettleOn Q (solid g image bodies ++ 1 ∷ rest) v) → SettleOn P x y
     → SettleOn Q (solid g image bodies ++ c ∷ rest) y
 end_settles P Q g image bodies x c rest y file shut more good settle =
@@ -150,10 +151,10 @@ end_settles P Q g image bodies x c rest y file shut more good settle =
     x_marked = file_mark g image bodies x file
 
     represents : (a b : List ℕ) → Turns P Q x u a b → RepresentOne Q a b
-    represents a b (inr now) = stand_now Q a b now
+    represents a b (inr now) = represent_now Q a b now
     represents a b (inl holds) =
         subst (λ (l : List ℕ). RepresentOne Q l b) (sym holds.0)
-        (elim (current_or_ahead g image bodies P x b file (stand_now P x b holds.1)) [
+        (elim (current_or_ahead g image bodies P x b file (represent_now P x b holds.1)) [
           | inl is_current ↦ (
             (image, bodies),
             more (image, bodies) is_current.1,
@@ -192,22 +193,23 @@ end_settles P Q g image bodies x c rest y file shut more good settle =
         absurd (mark_closed g u marked (subst IsClosed holds.0 one.0.closed))
 
 -- as at rest, while the other is ahead
-abbrev Follows : Said → ℕ → List ℕ → List ℕ → List ℕ → List ℕ → Type 0
+abbrev Follows : Property → ℕ → List ℕ → List ℕ → List ℕ → List ℕ → Type 0
 Follows P h x u a b = Rests P x u a b × HasMark h b
 
 -- While the other file is ahead, nothing matters of a file but its mark.
-pub follower_settles : (P : Said) (g h : ℕ) (x u y : List ℕ) → HasMark g x → HasMark g u → HasMark h y → g < h
+pub follower_settles : (P : Property) (g h : ℕ) (x u y : List ℕ) → HasMark g x → HasMark g u → HasMark h y → g < h
     → SettleOn P x y → SettleOn P u y
 follower_settles P g h x u y x_marked marked y_marked less settle =
     by_invariant P (Follows P h x u) represents preserved u y ((refl, settle), y_marked)
   where
     -- no file with the greater number is older than the smaller one
     not_older : (b : List ℕ) (g' : ℕ) → HasMark h b → g' ≡ g → IsOlder g' b → ⊥
-    not_older b g' b_marked is older = let above : h < g' = mark_after h g' b b_marked older in
+    not_older b g' b_marked is older = let above : h < g' = mark_less h g' b b_marked older in
         omega (arith, above, is, less)
 
     represents : (a b : List ℕ) → Follows P h x u a b → RepresentOne P a b
-    represents a b holds = subst (λ (l : List ℕ). RepresentOne P l b) (sym holds.0.0) (from (stand_now P x b holds.0.1))
+    represents a b holds =
+        subst (λ (l : List ℕ). RepresentOne P l b) (sym holds.0.0) (from (represent_now P x b holds.0.1))
       where
         from : RepresentOne P x b → RepresentOne P u b
         from (pair, among, inl is_current) =
@@ -221,7 +223,7 @@ follower_settles P g h x u y x_marked marked y_marked less settle =
             is_current.0,
             record {
               file = is_current.1.file;
-              older = older_by_mark g is_current.0 u marked (mark_after g is_current.0 x x_marked is_current.1.older);
+              older = older_by_mark g is_current.0 u marked (mark_less g is_current.0 x x_marked is_current.1.older);
             },
           ),
         )
@@ -252,13 +254,13 @@ follower_settles P g h x u y x_marked marked y_marked less settle =
 
 -- Whatever byte is in place of a gate that a repair writes over, with any image of the other file with which the file
 -- as it was settled: they settle on the same.
-pub end_repair_settles : (P : Said) (g : ℕ) (image : List ℕ) (bodies : List (List ℕ)) (x : List ℕ) (k c : ℕ)
+pub end_repair_settles : (P : Property) (g : ℕ) (image : List ℕ) (bodies : List (List ℕ)) (x : List ℕ) (k c : ℕ)
     (rest y : List ℕ) → x ≡ solid g image bodies ++ k ∷ rest → FieldsFit g image bodies → k ≢ 1 → k ≢ 0 → SettleOn P x y
     → SettleOn P (solid g image bodies ++ c ∷ rest) y
 end_repair_settles P g image bodies x k c rest y is fits not_open not_shut settle = elim (cases_eq c 1) [
   | inl open_now ↦
       subst (λ (n : ℕ). SettleOn P (solid g image bodies ++ n ∷ rest) y) (sym open_now)
-      (elim (current_or_ahead g image bodies P x y file (stand_now P x y settle)) [
+      (elim (current_or_ahead g image bodies P x y file (represent_now P x y settle)) [
         | inl is_current ↦ settle_step P x y (solid g image bodies ++ 1 ∷ rest) y settle (reopens y is_current.0)
         | inr ahead ↦
             follower_settles P g ahead.0 x (solid g image bodies ++ 1 ∷ rest) y (file_mark g image bodies x file)
@@ -295,17 +297,17 @@ end_repair_settles P g image bodies x k c rest y is fits not_open not_shut settl
 -- ---- the other file, while it is closed
 
 -- the other is this one, and with another closed file in its place they settle; or these settle
-abbrev Stays : Said → List ℕ → List ℕ → List ℕ → List ℕ → Type 0
+abbrev Stays : Property → List ℕ → List ℕ → List ℕ → List ℕ → Type 0
 Stays P y y' a b = (b ≡ y') × SettleOn P a y ⊎ SettleOn P a b
 
 -- Whatever byte is in place of the other's first gate, with any image of the current file with which the other as it
 -- was settled: they settle on the same.
-pub other_repair_settles : (P : Said) (x y y' : List ℕ) → IsClosed y → (IsShut y → ⊥) → reopened y' ≡ reopened y
+pub other_repair_settles : (P : Property) (x y y' : List ℕ) → IsClosed y → (IsShut y → ⊥) → reopened y' ≡ reopened y
     → SettleOn P x y → SettleOn P x y'
 other_repair_settles P x y y' closed not_shut alike settle = elim (open_or_closed y') [
   | inl open_now ↦
       let is : y' ≡ reopened y = open_reopened y' open_now ∙ alike in
-      subst (λ (l : List ℕ). SettleOn P x l) (sym is) (from_represented (stand_now P x y settle))
+      subst (λ (l : List ℕ). SettleOn P x l) (sym is) (from_represented (represent_now P x y settle))
   | inr closed' ↦ by_invariant P (Stays P y y') (represents closed') (preserved closed') x y' (inl (refl, settle))
 ]
   where
@@ -332,9 +334,9 @@ other_repair_settles P x y y' closed not_shut alike settle = elim (open_or_close
         absurd (not_current is_current.0 pair.0 pair.1 y closed is_current.1.file)
 
     represents : IsClosed y' → (a b : List ℕ) → Stays P y y' a b → RepresentOne P a b
-    represents closed' a b (inr now) = stand_now P a b now
+    represents closed' a b (inr now) = represent_now P a b now
     represents closed' a b (inl holds) =
-        subst (λ (l : List ℕ). RepresentOne P a l) (sym holds.0) (from (stand_now P a y holds.1))
+        subst (λ (l : List ℕ). RepresentOne P a l) (sym holds.0) (from (represent_now P a y holds.1))
       where
         from : RepresentOne P a y → RepresentOne P a y'
         from (pair, among, inl is_current) =

@@ -9,7 +9,8 @@ use Rattle.ash_disk.proofs.MomentLaws.{at_start, every_moment}
 use Rattle.ash_journal.specs.Current.{Contents, Either, Represent, SettleOn, SettleFurther}
 use Rattle.ash_journal.specs.Runs.{Run, Extends, Nothing}
 use Rattle.ash_journal.specs.OtherState.{first_of, second_of}
-use Rattle.ash_journal.proofs.SettleLaws.{Said, settle_turned, further, further_same, further_turned, represent_once}
+use Rattle.ash_journal.proofs.SettleLaws.{Property, settle_turned, further, further_same, further_turned}
+use Rattle.ash_journal.proofs.SettleLaws.{represent_once}
 
 -- what is left now is left at the last moment before a later one
 left_now : (leaves : ℕ → List ℕ → Type 0) (now s : ℕ) (x : List ℕ) → now ≤ s → leaves now x → leaves (min s now) x
@@ -23,7 +24,7 @@ left_then leaves now s x early left = let is : s ≡ min s now = omega (arith, e
 module _ {D : Type 0} (device : Device D) where
   -- Calls of both disks go on. What their new images settle on, with what the images settled on that were left when
   -- the calls began, is all that has to be shown.
-  pub extends_by : (c o c' o' : D) (x0 y0 : List ℕ) (P Q : List ℕ → Type 0) (IsNew : Said)
+  pub extends_by : (c o c' o' : D) (x0 y0 : List ℕ) (P Q : List ℕ → Type 0) (IsNew : Property)
       → device.leaves c (device.clock c) x0 → device.leaves o (device.clock o) y0 → Throughout device c c' P
       → Throughout device o o' Q → ((x y : List ℕ) → P x → SettleFurther IsNew x0 y x y)
       → ((x y : List ℕ) → Q y → SettleFurther IsNew x y0 x y)
@@ -75,7 +76,7 @@ module _ {D : Type 0} (device : Device D) where
     ];
   }
 
-  extends_turned : (c o c' o' : D) (IsNew : Said) → Extends device c o c' o' IsNew → Extends device o c o' c' IsNew
+  extends_turned : (c o c' o' : D) (IsNew : Property) → Extends device c o c' o' IsNew → Extends device o c o' c' IsNew
   extends_turned c o c' o' IsNew call = record {
     first_later = call.second_later;
     second_later = call.first_later;
@@ -89,14 +90,14 @@ module _ {D : Type 0} (device : Device D) where
   }
 
   -- of a journal's disks either is the first
-  pub extends_placed : (swapped : Bool) (c o c' o' : D) (IsNew : Said) → Extends device c o c' o' IsNew
+  pub extends_placed : (swapped : Bool) (c o c' o' : D) (IsNew : Property) → Extends device c o c' o' IsNew
       → Extends device (first_of swapped c o) (second_of swapped c o) (first_of swapped c' o') (second_of swapped c' o')
       IsNew
   extends_placed false c o c' o' IsNew call = call
   extends_placed true c o c' o' IsNew call = extends_turned c o c' o' IsNew call
 
   -- disks that stay as they are settle on what they did
-  pub same_extends : (first second : D) (IsNew : Said) → Extends device first second first second IsNew
+  pub same_extends : (first second : D) (IsNew : Property) → Extends device first second first second IsNew
   same_extends first second IsNew = record {
     first_later = omega arith;
     second_later = omega arith;
@@ -142,7 +143,7 @@ module _ {D : Type 0} (device : Device D) where
       ]
 
   -- What a run says of contents, it says after more calls of these and the new ones.
-  pub run_extends : (a b : ℕ) (first second first' second' : D) (P IsNew : Said) → Run device a b first second P
+  pub run_extends : (a b : ℕ) (first second first' second' : D) (P IsNew : Property) → Run device a b first second P
       → Extends device first second first' second' IsNew → Run device a b first' second' (Either IsNew P)
   run_extends a b first second first' second' P IsNew run call = record {
     first_began = omega (arith, run.first_began, call.first_later);
@@ -156,7 +157,7 @@ module _ {D : Type 0} (device : Device D) where
   }
 
   -- A run says of what the files represent as they read now what it says of all contents.
-  pub represented : (a b : ℕ) (first second : D) (P : Said) (contents : Contents) (x y : List ℕ)
+  pub represented : (a b : ℕ) (first second : D) (P : Property) (contents : Contents) (x y : List ℕ)
       → device.leaves first (device.clock first) x → device.leaves second (device.clock second) y
       → Run device a b first second P → Represent contents x y → P contents
   represented a b first second P contents x y left_x left_y run is =
@@ -164,7 +165,7 @@ module _ {D : Type 0} (device : Device D) where
       run.second_began (omega arith) left_x left_y zero x y (refl, refl) in
       subst P (sym (represent_once contents one.0 x y is one.2)) one.1
 
-  run_turned : (a b : ℕ) (c o : D) (P : Said) → Run device a b c o P → Run device b a o c P
+  run_turned : (a b : ℕ) (c o : D) (P : Property) → Run device a b c o P → Run device b a o c P
   run_turned a b c o P run = record {
     first_began = run.second_began;
     second_began = run.first_began;
@@ -172,7 +173,7 @@ module _ {D : Type 0} (device : Device D) where
         settle_turned P y x (run.moments t s y x from_a t_end from_b s_end left_y left_x);
   }
 
-  begins : (c o c' o' : D) (P Q : List ℕ → Type 0) (S : Said) → Throughout device c c' P → Throughout device o o' Q
+  begins : (c o c' o' : D) (P Q : List ℕ → Type 0) (S : Property) → Throughout device c c' P → Throughout device o o' Q
       → ((x y : List ℕ) → P x → Q y → SettleOn S x y) → Run device (device.clock c) (device.clock o) c' o' S
   begins c o c' o' P Q S one two both = record {
     first_began = one.later;
@@ -182,7 +183,7 @@ module _ {D : Type 0} (device : Device D) where
   }
 
   -- A run that begins with these calls.
-  pub run_begins : (swapped : Bool) (c o c' o' : D) (P Q : List ℕ → Type 0) (S : Said) → Throughout device c c' P
+  pub run_begins : (swapped : Bool) (c o c' o' : D) (P Q : List ℕ → Type 0) (S : Property) → Throughout device c c' P
       → Throughout device o o' Q → ((x y : List ℕ) → P x → Q y → SettleOn S x y)
       → Run device (device.clock (first_of swapped c o)) (device.clock (second_of swapped c o)) (first_of swapped c' o')
       (second_of swapped c' o') S
@@ -191,7 +192,7 @@ module _ {D : Type 0} (device : Device D) where
       run_turned (device.clock c) (device.clock o) c' o' S (begins c o c' o' P Q S one two both)
 
   -- Two disks that hold what they show, at one moment.
-  pub run_now : (swapped : Bool) (c o : D) (S : Said) → IsDurable device c → IsDurable device o
+  pub run_now : (swapped : Bool) (c o : D) (S : Property) → IsDurable device c → IsDurable device o
       → SettleOn S (device.seen c) (device.seen o)
       → Run device (device.clock (first_of swapped c o)) (device.clock (second_of swapped c o)) (first_of swapped c o)
       (second_of swapped c o) S
@@ -205,7 +206,7 @@ module _ {D : Type 0} (device : Device D) where
       (subst (λ (l : List ℕ). SettleOn S (device.seen c) l) (sym v_is) settle))
 
   -- The other disk has become the current one.
-  pub run_swapped : (swapped : Bool) (a b : ℕ) (c o : D) (S : Said)
+  pub run_swapped : (swapped : Bool) (a b : ℕ) (c o : D) (S : Property)
       → Run device a b (first_of swapped c o) (second_of swapped c o) S
       → Run device a b (first_of (not swapped) o c) (second_of (not swapped) o c) S
   run_swapped false a b c o S run = run

@@ -55,14 +55,14 @@ pub record EndReopens (current other current_after : List ℕ) : Type 0 where
 
 -- The first file is current, and 1 is put for the first gate of the other, which a repair would write over since the
 -- other is closed and this gate isn't 0.
-pub record OtherReopens (current other after : List ℕ) : Type 0 where
+pub record OtherReopens (current other other_after : List ℕ) : Type 0 where
   pub generation : ℕ
   pub image : List ℕ
   pub bodies : List (List ℕ)
   pub file : IsFile generation image bodies current
   pub closed : IsClosed other
   pub not_shut : IsShut other → ⊥
-  pub opened : after ≡ reopened other
+  pub opened : other_after ≡ reopened other
 
 -- With the first of two files current, 1 is put for a gate that a repair would write over.
 abbrev pub ReopensBy : List ℕ → List ℕ → List ℕ → List ℕ → Type 0

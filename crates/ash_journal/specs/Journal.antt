@@ -4,6 +4,7 @@ use Rattle.ash_disk.specs.Device.{Device, IsDurable}
 use Rattle.ash_journal.specs.declared.journal.Journal.{Journal}
 use Rattle.ash_journal.specs.declared.other_state.OtherState.{OtherState}
 use Rattle.ash_journal.specs.declared.other_state.OtherState.TheVariants.{Shut, Older}
+use Rattle.ash_journal.specs.Failures.{CountsFailuresOf}
 use Rattle.ash_journal.specs.Layout.{solid, records, FieldsFit}
 use Rattle.ash_journal.specs.Current.{Is}
 use Rattle.ash_journal.specs.OtherState.{first_of, second_of, is_stray, OtherIs}
@@ -106,9 +107,14 @@ abbrev pub LeavesOther : {D : Type 0} → Journal D → Journal D → Type 0
 LeavesOther old new = LeavesOtherOf old.swapped (first_disk old) (second_disk old) (first_disk new) (second_disk new)
 
 -- A disk of which no gate is to be written over stays as it was.
-abbrev pub KeepsUnrepaired : {D : Type 0} → Journal D → Journal D → Type 0
-KeepsUnrepaired old new =
+abbrev pub LeavesRepaired : {D : Type 0} → Journal D → Journal D → Type 0
+LeavesRepaired old new =
     (old.stray ≡ false → LeavesCurrent old new) × (is_stray old.other_state ≡ false → LeavesOther old new)
+
+-- The counts of a journal's disks rose where a device failed, and did not change elsewhere.
+abbrev pub CountsFailuresIn : {D : Type 0} → Device D → Type 0 → Journal D → Journal D → Type 0
+CountsFailuresIn device failed old new =
+    CountsFailuresOf device failed (first_disk old) (second_disk old) (first_disk new) (second_disk new)
 
 -- Nothing was written to a journal's disks but the gates that a repair writes over: of the current file the one after
 -- its last open record, and of the other its first.

@@ -22,6 +22,10 @@ mark generation = magic ++ eight_bytes generation
 unfoldable pub block : List ℕ → List ℕ
 block body = four_bytes (length body) ++ body
 
+-- `header_size` is how many bytes a file has before its image: a gate, the mark and the length of the image.
+abbrev pub header_size : ℕ
+header_size = 21
+
 -- `records bodies` are the blocks of the bodies, each after an open gate.
 unfoldable pub records : List (List ℕ) → List ℕ
 records [] = []

@@ -7,7 +7,8 @@ use Rattle.ash_journal.specs.declared.one_file.FileHeader.TheVariants.{Closed, U
 use Rattle.ash_journal.specs.declared.record.Record.{Record}
 use Rattle.ash_journal.specs.declared.error.OpenFault.{OpenFault}
 use Rattle.ash_journal.specs.declared.error.OpenFault.TheVariants.{DeviceFailed, NoGeneration, Damaged, NoMemory}
-use Rattle.ash_journal.specs.Layout.{block, solid, FieldsFit, IsClosed, IsShut, IsCutAt, HasMark, LacksMark}
+use Rattle.ash_journal.specs.Layout.{block, header_size, solid, FieldsFit, IsClosed, IsShut, IsCutAt, HasMark}
+use Rattle.ash_journal.specs.Layout.{LacksMark}
 
 -- The first gate is 0, or it is not.
 abbrev pub ShutIs : Bool → List ℕ → Type 0
@@ -24,7 +25,7 @@ HeaderIs (Marked generation) file = HasMark generation file
 -- count did not.
 pub record Counts (failed : Type 0) (before after : ℕ) : Type 0 where
   pub never_falls : before ≤ after
-  pub reported : failed → Rose before after
+  pub counted : failed → Rose before after
   pub none : (failed → ⊥) → after ≡ before
 
 -- The bytes begin with the block of this body and this gate.
@@ -47,7 +48,7 @@ pub record IsReadTo (generation : ℕ) (image : List ℕ) (found : List Record) 
   pub bytes : file ≡ solid generation image (bodies_of found) ++ gate ∷ after
   pub fits : FieldsFit generation image (bodies_of found)
   pub end_is : end ≡ length (solid generation image (bodies_of found))
-  pub placed : AreAt (21 + length image) found
+  pub placed : AreAt (header_size + length image) found
 
 -- The file is read whole, up to a gate that is not open.
 abbrev pub IsRead : ℕ → List ℕ → List Record → ℕ → ℕ → List ℕ → Type 0

@@ -8,6 +8,9 @@ use std::alloc::{AllocError, Global};
 /// What every generation has after its first gate.
 pub(crate) const MAGIC: &[u8; 8] = b"ASHOST01";
 
+/// The bytes of a file before its image: a gate, the magic, the number and the length of the image.
+pub(crate) const HEADER_SIZE: u64 = 21;
+
 /// A record's length and body, and a next gate that is shut.
 #[tactic(auto, unfolding(crate::specs::Layout::block, crate::specs::Layout::four_bytes))]
 pub(crate) fn record_bytes(alloc: Global, body: &[u8]) -> Result<Vec<u8>, AllocError>
@@ -37,7 +40,7 @@ pub(crate) fn generation_bytes(
     LittleEndian::write_u64(&mut number, generation);
     let mut size = [0; 4];
     LittleEndian::write_u32(&mut size, image.len() as u32);
-    let mut bytes = Vec::with_capacity(alloc, image.len() + 21)?;
+    let mut bytes = Vec::with_capacity(alloc, image.len() + HEADER_SIZE as usize)?;
     bytes.extend_from_slice(MAGIC)?;
     bytes.extend_from_slice(&number)?;
     bytes.extend_from_slice(&size)?;

@@ -2,7 +2,7 @@
 ghost use Rattle.std.specs.Prelude.{◌≡◌, ◌<◌, ◌^◌, ◌∷◌, ◌++◌, [], length, drop, IsTrue, IfErr, OnOk, IsErr, IsErrOf};
 ghost use Rattle.ash_disk.specs.Failures.{CountsFailure};
 ghost use Rattle.ash_disk.specs.Device.{IsOnlyRead, Throughout};
-ghost use Rattle.ash_journal.specs.Failures.{CountsFailures};
+ghost use Rattle.ash_journal.specs.Failures.{CountsFailuresOf};
 ghost use Rattle.ash_journal.specs.Layout.{mark, block, IsClosed};
 ghost use Rattle.ash_journal.specs.Opening.{CreateFaultIs};
 ghost use Rattle.ash_journal.specs.Reading.{ShutIs};
@@ -51,15 +51,15 @@ fn start<D: Disk>(
         → AreIdle (D.leaves first.old (D.clock first.old))
         → Throughout D.Disk first.old first.new
         (WhileStarted bytes.now (D.seen first.old)) }
-    ensures second_moments { IsTrue (D.honest second.old) → ShutIs second_gate.shut (D.seen second.old)
+    ensures second_moments { IsTrue (D.honest second.old)
+        → ShutIs second_gate.shut (D.seen second.old)
         → AreIdle (D.leaves second.old (D.clock second.old))
         → Throughout D.Disk second.old second.new
         IsIdle }
     ensures honesty_first { D.honest first.new ≡ D.honest first.old }
     ensures honesty_second { D.honest second.new ≡ D.honest second.old }
-    ensures cause { CountsFailures (IsErr result)
-        (D.failures first.old) (D.failures second.old)
-        (D.failures first.new) (D.failures second.new) }
+    ensures cause { CountsFailuresOf D.Disk (IsErr result)
+        first.old second.old first.new second.new }
 {
     clear(first, first_gate)?;
     clear(second, second_gate)?;
@@ -95,9 +95,8 @@ pub(crate) fn create_both<D: Disk>(
         IsIdle }
     ensures honesty_first { D.honest first.new ≡ D.honest first.old }
     ensures honesty_second { D.honest second.new ≡ D.honest second.old }
-    ensures cause { CountsFailures (IsErrOf result CreateFault.DeviceFailed)
-        (D.failures first.old) (D.failures second.old)
-        (D.failures first.new) (D.failures second.new) }
+    ensures cause { CountsFailuresOf D.Disk (IsErrOf result CreateFault.DeviceFailed)
+        first.old second.old first.new second.new }
 {
     let headers = match read_headers(first, second) {
         Ok(headers) => headers,

@@ -1,12 +1,13 @@
 //! The journal.
 ghost use Rattle.std.specs.Prelude.{◌≡◌, ◌≤◌, ◌+◌, ◌^◌};
 
-use crate::bytes::{generation_bytes, record_bytes};
+use crate::bytes::{HEADER_SIZE, generation_bytes, record_bytes};
 use crate::creation::create_both;
 use crate::error::{AppendError, CreateFault, InstallError, OpenFault};
 use crate::gate::{Gate, commit, repair, replace};
 use crate::other_state::{Order, OtherState};
 use crate::record::Record;
+use crate::refusal::{CreateRefused, OpenRefused};
 use crate::two_files::{Contents, read_both};
 use ash_disk::{DeviceFailed, Disk};
 use std::alloc::Global;
@@ -42,33 +43,16 @@ pub struct Opened<D> {
     pub records: Vec<Record>,
 }
 
-/// Why two disks were not opened, and the disks.
-#[derive(Drop)]
-pub struct OpenRefused<D> {
-    pub fault: OpenFault,
-    pub first: D,
-    pub second: D,
-}
-
-/// Why no journal was created over two disks, and the disks.
-#[derive(Drop)]
-pub struct CreateRefused<D> {
-    pub fault: CreateFault,
-    pub first: D,
-    pub second: D,
-}
-
 impl<D: Disk> Journal<D> {
     ghost use Rattle.std.specs.Prelude.{◌≡◌, ◌<◌, ◌-◌, ◌↔◌, ◌∷◌, ◌++◌, [], ℕ, List, length, IsTrue, IfOk, IfErr, OnOk};
     ghost use Rattle.std.specs.Prelude.{OnErr, IsErr, IsErrOf, MatchResult};
-    ghost use Rattle.ash_journal.specs.Failures.{CountsFailures};
+    ghost use Rattle.ash_journal.specs.Failures.{CountsFailuresOf};
     ghost use Rattle.ash_journal.specs.Journal.{first_disk, second_disk, generation, record_bytes, current_disk};
-    ghost use Rattle.ash_journal.specs.Journal.{IsReady, IsRepaired, HasFailed, Finds, Holds, LeavesCurrent};
-    ghost use Rattle.ash_journal.specs.Journal.{LeavesOther};
-    ghost use Rattle.ash_journal.specs.Journal.{KeepsUnrepaired, WritesGates};
+    ghost use Rattle.ash_journal.specs.Journal.{IsReady, IsRepaired, HasFailed, Finds, Holds, CountsFailuresIn};
+    ghost use Rattle.ash_journal.specs.Journal.{LeavesCurrent, LeavesOther, LeavesRepaired, WritesGates};
     ghost use Rattle.ash_journal.specs.Current.{Is, Either, Represent};
     ghost use Rattle.ash_disk.specs.Device.{IsOnlyRead, EveryMomentSince};
-    ghost use Rattle.ash_journal.specs.Layout.{IsClosed};
+    ghost use Rattle.ash_journal.specs.Layout.{IsClosed, header_size};
     ghost use Rattle.ash_journal.specs.Opening.{FaultIs, CreateFaultIs, IsCreatedOrClosed};
     ghost use Rattle.ash_journal.specs.Writes.{HasRested};
     ghost use Rattle.ash_journal.specs.Reading.{AreAt, bodies_of};
@@ -115,10 +99,9 @@ impl<D: Disk> Journal<D> {
             (λ j. D.honest (second_disk j) ≡ D.honest second)
             (λ r. D.honest r.second ≡ D.honest second) }
         ensures cause { MatchResult result
-            (λ j. CountsFailures ⊥ (D.failures first) (D.failures second)
-            (D.failures (first_disk j)) (D.failures (second_disk j)))
-            (λ r. CountsFailures (r.fault ≡ CreateFault.DeviceFailed)
-            (D.failures first) (D.failures second) (D.failures r.first) (D.failures r.second)) }
+            (λ j. CountsFailuresOf D.Disk ⊥ first second (first_disk j) (second_disk j))
+            (λ r. CountsFailuresOf D.Disk (r.fault ≡ CreateFault.DeviceFailed)
+            first second r.first r.second) }
     {
         let mut one = first;
         let mut two = second;
@@ -129,7 +112,7 @@ impl<D: Disk> Journal<D> {
                 other: two,
                 swapped: false,
                 generation: 1,
-                end: 21 + image.len() as u64,
+                end: HEADER_SIZE + image.len() as u64,
                 record_bytes: 0,
                 stray: false,
                 other_state: OtherState::Shut,
@@ -154,7 +137,7 @@ impl<D: Disk> Journal<D> {
         ensures found { IfOk result (λ o. IsTrue (D.honest first) → IsTrue (D.honest second)
             → Finds D.Disk o.journal o.image.items (bodies_of o.records.items)) }
         ensures offsets { IfOk result (λ o. IsTrue (D.honest first) → IsTrue (D.honest second)
-            → AreAt (21 + length o.image.items) o.records.items) }
+            → AreAt (header_size + length o.image.items) o.records.items) }
         ensures fault { IfErr result (λ r. IsTrue (D.honest first) → IsTrue (D.honest second)
             → FaultIs r.fault (D.seen first) (D.seen second)) }
         ensures represented { IfOk result (λ o. IsTrue (D.honest first) → IsTrue (D.honest second)
@@ -172,10 +155,10 @@ impl<D: Disk> Journal<D> {
             (λ o. IsOnlyRead D.Disk second (second_disk o.journal))
             (λ r. IsOnlyRead D.Disk second r.second) }
         ensures cause { MatchResult result
-            (λ o. CountsFailures ⊥ (D.failures first) (D.failures second)
-            (D.failures (first_disk o.journal)) (D.failures (second_disk o.journal)))
-            (λ r. CountsFailures (r.fault ≡ OpenFault.DeviceFailed)
-            (D.failures first) (D.failures second) (D.failures r.first) (D.failures r.second)) }
+            (λ o. CountsFailuresOf D.Disk ⊥ first second
+            (first_disk o.journal) (second_disk o.journal))
+            (λ r. CountsFailuresOf D.Disk (r.fault ≡ OpenFault.DeviceFailed)
+            first second r.first r.second) }
     {
         let mut one = first;
         let mut two = second;
@@ -189,30 +172,25 @@ impl<D: Disk> Journal<D> {
                 });
             }
         };
-        let Contents {
-            choice,
-            current_file,
-        } = contents;
-        let order = Order {
-            swapped: choice.swapped,
-        };
-        let (current, other) = order.arrange(one, two);
+        let Contents { choice, file } = contents;
+        let swapped = choice.swapped;
+        let (current, other) = Order { swapped }.arrange(one, two);
         let journal = Journal {
             alloc,
             current,
             other,
-            swapped: choice.swapped,
+            swapped,
             generation: choice.generation,
-            end: current_file.tail.end,
-            record_bytes: current_file.tail.end - 21 - current_file.image.len() as u64,
-            stray: current_file.tail.gate != 0,
+            end: file.tail.end,
+            record_bytes: file.tail.end - HEADER_SIZE - file.image.len() as u64,
+            stray: file.tail.gate != 0,
             other_state: choice.other_state,
             failed: false,
         };
         Ok(Opened {
             journal,
-            image: current_file.image,
-            records: current_file.tail.records,
+            image: file.image,
+            records: file.tail.records,
         })
     }
 
@@ -255,9 +233,8 @@ impl<D: Disk> Journal<D> {
         ensures no_longer { OnErr result (record_bytes self.new ≡ record_bytes self.old) }
         ensures untouched { LeavesOther self.old self.new }
         ensures number { generation self.new ≡ generation self.old }
-        ensures cause { CountsFailures (IsErrOf result AppendError.DeviceFailed)
-            (D.failures (first_disk self.old)) (D.failures (second_disk self.old))
-            (D.failures (first_disk self.new)) (D.failures (second_disk self.new)) }
+        ensures cause { CountsFailuresIn D.Disk (IsErrOf result AppendError.DeviceFailed)
+            self.old self.new }
         ensures memory { IsErrOf result AppendError.NoMemory → self.new ≡ self.old }
         ensures honesty_first { D.honest (first_disk self.new) ≡ D.honest (first_disk self.old) }
         ensures honesty_second { D.honest (second_disk self.new) ≡ D.honest (second_disk self.old) }
@@ -325,15 +302,13 @@ impl<D: Disk> Journal<D> {
         ensures only_stray { IsRepaired self.old
             → (first_disk self.new ≡ first_disk self.old)
             × (second_disk self.new ≡ second_disk self.old) }
-        ensures each_owed { KeepsUnrepaired self.old self.new }
+        ensures untouched { LeavesRepaired self.old self.new }
         ensures gates { (image : List ℕ) (bodies : List (List ℕ))
             → Finds D.Disk self.old image bodies
             → WritesGates D.Disk self.old self.new }
         ensures number { generation self.new ≡ generation self.old }
         ensures size { record_bytes self.new ≡ record_bytes self.old }
-        ensures cause { CountsFailures (IsErr result)
-            (D.failures (first_disk self.old)) (D.failures (second_disk self.old))
-            (D.failures (first_disk self.new)) (D.failures (second_disk self.new)) }
+        ensures cause { CountsFailuresIn D.Disk (IsErr result) self.old self.new }
         ensures honesty_first { D.honest (first_disk self.new) ≡ D.honest (first_disk self.old) }
         ensures honesty_second { D.honest (second_disk self.new) ≡ D.honest (second_disk self.old) }
     {
@@ -390,9 +365,8 @@ impl<D: Disk> Journal<D> {
             ↔ (generation self.old ≡ 2 ^ 64 - 1) }
         ensures unchanged { IsErrOf result InstallError.GenerationSpent → self.new ≡ self.old }
         ensures memory { IsErrOf result InstallError.NoMemory → self.new ≡ self.old }
-        ensures cause { CountsFailures (IsErrOf result InstallError.DeviceFailed)
-            (D.failures (first_disk self.old)) (D.failures (second_disk self.old))
-            (D.failures (first_disk self.new)) (D.failures (second_disk self.new)) }
+        ensures cause { CountsFailuresIn D.Disk (IsErrOf result InstallError.DeviceFailed)
+            self.old self.new }
         ensures honesty_first { D.honest (first_disk self.new) ≡ D.honest (first_disk self.old) }
         ensures honesty_second { D.honest (second_disk self.new) ≡ D.honest (second_disk self.old) }
     {
@@ -414,7 +388,7 @@ impl<D: Disk> Journal<D> {
         mem::swap(&mut self.current, &mut self.other);
         self.swapped = !self.swapped;
         self.generation = number;
-        self.end = 21 + image.len() as u64;
+        self.end = HEADER_SIZE + image.len() as u64;
         self.record_bytes = 0;
         self.stray = false;
         self.other_state = OtherState::Older;

@@ -30,9 +30,9 @@
 //!
 //! In reading order: `journal` (the calls), `gate` (all writes but that of 0 over the first gate of a new file),
 //! `bytes` (what is written), `creation`, `two_files` and `one_file` (what files are read as), `first_append` (the
-//! first record after an opening), `other_state` (the file that is not current), `record`, `error`. The words of the
-//! clauses are in `specs/Layout` (a file), `specs/Current` (two files, and what they settle on), `specs/Runs`
-//! (moments), `specs/Journal` (what a journal holds) and `specs/Opening` (faults).
+//! first record after an opening), `other_state` (the file that is not current), `record`, `refusal`, `error`. The
+//! words of the clauses are in `specs/Layout` (a file), `specs/Current` (two files, and what they settle on),
+//! `specs/Runs` (moments), `specs/Journal` (what a journal holds) and `specs/Opening` (faults).
 #![tactic(auto)]
 
 mod bytes;
@@ -44,9 +44,11 @@ mod journal;
 mod one_file;
 mod other_state;
 mod record;
+mod refusal;
 mod two_files;
 
 pub use error::{AppendError, CreateFault, InstallError, OpenFault};
 pub use first_append::append_first;
-pub use journal::{CreateRefused, Journal, OpenRefused, Opened};
+pub use journal::{Journal, Opened};
 pub use record::Record;
+pub use refusal::{CreateRefused, OpenRefused};

@@ -1,12 +1,12 @@
 //! What a file is read as. Nothing here writes.
-ghost use Rattle.std.specs.Prelude.{◌≡◌, ◌+◌, ◌<◌, ◌≤◌, ◌^◌, ◌↔◌, ◌++◌, ◌∷◌, [], ℕ, List, length, take, IsTrue, IfOk};
-ghost use Rattle.std.specs.Prelude.{IfSome, IsErr, IsErrOf, MatchOption, MatchResult, drop};
+ghost use Rattle.std.specs.Prelude.{◌≡◌, ◌+◌, ◌<◌, ◌≤◌, ◌^◌, ◌↔◌, ◌++◌, ◌∷◌, [], ℕ, List, length, take, drop};
+ghost use Rattle.std.specs.Prelude.{IsTrue, IfOk, IfSome, IsErr, IsErrOf, MatchOption, MatchResult};
 ghost use Rattle.ash_disk.specs.Device.{IsOnlyRead};
 ghost use Rattle.ash_disk.specs.Image.{bytes_at};
-ghost use Rattle.ash_journal.specs.Layout.{four_bytes, mark, solid, IsShut, FieldsFit, IsCut, HasMark};
+ghost use Rattle.ash_journal.specs.Layout.{four_bytes, mark, header_size, solid, IsShut, FieldsFit, IsCut, HasMark};
 ghost use Rattle.ash_journal.specs.Reading.{HeaderIs, IsFailure, IsCutFault, Counts, IsBlock, IsRead};
 
-use crate::bytes::MAGIC;
+use crate::bytes::{HEADER_SIZE, MAGIC};
 use crate::error::OpenFault;
 use crate::record::Record;
 use ash_disk::{DeviceFailed, Disk};
@@ -253,7 +253,7 @@ pub(crate) fn read_current<D: Disk>(
         (λ r. IsRead generation r.image.items r.tail.records.items r.tail.end r.tail.gate
         (D.seen disk.old))
         (λ fault. IsCutFault fault (D.seen disk.old)) }
-    ensures within { IfOk result (λ r. 21 + length r.image.items ≤ r.tail.end) }
+    ensures within { IfOk result (λ r. header_size + length r.image.items ≤ r.tail.end) }
     ensures short { IfOk result (λ r. length r.image.items < 2 ^ 32) }
     ensures only_read { IsOnlyRead D.Disk disk.old disk.new }
     ensures cause { Counts (IsErrOf result OpenFault.DeviceFailed)
@@ -264,7 +264,7 @@ pub(crate) fn read_current<D: Disk>(
         Ok(None) => return Err(OpenFault::Damaged(0)),
         Err(fault) => return Err(fault),
     };
-    let end = 21 + block.body.len() as u64;
+    let end = HEADER_SIZE + block.body.len() as u64;
     match read_records(alloc, disk, len, end, block.gate) {
         Ok(tail) => Ok(CurrentFile {
             image: block.body,

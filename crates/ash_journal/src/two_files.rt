@@ -2,8 +2,8 @@
 ghost use Rattle.std.specs.Prelude.{◌≡◌, ◌+◌, ◌<◌, ◌≤◌, ◌^◌, ℕ, List, length, IsTrue, IfOk, OnOk, IsErr, IsErrOf};
 ghost use Rattle.std.specs.Prelude.{MatchOption, MatchResult, ◌⊎◌, if◌then◌else◌};
 ghost use Rattle.ash_disk.specs.Device.{IsDurable, IsOnlyRead};
-ghost use Rattle.ash_journal.specs.Failures.{CountsFailures};
-ghost use Rattle.ash_journal.specs.Layout.{IsOpen, IsClosed, HasMark};
+ghost use Rattle.ash_journal.specs.Failures.{CountsFailuresOf};
+ghost use Rattle.ash_journal.specs.Layout.{IsOpen, IsClosed, HasMark, header_size};
 ghost use Rattle.ash_journal.specs.Opening.{HeadersAre, ChoiceIs, ContentsAre, FaultIs};
 ghost use Rattle.ash_journal.specs.Reading.{HeaderIs, ShutIs};
 
@@ -21,14 +21,15 @@ pub(crate) struct Choice {
     pub(crate) other_state: OtherState,
 }
 
-/// What two files are read as.
+/// What two files are read as: which is current, and all of that one.
 #[derive(Drop)]
 pub(crate) struct Contents {
     pub(crate) choice: Choice,
-    pub(crate) current_file: CurrentFile,
+    pub(crate) file: CurrentFile,
 }
 
-fn closed(gate: FirstGate) -> OtherState
+// The state of a file that is closed.
+fn closed_state(gate: FirstGate) -> OtherState
     ensures { result ≡ (if gate.shut then OtherState.Shut else OtherState.Stray) }
 {
     if gate.shut {
@@ -50,12 +51,12 @@ fn choose(first: FileHeader, second: FileHeader) -> Result<Choice, OpenFault>
         (FileHeader::Marked { generation }, FileHeader::Closed { gate }) => Ok(Choice {
             swapped: false,
             generation,
-            other_state: closed(gate),
+            other_state: closed_state(gate),
         }),
         (FileHeader::Closed { gate }, FileHeader::Marked { generation }) => Ok(Choice {
             swapped: true,
             generation,
-            other_state: closed(gate),
+            other_state: closed_state(gate),
         }),
         (FileHeader::Marked { generation: one }, FileHeader::Marked { generation: two }) => {
             choose_greater(one, two)
@@ -94,9 +95,8 @@ fn sync_both<D: Disk>(first: &mut D, second: &mut D) -> Result<(), DeviceFailed>
         → IsDurable D.Disk second.new) }
     ensures first_read { IsOnlyRead D.Disk first.old first.new }
     ensures second_read { IsOnlyRead D.Disk second.old second.new }
-    ensures cause { CountsFailures (IsErr result)
-        (D.failures first.old) (D.failures second.old)
-        (D.failures first.new) (D.failures second.new) }
+    ensures cause { CountsFailuresOf D.Disk (IsErr result)
+        first.old second.old first.new second.new }
 {
     first.sync()?;
     second.sync()
@@ -116,9 +116,8 @@ pub(crate) fn read_headers<D: Disk>(first: &mut D, second: &mut D) -> Result<Hea
         → HeadersAre x (D.seen first.old) (D.seen second.old)) }
     ensures first_read { IsOnlyRead D.Disk first.old first.new }
     ensures second_read { IsOnlyRead D.Disk second.old second.new }
-    ensures cause { CountsFailures (IsErr result)
-        (D.failures first.old) (D.failures second.old)
-        (D.failures first.new) (D.failures second.new) }
+    ensures cause { CountsFailuresOf D.Disk (IsErr result)
+        first.old second.old first.new second.new }
 {
     let (one, first_len) = read_header(first)?;
     let (two, second_len) = read_header(second)?;
@@ -160,13 +159,12 @@ fn read_chosen<D: Disk>(
         → MatchResult result
         (λ r. ContentsAre choice r (D.seen first.old) (D.seen second.old))
         (λ fault. FaultIs fault (D.seen first.old) (D.seen second.old)) }
-    ensures within { IfOk result (λ r. 21 + length r.image.items ≤ r.tail.end) }
+    ensures within { IfOk result (λ r. header_size + length r.image.items ≤ r.tail.end) }
     ensures short { IfOk result (λ r. length r.image.items < 2 ^ 32) }
     ensures first_read { IsOnlyRead D.Disk first.old first.new }
     ensures second_read { IsOnlyRead D.Disk second.old second.new }
-    ensures cause { CountsFailures (IsErrOf result OpenFault.DeviceFailed)
-        (D.failures first.old) (D.failures second.old)
-        (D.failures first.new) (D.failures second.new) }
+    ensures cause { CountsFailuresOf D.Disk (IsErrOf result OpenFault.DeviceFailed)
+        first.old second.old first.new second.new }
 {
     if choice.swapped {
         read_current(alloc, second, headers.second_len)
@@ -183,20 +181,18 @@ pub(crate) fn read_both<D: Disk>(
 ) -> Result<Contents, OpenFault>
     ensures answer { IsTrue (D.honest first.old) → IsTrue (D.honest second.old)
         → MatchResult result
-        (λ c. ContentsAre c.choice c.current_file (D.seen first.old) (D.seen second.old))
+        (λ c. ContentsAre c.choice c.file (D.seen first.old) (D.seen second.old))
         (λ fault. FaultIs fault (D.seen first.old) (D.seen second.old)) }
     ensures durable_first { OnOk result (IsTrue (D.honest first.old)
         → IsDurable D.Disk first.new) }
     ensures durable_second { OnOk result (IsTrue (D.honest second.old)
         → IsDurable D.Disk second.new) }
-    ensures within { IfOk result (λ c.
-        21 + length c.current_file.image.items ≤ c.current_file.tail.end) }
-    ensures short { IfOk result (λ c. length c.current_file.image.items < 2 ^ 32) }
+    ensures within { IfOk result (λ c. header_size + length c.file.image.items ≤ c.file.tail.end) }
+    ensures short { IfOk result (λ c. length c.file.image.items < 2 ^ 32) }
     ensures first_read { IsOnlyRead D.Disk first.old first.new }
     ensures second_read { IsOnlyRead D.Disk second.old second.new }
-    ensures cause { CountsFailures (IsErrOf result OpenFault.DeviceFailed)
-        (D.failures first.old) (D.failures second.old)
-        (D.failures first.new) (D.failures second.new) }
+    ensures cause { CountsFailuresOf D.Disk (IsErrOf result OpenFault.DeviceFailed)
+        first.old second.old first.new second.new }
 {
     match sync_both(first, second) {
         Ok(()) => {}
@@ -211,10 +207,7 @@ pub(crate) fn read_both<D: Disk>(
         Err(fault) => return Err(fault),
     };
     match read_chosen(alloc, first, second, &headers, choice) {
-        Ok(current_file) => Ok(Contents {
-            choice,
-            current_file,
-        }),
+        Ok(file) => Ok(Contents { choice, file }),
         Err(fault) => Err(fault),
     }
 }

@@ -1,6 +1,7 @@
 //! Every cut and every changed byte of a file with three records, against a reading of the layout by hand.
 
-use super::{WITH_A_MODULE, found_in};
+use super::files::WITH_A_MODULE;
+use super::open_bytes;
 use ash_journal::{OpenFault, Record};
 use std::alloc::{AllocError, Global};
 use std::process::Abort;
@@ -79,9 +80,9 @@ fn ends_of(records: &[Record]) -> [usize; 8] {
     ends
 }
 
-// The same, as the journal finds it.
-fn found(alloc: Global, file: &[u8]) -> Result<Shape, OpenFault> {
-    match found_in(alloc, file, b"") {
+// The same, as the journal reads it.
+fn read_by_journal(alloc: Global, file: &[u8]) -> Result<Shape, OpenFault> {
+    match open_bytes(alloc, file, b"") {
         Ok(found) => {
             let image = found.image.len().wrapping_add(21);
             Ok((
@@ -94,8 +95,8 @@ fn found(alloc: Global, file: &[u8]) -> Result<Shape, OpenFault> {
     }
 }
 
-const FILE: &[u8] =
-    b"\x01ASHOST01\x07\0\0\0\0\0\0\0\x05\0\0\0image\x01\x03\0\0\0one\x01\0\0\0\0\x01\x05\0\0\0three\0junk";
+const FILE: &[u8] = b"\x01ASHOST01\x07\0\0\0\0\0\0\0\x05\0\0\0image\
+    \x01\x03\0\0\0one\x01\0\0\0\0\x01\x05\0\0\0three\0junk";
 
 // Compares what the journal finds in a file with what it is to find.
 fn check_found(
@@ -105,7 +106,7 @@ fn check_found(
     wanted: Result<Shape, OpenFault>,
     what: (&str, usize),
 ) {
-    let found = found(alloc, file);
+    let found = read_by_journal(alloc, file);
     assert_eq!(rt; found, wanted, "{} {}: {file:?}", what.0, what.1);
 }
 
@@ -126,7 +127,7 @@ fn every_cut(rt: HostRuntime) {
 }
 
 // A file with another byte at a place.
-fn changed(alloc: Global, file: &[u8], at: usize, byte: u8) -> Result<Vec<u8>, AllocError> {
+fn with_byte(alloc: Global, file: &[u8], at: usize, byte: u8) -> Result<Vec<u8>, AllocError> {
     let mut file = file.to_vec(alloc)?;
     if let Some(place) = file.as_mut_slice().get_mut(at) {
         *place = byte;
@@ -137,7 +138,7 @@ fn changed(alloc: Global, file: &[u8], at: usize, byte: u8) -> Result<Vec<u8>, A
 // Each byte in one place of a file.
 fn check_place(rt: &impl Abort, alloc: Global, file: &[u8], at: usize) -> Result<(), Fail> {
     for byte in 0..=255 {
-        let file = changed(alloc, file, at, byte)?;
+        let file = with_byte(alloc, file, at, byte)?;
         let by_hand = read_by_hand(file.as_slice());
         check_found(rt, alloc, file.as_slice(), by_hand, ("changed at", at));
     }
@@ -154,7 +155,7 @@ fn every_changed_byte(rt: HostRuntime) -> Result<(), Fail> {
 
 // What two files are called, the first and how many bytes of it are there, the second, and why they are not opened, if
 // they are not.
-type Two = (
+type FilePair = (
     &'static str,
     &'static [u8],
     usize,
@@ -166,7 +167,7 @@ const OLDER: &[u8] = b"\x01ASHOST01\x06\0\0\0\0\0\0\0";
 
 const SAME: &[u8] = b"\x01ASHOST01\x07\0\0\0\0\0\0\0";
 
-static TWO_FILES: [Two; 5] = [
+static TWO_FILES: [FilePair; 5] = [
     // Of the older file nothing is read but its gate, magic and number.
     ("an older file", OLDER, 17, FILE, None),
     (
@@ -201,10 +202,10 @@ static TWO_FILES: [Two; 5] = [
 ];
 
 // Compares why two files are not opened.
-fn check_two_files(rt: &impl Abort, alloc: Global, row: &Two) {
+fn check_two_files(rt: &impl Abort, alloc: Global, row: &FilePair) {
     let (what, first, length, second, wanted) = row;
     let first = first.get(..*length).unwrap_or(first);
-    let found = found_in(alloc, first, second).err();
+    let found = open_bytes(alloc, first, second).err();
     assert_eq!(rt; found, *wanted, "{what}");
 }
 

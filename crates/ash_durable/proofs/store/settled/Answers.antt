@@ -23,7 +23,7 @@ returns-in-Ok-settle g c =
     (read_as opened with_it (Ok c.in-Ok.state)
     c.deref.result.now c.deref-2.result.now c.deref.ensures.value c.deref-2.ensures.value c.in-Ok.ensures.reads)
     e.ready (record {
-      only_pending = e.each_owed;
+      only_pending = e.untouched;
       only_gates = λ contents finds. e.gates _ _ finds;
       number_same = e.number;
       size_same = e.size;
@@ -37,7 +37,7 @@ returns g c =
     (true ≡ true) refl
     c.refused-in-Err-settle.ensures.fault c.refused-in-Err-settle.ensures.a c.refused-in-Err-settle.ensures.b
     (record {
-      only_pending = e.each_owed;
+      only_pending = e.untouched;
       only_gates = λ contents finds. e.gates _ _ finds;
       number_same = e.number;
       size_same = e.size;

@@ -1,4 +1,4 @@
-use Rattle.ash_disk.proofs.Kept.{during_sync}
+use Rattle.ash_disk.proofs.CallLaws.{during_sync}
 use Rattle.ash_disk.proofs.memory.MemoryDiskDisk.sync.Goals as goal
 
 pub returns-clause-moments : goal.returns-clause-moments

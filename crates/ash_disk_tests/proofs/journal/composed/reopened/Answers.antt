@@ -8,12 +8,14 @@ use Rattle.ash_journal.proofs.RunLaws.{represented}
 use Rattle.ash_disk_tests.proofs.journal.composed.reopened.Goals as goal
 
 -- both disks of a journal are honest, whichever is the first
-both_honest : {D : Type 0} (honest : D → Bool) (swapped : Bool) (c o : D) → IsTrue (honest c) → IsTrue (honest o) → IsTrue (honest (first_of swapped c o)) × IsTrue (honest (second_of swapped c o))
+both_honest : {D : Type 0} (honest : D → Bool) (swapped : Bool) (c o : D) → IsTrue (honest c) → IsTrue (honest o)
+    → IsTrue (honest (first_of swapped c o)) × IsTrue (honest (second_of swapped c o))
 both_honest honest false c o honest_c honest_o = (honest_c, honest_o)
 both_honest honest true c o honest_c honest_o = (honest_o, honest_c)
 
 -- an image and records by their parts
-the_one : (image other : List ℕ) (bodies others : List (List ℕ)) → Is (other, others) (image, bodies) → (image ≡ other) × (bodies ≡ others)
+the_one : (image other : List ℕ) (bodies others : List (List ℕ)) → Is (other, others) (image, bodies)
+    → (image ≡ other) × (bodies ≡ others)
 the_one image other bodies others same = (ap (λ (p : Contents). p.0) same, ap (λ (p : Contents). p.1) same)
 
 pub returns-in-Ok-settle-clause-found : goal.returns-in-Ok-settle-clause-found
@@ -29,11 +31,16 @@ returns-in-Ok-settle-clause-found g c was bodies holds =
     let second = c.close-first.result.1 in
     let first_honest = subst (λ x. IsTrue (d.honest x)) (sym c.close-first.ensures.first) honest.0 in
     let second_honest = subst (λ x. IsTrue (d.honest x)) (sym c.close-first.ensures.second) honest.1 in
-    let run = subst (λ x. Run d (d.clock x) (d.clock (second_disk j)) x (second_disk j) (Is (image, body ∷ []))) (sym c.close-first.ensures.first) one.run in
-    let run' = subst (λ y. Run d (d.clock first) (d.clock y) first y (Is (image, body ∷ []))) (sym c.close-first.ensures.second) run in
+    let run = subst (λ x. Run d (d.clock x) (d.clock (second_disk j)) x (second_disk j) (Is (image, body ∷ [])))
+    (sym c.close-first.ensures.first) one.run in
+    let run' = subst (λ y. Run d (d.clock first) (d.clock y) first y (Is (image, body ∷ [])))
+    (sym c.close-first.ensures.second) run in
     let o = c.in-Ok-open.found in
     let is = c.in-Ok-open.ensures.represented first_honest second_honest in
-    the_one o.image.items image (bodies_of o.records.items) (body ∷ []) (represented d (d.clock first) (d.clock second) first second (Is (image, body ∷ [])) (o.image.items, bodies_of o.records.items) (d.seen first) (d.seen second) (g.met.D.Disk.seen_may_stay first first_honest) (g.met.D.Disk.seen_may_stay second second_honest) run' is)
+    the_one o.image.items image (bodies_of o.records.items) (body ∷ [])
+    (represented d (d.clock first) (d.clock second) first second (Is (image, body ∷ []))
+    (o.image.items, bodies_of o.records.items) (d.seen first) (d.seen second)
+    (g.met.D.Disk.seen_may_stay first first_honest) (g.met.D.Disk.seen_may_stay second second_honest) run' is)
 
 pub returns-in-Ok-settle-clause-holds : goal.returns-in-Ok-settle-clause-holds
 returns-in-Ok-settle-clause-holds g c was bodies holds =
@@ -48,6 +55,7 @@ returns-in-Ok-settle-clause-holds g c was bodies holds =
     let second_honest = subst (λ x. IsTrue (d.honest x)) (sym c.close-first.ensures.second) honest.1 in
     let o = c.in-Ok-open.found in
     let same = returns-in-Ok-settle-clause-found g c was bodies holds in
-    let settled = c.in-Ok-settle.ensures.settled o.image.items (bodies_of o.records.items) (c.in-Ok-open.ensures.found first_honest second_honest) in
+    let settled = c.in-Ok-settle.ensures.settled o.image.items (bodies_of o.records.items)
+    (c.in-Ok-open.ensures.found first_honest second_honest) in
     let settled' = subst (λ (i : List ℕ). Holds d c.settle.new.self i (bodies_of o.records.items)) same.0 settled in
     subst (λ (bs : List (List ℕ)). Holds d c.settle.new.self image bs) same.1 settled'

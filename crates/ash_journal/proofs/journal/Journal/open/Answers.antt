@@ -10,13 +10,13 @@ returns-clause-found g c honest_first honest_second =
     let d = g.D.Disk in
     let e = c.in-Ok.ensures in
     let o = c.in-Ok.contents in
-    let image = o.current_file.image.items in
+    let image = o.file.image.items in
     let answer = e.answer honest_first honest_second in
-    let size_is : o.current_file.tail.end - 21 - c.len.result ≡ o.current_file.tail.end - 21 - length image =
-    omega (arith, c.len.ensures, o.current_file.image.ok.0) in
+    let size_is : o.file.tail.end - 21 - c.len.result ≡ o.file.tail.end - 21 - length image =
+    omega (arith, c.len.ensures, o.file.image.ok.0) in
     let files = open_files d o.choice.swapped c.read_both.new.first c.read_both.new.second (d.seen c.args.first)
-    (d.seen c.args.second) o.choice.other_state o.choice.generation o.current_file.tail.end o.current_file.tail.gate
-    (o.current_file.tail.end - 21 - c.len.result) image o.current_file.tail.records.items
+    (d.seen c.args.second) o.choice.other_state o.choice.generation o.file.tail.end o.file.tail.gate
+    (o.file.tail.end - 21 - c.len.result) image o.file.tail.records.items
     (subst IsTrue (sym e.first_read.honesty) honest_first) (subst IsTrue (sym e.second_read.honesty) honest_second)
     (e.first_read.seen honest_first) (e.second_read.seen honest_second) (e.durable_first honest_first)
     (e.durable_second honest_second) answer.0 answer.1 size_is in
@@ -27,19 +27,19 @@ returns-clause-represented g c honest_first honest_second =
     let d = g.D.Disk in
     let e = c.in-Ok.ensures in
     let o = c.in-Ok.contents in
-    let image = o.current_file.image.items in
+    let image = o.file.image.items in
     let answer = e.answer honest_first honest_second in
-    let size_is : o.current_file.tail.end - 21 - c.len.result ≡ o.current_file.tail.end - 21 - length image =
-    omega (arith, c.len.ensures, o.current_file.image.ok.0) in
+    let size_is : o.file.tail.end - 21 - c.len.result ≡ o.file.tail.end - 21 - length image =
+    omega (arith, c.len.ensures, o.file.image.ok.0) in
     let files = open_files d o.choice.swapped c.read_both.new.first c.read_both.new.second (d.seen c.args.first)
-    (d.seen c.args.second) o.choice.other_state o.choice.generation o.current_file.tail.end o.current_file.tail.gate
-    (o.current_file.tail.end - 21 - c.len.result) image o.current_file.tail.records.items
+    (d.seen c.args.second) o.choice.other_state o.choice.generation o.file.tail.end o.file.tail.gate
+    (o.file.tail.end - 21 - c.len.result) image o.file.tail.records.items
     (subst IsTrue (sym e.first_read.honesty) honest_first) (subst IsTrue (sym e.second_read.honesty) honest_second)
     (e.first_read.seen honest_first) (e.second_read.seen honest_second) (e.durable_first honest_first)
     (e.durable_second honest_second) answer.0 answer.1 size_is in
     open_represented d o.choice.swapped c.read_both.new.first c.read_both.new.second (d.seen c.args.first)
-    (d.seen c.args.second) o.choice.other_state o.choice.generation o.current_file.tail.end o.current_file.tail.gate
-    (o.current_file.tail.end - 21 - c.len.result) image _ _ (e.first_read.seen honest_first)
+    (d.seen c.args.second) o.choice.other_state o.choice.generation o.file.tail.end o.file.tail.gate
+    (o.file.tail.end - 21 - c.len.result) image _ _ (e.first_read.seen honest_first)
     (e.second_read.seen honest_second) files
 
 pub returns-in-Err-clause-extends : goal.returns-in-Err-clause-extends
