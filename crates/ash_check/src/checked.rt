@@ -35,7 +35,10 @@ impl Model for Checked {
     ghost coded = { Prim.hlevel (codes, typed_module.the_row.coded) };
 
     ghost view = { λ c. record {
-        registered = registered c.registrations.value; typed = c.module; ranks = c.ranks.items } };
+      registered = registered c.registrations.value;
+      typed = c.module;
+      ranks = c.ranks.items;
+    } };
 
     ghost invariant = { λ c. IsChecked (registered c.registrations.value) (module_of c.module) c.ranks.items };
 }

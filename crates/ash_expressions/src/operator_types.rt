@@ -17,7 +17,8 @@ pub(crate) fn operator_class(operator: BinaryOp) -> OperatorClass
         BinaryOp::Multiply | BinaryOp::Divide | BinaryOp::Remainder => OperatorClass::Arithmetic,
         BinaryOp::Add | BinaryOp::Subtract => OperatorClass::Arithmetic,
         BinaryOp::BitAnd | BinaryOp::BitXor | BinaryOp::BitOr => OperatorClass::Arithmetic,
-        BinaryOp::ShiftLeft | BinaryOp::ShiftRight | BinaryOp::ShiftRightArithmetic => OperatorClass::Shift,
+        BinaryOp::ShiftLeft | BinaryOp::ShiftRight | BinaryOp::ShiftRightArithmetic =>
+            OperatorClass::Shift,
         BinaryOp::Less | BinaryOp::LessOrEqual => OperatorClass::Order,
         BinaryOp::Greater | BinaryOp::GreaterOrEqual => OperatorClass::Order,
         BinaryOp::Equal | BinaryOp::NotEqual => OperatorClass::Equality,
@@ -111,7 +112,8 @@ pub(crate) fn accepts(class: OperatorClass, of: Ty) -> bool
 {
     match (class, of) {
         (_, Ty::Unknown) => true,
-        (OperatorClass::Arithmetic | OperatorClass::Shift | OperatorClass::Order, Ty::Integer(_)) => true,
+        (OperatorClass::Arithmetic | OperatorClass::Shift | OperatorClass::Order, Ty::Integer(_)) =>
+            true,
         (OperatorClass::Equality, Ty::Integer(_) | Ty::Bool) => true,
         (OperatorClass::Identity, Ty::Object(_) | Ty::Handle(_) | Ty::Null) => true,
         (OperatorClass::Logic, Ty::Bool) => true,
@@ -178,11 +180,11 @@ pub(crate) fn common_operands(class: OperatorClass, one: Ty, other: Ty) -> Optio
             OperatorClass::Arithmetic | OperatorClass::Order | OperatorClass::Equality,
             Ty::Integer(j),
             Ty::Integer(k),
-        ) => {
-            Some(Operands::Integers(common_integer_type(j, k)))
-        }
+        ) => { Some(Operands::Integers(common_integer_type(j, k))) }
         (OperatorClass::Shift, Ty::Integer(j), Ty::Integer(_)) => Some(Operands::Integers(j)),
-        (OperatorClass::Equality | OperatorClass::Logic, Ty::Bool, Ty::Bool) => Some(Operands::Bools),
+        (OperatorClass::Equality | OperatorClass::Logic, Ty::Bool, Ty::Bool) => Some(
+            Operands::Bools,
+        ),
         (OperatorClass::Identity, _, _) => {
             if are_comparable(one, other) {
                 Some(Operands::Handles)

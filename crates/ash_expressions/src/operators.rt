@@ -182,7 +182,11 @@ pub(crate) fn build_binary(
     let at = unified.left.at;
     let operands = unified.operands;
     let tree = operator_tree(alloc, operator, operands, unified.left, unified.right)?;
-    Ok(TypedExpr::value(at, operator_result(operator_class(operator), operands), tree))
+    Ok(TypedExpr::value(
+        at,
+        operator_result(operator_class(operator), operands),
+        tree,
+    ))
 }
 
 /// `++` or `--` at a place.
@@ -201,7 +205,11 @@ pub(crate) fn build_step(
         return Err(fault_at(Rule::NotAssignable, operand.at));
     };
     let int_type = integer_type(operand.at, operand.ty)?;
-    Ok(TypedExpr::value(at, Ty::Integer(int_type), nodes::count(place, int_type, step)))
+    Ok(TypedExpr::value(
+        at,
+        Ty::Integer(int_type),
+        nodes::count(place, int_type, step),
+    ))
 }
 
 fn build_integer_change(
@@ -214,7 +222,11 @@ fn build_integer_change(
     ensures { Agrees typed_of result (Ok (typing.altered at int_type change (typed_of operand))) }
 {
     let value = coerce(alloc, Ty::Integer(int_type), operand)?;
-    Ok(TypedExpr::value(at, Ty::Integer(int_type), nodes::alter(alloc, change, value)?))
+    Ok(TypedExpr::value(
+        at,
+        Ty::Integer(int_type),
+        nodes::alter(alloc, change, value)?,
+    ))
 }
 
 /// The value alone, which can't be assigned.
