@@ -74,14 +74,16 @@ def write(record):
     os.replace(FILE + ".new", FILE)
 
 
-# How many edits one run of the gate tries at the most for each processor. All of them are off record at once where the
-# toolchain has changed, and would take longer than a run has on a slow machine.
-MAX_EDITS_FOR_A_PROCESSOR = 75
+# All edits are off record at once where the toolchain has changed, and would take longer than a run has on a slow machine.
+# So a run tries as many as fit in these minutes, after the processor minutes that all proofs and tests take, where an
+# edit takes so much of a processor minute.
+MINUTES_OF_A_RUN, MINUTES_OF_PROOFS, MINUTES_OF_AN_EDIT = 120, 170, 0.75
 
 
 def max_edits():
     """How many edits one run of the gate tries at the most on this machine."""
-    return MAX_EDITS_FOR_A_PROCESSOR * len(os.sched_getaffinity(0))
+    processors = len(os.sched_getaffinity(0))
+    return int(max(0, MINUTES_OF_A_RUN * processors - MINUTES_OF_PROOFS) / MINUTES_OF_AN_EDIT)
 
 
 def put_off(known):

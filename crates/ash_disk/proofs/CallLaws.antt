@@ -96,12 +96,11 @@ during_write first calls later at bytes (Err e) kept none =
 -- a crash that loses all since the last sync is one of those that may come
 synced_may_stay : (first : List ℕ) (calls : List Call) → MayLeave first calls (synced_after first calls)
 synced_may_stay first [] = refl
-synced_may_stay first (Write at bytes ∷ earlier) =
-    (
-      synced_after first earlier,
-      synced_may_stay first earlier,
-      torn_not at (length bytes.items) (synced_after first earlier),
-    )
+synced_may_stay first (Write at bytes ∷ earlier) = (
+  synced_after first earlier,
+  synced_may_stay first earlier,
+  torn_not at (length bytes.items) (synced_after first earlier),
+)
 synced_may_stay first (Sync ∷ earlier) = refl
 
 -- what the last sync brought to the device is an image that a crash after the first calls may leave

@@ -44,8 +44,8 @@ part_torn prefix middle suffix at n new at_is n_is torn = (
   take (length middle) rest,
   omega (arith, length-take (length middle) rest, rest_length),
   whole ∙ ap (λ (l : List ℕ). prefix ++ l)
-  (parts (length middle) rest ∙ ap (λ (l : List ℕ). take (length middle) rest ++ l) suffix_same)
-  ∙ sym (append_assoc prefix (take (length middle) rest) suffix),
+      (parts (length middle) rest ∙ ap (λ (l : List ℕ). take (length middle) rest ++ l) suffix_same)
+      ∙ sym (append_assoc prefix (take (length middle) rest) suffix),
 )
   where
     rest : List ℕ

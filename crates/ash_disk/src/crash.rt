@@ -42,11 +42,7 @@ impl Picks {
         ensures { result ≤ max }
     {
         let pick = self.next() as usize;
-        if pick <= max {
-            pick
-        } else {
-            pick % (max + 1)
-        }
+        if pick <= max { pick } else { pick % (max + 1) }
     }
 }
 

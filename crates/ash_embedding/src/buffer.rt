@@ -1,6 +1,6 @@
-//! A kind with a growing state: bytes that scripts put at its end and take from there.
+//! A kind whose state grows: bytes that scripts append and take from the end.
 ghost use Rattle.std.specs.Prelude.{◌≡◌, ◌<◌, ◌≤◌, ◌↔◌, ℕ, List, [], ◌∷◌, length, vec_len, OnOk, IsErrOf};
-ghost use Rattle.ash_host.specs.Calls.{Invoke, SameRelation};
+ghost use Rattle.ash_host.specs.Calls.{Invoke, SameRelation, max_state};
 ghost use Rattle.ash_host.specs.Saved.{RestoresSaved};
 ghost use Rattle.ash_host.specs.declared.word.Word.{Word};
 ghost use Rattle.ash_embedding.specs.Buffers.{AllowsBuffer};
@@ -8,17 +8,17 @@ ghost use Rattle.ash_embedding.specs.Buffers.{AllowsBuffer};
 use ash_host::{HostAnswer, HostObject, NoMemory, RestoreFault, Word};
 use std::alloc::Global;
 
-/// How many bytes a buffer holds at most, which is the most that a state may have.
-pub const CAPACITY: usize = 1024;
+/// How many bytes a buffer holds at most: as many as a state may have.
+pub const MAX_BYTES: usize = 1024;
 
-/// Bytes that scripts put at the end and take from there. Method 1 `void put(int)` puts the low 8 bits of its
+/// Bytes that scripts append and take from the end. Method 1 `void put(int)` puts the low 8 bits of its
 /// argument, and raises 1 where the buffer is full. Method 2 `int take()` takes the last byte, and raises 2 where
-/// there is none. Property 1 `int length` says how many there are, and can't be written. Its factory takes no
+/// there is none. Property 1 `int length` is how many there are, and can't be written. Its factory takes no
 /// arguments. Any other number or arguments answer `Nothing`, a property `Null`, and change nothing.
 #[derive(Drop)]
 pub struct Buffer {
     bytes: Vec<u8>,
-    ghost bounded: { vec_len bytes ≤ 1024 },
+    ghost bounded: { vec_len bytes ≤ max_state },
 }
 
 impl Buffer {
@@ -30,7 +30,7 @@ impl Buffer {
         ensures kind { ⟦<Buffer as HostObject>⟧.kind_of result ≡ 3 }
         ensures empty { ⟦<Buffer as HostObject>⟧.state result ≡ [] }
         ensures refuses { (bytes : List ℕ)
-            → ⟦<Buffer as HostObject>⟧.refuses result bytes ↔ (1024 < length bytes) }
+            → ⟦<Buffer as HostObject>⟧.refuses result bytes ↔ (max_state < length bytes) }
         ensures restores { RestoresSaved ⟦<Buffer as HostObject>⟧ result }
         ensures exact { SameRelation (⟦<Buffer as HostObject>⟧.allows result) AllowsBuffer }
     {
@@ -44,7 +44,7 @@ impl Buffer {
         ensures { AllowsBuffer (Invoke 1 (Word.Int number ∷ [])) self.old.bytes.items result
             self.new.bytes.items }
     {
-        if self.bytes.len() == CAPACITY {
+        if self.bytes.len() == MAX_BYTES {
             return HostAnswer::Raise(1);
         }
         match self.bytes.push((number.cast_unsigned() % 256) as u8) {
@@ -71,7 +71,7 @@ impl HostObject for Buffer {
 
     ghost allows = { λ _. AllowsBuffer };
 
-    ghost refuses = { λ _ bytes. 1024 < length bytes };
+    ghost refuses = { λ _ bytes. max_state < length bytes };
 
     fn kind(&self) -> u16 {
         Buffer::KIND
@@ -108,10 +108,10 @@ impl HostObject for Buffer {
 
     fn restore(&mut self, bytes: &[u8]) -> Result<(), RestoreFault>
         ensures restored { OnOk result (self.new.bytes.items ≡ bytes.now) }
-        ensures refused { IsErrOf result RestoreFault.Refused ↔ (1024 < length bytes.now) }
-        ensures memory { IsErrOf result RestoreFault.NoMemory → 1024 < length bytes.now → ⊥ }
+        ensures refused { IsErrOf result RestoreFault.Refused ↔ (max_state < length bytes.now) }
+        ensures memory { IsErrOf result RestoreFault.NoMemory → max_state < length bytes.now → ⊥ }
     {
-        if bytes.len() > CAPACITY {
+        if bytes.len() > MAX_BYTES {
             return Err(RestoreFault::Refused);
         }
         self.bytes.clear();

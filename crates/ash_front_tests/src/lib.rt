@@ -1,8 +1,9 @@
-//! Tests of the front end: tokens, trees and registrations. They are in a crate of their own, so that the crates with the
-//! code are proved once.
+//! Tests of the front end: tokens, trees and registrations. They are in a crate of their own, so that the crates with
+//! the code are proved once.
 //!
-//! In reading order: `compare`, with the comparisons; `tokens`, `signs` and `words`, of `ash_lex`; `declarations`, `trees`
-//! and `largest`, of `ash_parse`; `registrations` and `registry_limits`, of `ash_registry`.
+//! In reading order: `compare`, with the comparisons; `tokens`, `signs` and `words`, of `ash_lex`; `declarations`,
+//! `trees` with `expression_trees`, `statement_trees` and `item_trees`, and `largest`, of `ash_parse`;
+//! `registrations`, `refusals` and `registry_limits`, of `ash_registry`.
 #![tactic(auto)]
 
 #[cfg(test)]
@@ -10,13 +11,21 @@ mod compare;
 #[cfg(test)]
 mod declarations;
 #[cfg(test)]
+mod expression_trees;
+#[cfg(test)]
+mod item_trees;
+#[cfg(test)]
 mod largest;
+#[cfg(test)]
+mod refusals;
 #[cfg(test)]
 mod registrations;
 #[cfg(test)]
 mod registry_limits;
 #[cfg(test)]
 mod signs;
+#[cfg(test)]
+mod statement_trees;
 #[cfg(test)]
 mod tokens;
 #[cfg(test)]

@@ -93,7 +93,8 @@ fn tokens_of_texts(rt: HostRuntime) -> Result<(), Fail> {
         ),
         (
             "0x 0xg 0X1 12ab",
-            "1:0-1 number 0; 1:1-2 name x; 1:3-4 number 0; 1:4-6 name xg; 1:7-8 number 0; 1:8-10 name X1; 1:11-13 number 12; 1:13-15 name ab; ",
+            "1:0-1 number 0; 1:1-2 name x; 1:3-4 number 0; 1:4-6 name xg; 1:7-8 number 0; 1:8-10 name X1; \
+                1:11-13 number 12; 1:13-15 name ab; ",
         ),
         ("a!is b", "1:0-1 name a; 1:1-4 sign !is; 1:5-6 name b; "),
         (

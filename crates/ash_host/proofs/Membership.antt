@@ -63,7 +63,7 @@ list_any_some p (x ∷ xs) h =
       | inr later ↦ let s = list_any_some p xs later in (s.0, or_second (nat_eq s.0 x) (is_among xs s.0) s.1, s.2)
     ]
 
--- a number is among the keys where something stands at it
+-- a number is among the keys where something is at it
 pub is_among-numbers : {A : Type 0} (n : ℕ) (entries : List (ℕ × A)) → is_among (numbers entries) n ≡ is_some (object_at n entries)
 is_among-numbers n [] = refl
 is_among-numbers n (e ∷ entries) =

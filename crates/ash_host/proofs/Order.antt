@@ -1,4 +1,4 @@
--- Entries by ascending number: what stands at each number decides them.
+-- Entries by ascending number: what is at each number decides them.
 use Rattle.std.proofs.Common.{◌≡◌, ◌<◌, ◌≤◌, ℕ, Bool, true, false, cond, List, [], ◌∷◌, ◌⊎◌, inl, inr, refl, sym, subst, ap, ◌∙◌, nat_eq, nat_lt, arith}
 use Rattle.std.specs.Prelude.{None, Some, is_some, IsSome}
 use Rattle.std.specs.List.{AllByRecursion}
@@ -30,7 +30,7 @@ unfolding Rising IsStrictlySortedBy
 rising e [] h = tt
 rising e (f ∷ l) h = (less e.0 f.0 (h.0).0, rising f l h.1)
 
--- nothing stands at a number that is not above the bound
+-- nothing is at a number that is not above the bound
 rising_none : {A : Type 0} (j n : ℕ) (l : List (ℕ × A)) → Rising j l → n ≤ j → object_at n l ≡ None
 unfolding Rising
 rising_none j n [] r h = refl
@@ -73,7 +73,7 @@ three_ways m n = go (nat_lt m n) (nat_lt n m) refl refl
 pair_same : {A : Type 0} (x y : ℕ × A) → x.0 ≡ y.0 → x.1 ≡ y.1 → x ≡ y
 pair_same {A} x y p q = ap (λ (k : ℕ). (k, x.1)) p ∙ ap (λ (v : A). (y.0, v)) q
 
--- Two lists that rise and in which the same stands at each number are one.
+-- Two lists that rise and in which the same is at each number are one.
 rising_same : {A : Type 0} (a b : List (ℕ × A)) → IsRising a → IsRising b → ((n : ℕ) → object_at n a ≡ object_at n b) → a ≡ b
 unfolding Rising IsRising
 rising_same [] [] ra rb same = refl
@@ -111,11 +111,11 @@ rising_same (e ∷ a) (f ∷ b) ra rb same =
     together : e.0 ≡ f.0 → a ≡ b → e ∷ a ≡ f ∷ b
     together level rest = let head : e ≡ f = pair_same e f level (value level) in cc
 
--- entries in order are one with others in order in which the same stands at each number
+-- entries in order are one with others in order in which the same is at each number
 pub same_in_order : {A : Type 0} (a b : List (ℕ × A)) → IsInOrder a → IsInOrder b → ((n : ℕ) → object_at n a ≡ object_at n b) → a ≡ b
 same_in_order a b oa ob same = rising_same a b (in_order_rises a oa) (in_order_rises b ob) same
 
--- after an entry in order its number does not stand again
+-- after an entry in order its number does not come again
 pub none_after : {A : Type 0} (e : ℕ × A) (l : List (ℕ × A)) (n : ℕ) → IsInOrder (e ∷ l) → IsSome (object_at n l) → nat_eq n e.0 ≡ false
 none_after e l n o some =
     go (nat_eq n e.0) refl
@@ -150,7 +150,7 @@ rises_in_order : {A : Type 0} (l : List (ℕ × A)) → IsRising l → IsInOrder
 rises_in_order l r = IsStrictlyIncreasing-from_sorted (numbers l) (rises_sorted l r)
 
 module _ {A : Type 0} (k : ℕ) (v : A) where
-  -- what stands at each number after a value was put at one
+  -- what is at each number after a value was put at one
   pub object_at-with_at : (n : ℕ) (l : List (ℕ × A)) → object_at n (with_at k v l) ≡ cond (nat_eq n k) (Some v) (object_at n l)
   object_at-with_at n [] = refl
   object_at-with_at n (e ∷ l) =

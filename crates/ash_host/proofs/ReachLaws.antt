@@ -1,4 +1,4 @@
--- What is reachable can be computed, and the sweep is what it is said to be.
+-- What is reachable can be computed, and the sweep is what its definition says.
 use Rattle.std.proofs.Common.{◌≡◌, ℕ, Bool, true, false, cond, List, [], ◌∷◌, inl, inr, refl, sym, subst, ap, ◌∙◌, nat_eq}
 use Rattle.std.specs.Prelude.{None, Contains, ◌&&◌, ◌||◌}
 use Rattle.std.specs.List.Sorted.{IsStrictlyIncreasing}
@@ -48,7 +48,7 @@ leads-join refers (stop ∷ stops) m x n among a b =
     from_stop : x ≡ stop → L stop n ≡ true
     from_stop e = let b' = subst (λ (k : ℕ). L k n || (L k stop && L stop n) ≡ true) e b in elim (or_cases (L stop n) (L stop stop && L stop n) b') [ inl h ↦ h | inr h ↦ (and_both (L stop stop) (L stop n) h).1 ]
 
--- where a way leads, there reach goes
+-- what a way leads to is reachable
 leads-reaches : {IsHeld : ℕ → Type 0} {RefersTo : ℕ → ℕ → Type 0} (refers : ℕ → ℕ → Bool) → ((a b : ℕ) → refers a b ≡ true → RefersTo a b) → (stops : List ℕ) (m n : ℕ) → leads refers stops m n ≡ true → Reachable IsHeld RefersTo m → Reachable IsHeld RefersTo n
 unfolding leads
 leads-reaches refers says [] m n h r = Field r (says m n h)

@@ -10,7 +10,7 @@ use Rattle.ash_host.proofs.Membership.{is_among-numbers, or_first, or_second}
 use Rattle.ash_host.proofs.Order.{same_in_order}
 use Rattle.ash_host.proofs.ReachLaws.{is_reachable_says, is_reachable_yes}
 
--- what stands at a number decides what is referred to from there
+-- what is at a number decides what is referred to from there
 pub references_same : {M : Type 0} (a b : Objects M) (one other : ℕ) → object_at one a ≡ object_at one b → Refers a one other → Refers b one other
 references_same a b one other e r = subst (λ o. Contains (option_map_or (λ object. handles (fields_of object)) o []) other) e r
 
@@ -33,16 +33,16 @@ is_none_from (Some x) h = cc
 none_gone : {M : Type 0} (l new : Objects M) → ((n : ℕ) → is_among (numbers l) n ≡ true → is_some (object_at n new) ≡ true) → hosts_gone l new ≡ []
 none_gone [] new h = refl
 none_gone {M} (e ∷ l) new h =
-    ap (λ (b : Bool). keys_of (cond b (e ∷ rest) rest)) (kept (is_host e.1) (object_at e.0 new) (h e.0 (or_first (nat_eq e.0 e.0) (is_among (numbers l) e.0) (eq-eqb e.0 e.0 refl))))
+    ap (λ (b : Bool). keys_of (cond b (e ∷ rest) rest)) (not_gone (is_host e.1) (object_at e.0 new) (h e.0 (or_first (nat_eq e.0 e.0) (is_among (numbers l) e.0) (eq-eqb e.0 e.0 refl))))
     ∙ none_gone l new (λ n among. h n (or_second (nat_eq n e.0) (is_among (numbers l) n) among))
   where
     rest : Objects M
     rest = filter (λ f. is_host f.1 && is_none (object_at f.0 new)) l
 
-    kept : (b : Bool) (o : Option (Plain M)) → is_some o ≡ true → b && is_none o ≡ false
-    kept true None some = sym some
-    kept true (Some x) some = refl
-    kept false o some = refl
+    not_gone : (b : Bool) (o : Option (Plain M)) → is_some o ≡ true → b && is_none o ≡ false
+    not_gone true None some = sym some
+    not_gone true (Some x) some = refl
+    not_gone false o some = refl
 
 -- where no handle dangles, what is reachable lives
 pub reachable_lives : {M : Type 0} {IsHeld : ℕ → Type 0} (objects : Objects M) → NoneDangles IsHeld objects → (n : ℕ) → ReachableIn IsHeld objects n → Lives objects n

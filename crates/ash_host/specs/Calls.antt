@@ -18,7 +18,9 @@ pub data HostCall : Type 0 where
 abbrev pub Relation : Type 1
 Relation = HostCall → List ℕ → HostAnswer → List ℕ → Type 0
 
--- two relations that say the same of every call
+-- two relations that allow the same of every call
 pub record SameRelation (one other : HostCall → List ℕ → HostAnswer → List ℕ → Type 0) : Type 0 where
-  pub onward : (call : HostCall) (before : List ℕ) (answer : HostAnswer) (after : List ℕ) → one call before answer after → other call before answer after
-  pub back : (call : HostCall) (before : List ℕ) (answer : HostAnswer) (after : List ℕ) → other call before answer after → one call before answer after
+  pub onward : (call : HostCall) (before : List ℕ) (answer : HostAnswer) (after : List ℕ)
+      → one call before answer after → other call before answer after
+  pub back : (call : HostCall) (before : List ℕ) (answer : HostAnswer) (after : List ℕ)
+      → other call before answer after → one call before answer after

@@ -6,9 +6,9 @@ use Rattle.std.specs.Int.{w32, cast_unsigned, cast_signed, to_le_bytes, from_le_
 abbrev pub int_bytes : ℤ → List ℕ
 int_bytes number = to_le_bytes w32 (cast_unsigned w32 number)
 
--- the `int` that four bytes spell
-abbrev pub int_spelled : List ℕ → ℤ
-int_spelled bytes = cast_signed w32 (from_le_bytes w32 bytes)
+-- the `int` whose four bytes these are
+abbrev pub int_of_bytes : List ℕ → ℤ
+int_of_bytes bytes = cast_signed w32 (from_le_bytes w32 bytes)
 
 -- the low 16 bits of an `int`
 abbrev pub low_bits_of : ℤ → ℕ

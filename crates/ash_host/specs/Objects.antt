@@ -1,5 +1,6 @@
 -- Objects as plain data: what lives by which number, what refers to what, and how many handles there are.
-use Rattle.std.specs.Prelude.{ℕ, ◌+◌, ◌<◌, ◌≤◌, ◌==◌, Bool, true, false, List, [], Option, None, Some, IsSome, Contains, nat_eq, count_by, sum_by}
+use Rattle.std.specs.Prelude.{ℕ, ◌+◌, ◌<◌, ◌≤◌, ◌==◌, Bool, true, false, List}
+use Rattle.std.specs.Prelude.{[], Option, None, Some, IsSome, Contains, nat_eq, count_by, sum_by}
 use Rattle.std.specs.List.{filter_map}
 use Rattle.std.specs.List.Sorted.{IsStrictlyIncreasing}
 use Rattle.std.specs.Option.{option_map_or}
@@ -12,7 +13,7 @@ use Rattle.ash_host.specs.declared.word.Word.TheVariants.{Object}
 -- M is what a module is known by, its name or the slot of a table.
 
 -- What the elements of an array are of. Handles of objects of a class or an interface have the module and the place of
--- the class or the interface in the source there; handles of host objects have the kind.
+-- the class or the interface in its source; handles of host objects have the kind.
 pub data Element (M : Type 0) : Type 0 where
   Bools : Element M
   Ints : Element M
@@ -22,7 +23,7 @@ pub data Element (M : Type 0) : Type 0 where
   Handles : (owner : M) (place : ℕ) → Element M
   Hosts : (kind : ℕ) → Element M
 
--- An object. A script object has the module and the place of its class in the source there, and its fields in
+-- An object. A script object has the module and the place of its class in the module's source, and its fields in
 -- order of declaration; an array has what its elements are of, and the elements; a host object has its kind and its
 -- state.
 pub data Plain (M : Type 0) : Type 0 where
@@ -34,7 +35,7 @@ pub data Plain (M : Type 0) : Type 0 where
 abbrev pub Objects : Type 0 → Type 0
 Objects M = List (ℕ × Plain M)
 
--- what stands at a number, if anything does
+-- what lives at a number, if anything does
 abbrev pub object_at : {A : Type 0} → ℕ → List (ℕ × A) → Option A
 object_at number entries = lookup (nat_eq number) entries
 

@@ -36,7 +36,8 @@ pub record Swept {M : Type 0} (IsHeld : ℕ → Type 0) (old new : Objects M) (d
 pub record Cascaded {M : Type 0} (IsHeld : ℕ → Type 0) (old new : Objects M) : Type 0 where
   pub unchanged : (number : ℕ) → Lives new number → object_at number new ≡ object_at number old
   pub not_held : (number : ℕ) → Lives old number → object_at number new ≡ None → ¬ IsHeld number
-  pub not_referred : (one other : ℕ) → Lives old other → object_at other new ≡ None → Lives new one → ¬ Refers old one other
+  pub not_referred :
+      (one other : ℕ) → Lives old other → object_at other new ≡ None → Lives new one → ¬ Refers old one other
   pub counted : (number : ℕ) → Lives new number → IsHeld number ⊎ ((one : ℕ) × Lives new one × Refers new one number)
   pub in_order : IsInOrder new
 
@@ -49,10 +50,11 @@ pub record AreRanks {M : Type 0} (rank : ℕ → ℕ) (top : ℕ) (objects : Obj
 abbrev pub is_among : List ℕ → ℕ → Bool
 is_among numbers number = list_any (nat_eq number) numbers
 
--- whether references lead from one number to another, by one step or over stops among these numbers alone
+-- whether references lead from one number to another, directly or through these numbers only
 unfoldable pub leads : (ℕ → ℕ → Bool) → List ℕ → ℕ → ℕ → Bool
 leads refers [] one other = refers one other
-leads refers (stop ∷ stops) one other = leads refers stops one other || (leads refers stops one stop && leads refers stops stop other)
+leads refers (stop ∷ stops) one other =
+    leads refers stops one other || (leads refers stops one stop && leads refers stops stop other)
 
 -- whether one object refers to another
 abbrev pub refers : {M : Type 0} → Objects M → ℕ → ℕ → Bool

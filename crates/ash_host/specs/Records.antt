@@ -1,5 +1,6 @@
 -- What host objects answered, as a list of records, which of them are valid, and how a call takes the next of them.
-use Rattle.std.specs.Prelude.{◌≡◌, ◌≤◌, ℕ, Bool, true, false, ◌&&◌, List, [], ◌∷◌, length, Option, None, Some, nat_eq, if◌then◌else◌}
+use Rattle.std.specs.Prelude.{◌≡◌, ◌≤◌, ℕ, Bool, true, false, ◌&&◌, List}
+use Rattle.std.specs.Prelude.{[], ◌∷◌, length, Option, None, Some, nat_eq, if◌then◌else◌}
 use Rattle.std.specs.Ordering.{int_eq}
 use Rattle.std.specs.Bool.{beq}
 use Rattle.std.specs.Cmp.Lexicographic.{pointwise}
@@ -11,7 +12,7 @@ use Rattle.ash_host.specs.declared.event.Target.TheVariants as targets
 use Rattle.ash_host.specs.declared.host_object.HostObject.{Ghosts}
 use Rattle.ash_host.specs.Calls.{HostCall, Start, Invoke, Get, Set, max_state}
 
--- one call: whom it went to, what it was, the state before it, the answer, and the state after it
+-- one call: what it went to, what it was, the state before it, the answer, and the state after it
 pub record HostRecord : Type 0 where
   pub target : Target
   pub call : HostCall
@@ -27,7 +28,8 @@ pub record IsValidRecord {B : Type 0} (host : Ghosts B) (object : B) (r : HostRe
   pub after_fits : length r.after ≤ max_state
 
 -- The next record is of this call, made at this state, and these are left after it.
-pub record Takes (target : Target) (call : HostCall) (before : List ℕ) (records : List HostRecord) (next : HostRecord) (left : List HostRecord) : Type 0 where
+pub record Takes (target : Target) (call : HostCall) (before : List ℕ) (records : List HostRecord) (next : HostRecord)
+    (left : List HostRecord) : Type 0 where
   pub first : records ≡ next ∷ left
   pub same_target : next.target ≡ target
   pub same_call : next.call ≡ call
@@ -60,7 +62,8 @@ is_same_target _ _ = false
 
 -- whether a record is of this call, made at this state
 abbrev pub is_of : Target → HostCall → List ℕ → HostRecord → Bool
-is_of target call before next = is_same_target next.target target && is_same_call next.call call && pointwise nat_eq next.before before
+is_of target call before next = is_same_target next.target target && is_same_call next.call call
+    && pointwise nat_eq next.before before
 
 -- The next record and those that are left, where it is of this call; none where it isn't, or where none is left.
 abbrev pub next_record : Target → HostCall → List ℕ → List HostRecord → Option (HostRecord × List HostRecord)

@@ -12,4 +12,5 @@ pub record Saves {B : Type 0} (host : Ghosts B) (object : B) (bytes : List ℕ) 
 -- opens again: a kind whose `restore` refuses everything meets the trait, and nothing that it saved comes back.
 abbrev pub RestoresSaved : {B : Type 0} → Ghosts B → B → Type 0
 RestoresSaved host fresh =
-    (object : _) (bytes : List ℕ) → host.kind_of object ≡ host.kind_of fresh → Saves host object bytes → host.refuses fresh bytes → ⊥
+    (object : _) (bytes : List ℕ) → host.kind_of object ≡ host.kind_of fresh → Saves host object bytes
+    → host.refuses fresh bytes → ⊥

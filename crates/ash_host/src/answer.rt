@@ -11,6 +11,6 @@ pub enum HostAnswer {
     Nothing,
     /// An exception of the script, with a code that the object chooses. What the object changed stays.
     Raise(u16),
-    /// That a growth was refused.
+    /// That memory ran out.
     NoMemory,
 }

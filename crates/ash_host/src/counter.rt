@@ -21,14 +21,15 @@ impl Counter {
     /// The number of the kind.
     pub const KIND: u16 = 1;
 
-    /// A counter that stands at 0.
+    /// A counter whose value is 0.
     pub fn new() -> Counter
         ensures kind { ⟦<Counter as HostObject>⟧.kind_of result ≡ 1 }
         ensures zero { ⟦<Counter as HostObject>⟧.state result ≡ int_bytes (pos 0) }
         ensures refuses { (bytes : List ℕ)
             → ⟦<Counter as HostObject>⟧.refuses result bytes ↔ (length bytes ≢ 4) }
         ensures restores { RestoresSaved ⟦<Counter as HostObject>⟧ result }
-        ensures exact { SameRelation (⟦<Counter as HostObject>⟧.allows result) (AllowsByInt counter_step) }
+        ensures exact { SameRelation (⟦<Counter as HostObject>⟧.allows result)
+            (AllowsByInt counter_step) }
     {
         Counter { value: 0 }
     }

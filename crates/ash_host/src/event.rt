@@ -1,6 +1,6 @@
 //! What a request does to host objects, as its answer reports it.
 
-/// Whom a call goes to.
+/// What a call goes to.
 #[derive(Clone, Copy, Debug, PartialEq, Eq)]
 pub enum Target {
     /// The live object of this number.

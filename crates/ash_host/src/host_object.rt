@@ -6,7 +6,7 @@ ghost use Rattle.ash_host.specs.Calls.{HostCall, Start, Invoke, Get, Set, Relati
 
 use crate::{HostAnswer, NoMemory, RestoreFault, Word};
 
-/// An object of the embedding program that scripts hold by handle, or a service after registered functions
+/// An object of the embedding program that scripts hold by handle, or a service whose functions are registered
 /// (AngelScript manual, "Registering a reference type").
 ///
 /// It is known by four things, which no code can read and each implementation proves: the kind, which no call
@@ -33,7 +33,8 @@ pub trait HostObject: Drop {
 
     /// Begins its life with the arguments of a factory. `Nothing` is success.
     fn start(&mut self, args: &[Word]) -> HostAnswer
-        ensures allowed { allows self.old (Start args.now) (state self.old) result (state self.new) }
+        ensures allowed { allows self.old (Start args.now) (state self.old) result
+            (state self.new) }
         ensures same_kind { kind_of self.new ≡ kind_of self.old }
         ensures same_relation { SameRelation (allows self.old) (allows self.new) }
         ensures bounded { length (state self.new) ≤ max_state };
@@ -66,8 +67,8 @@ pub trait HostObject: Drop {
         ensures bounded { length (state self.now) ≤ max_state };
 
     /// Takes these bytes as its state. It refuses bytes that are no state of its kind. Where it is refused, or memory
-    /// runs out, its state may be another one afterwards. Of bytes that it may refuse it may answer either error, since
-    /// a kind may need memory to find them bad.
+    /// runs out, its state may be another one afterwards. Where it may refuse the bytes it may answer either error,
+    /// since a kind may need memory to find them bad.
     fn restore(&mut self, bytes: &[u8]) -> Result<(), RestoreFault>
         ensures restored { OnOk result (state self.new ≡ bytes.now) }
         ensures refused { IsErrOf result RestoreFault.Refused → refuses self.old bytes.now }

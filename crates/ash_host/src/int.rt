@@ -1,4 +1,4 @@
-//! What a kind that keeps one `int` does with it. Its state is the number in four bytes, the lowest first.
+//! What a kind does that has one `int`. Its state is the number in four bytes, the lowest first.
 ghost use Rattle.std.specs.Prelude.{◌≡◌, ◌++◌, ◌↔◌, length, IsSome, IfSome, OnOk, OnErr};
 ghost use Rattle.ash_host.specs.Ints.{int_bytes, low_bits_of};
 

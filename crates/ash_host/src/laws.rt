@@ -3,7 +3,8 @@
 ghost use Rattle.std.specs.Prelude.{◌≤◌, length};
 ghost use Rattle.ash_host.specs.declared.event.Target.{Target};
 ghost use Rattle.ash_host.specs.Calls.{Invoke, max_state};
-ghost use Rattle.ash_host.specs.Laws.{ReachIsDecided, SweepIsExact, SweepIsOne, SweepSettles, CascadeIsSweep, CountIsReferences, PutIsExact, NumbersRise, SweepKeepsLast, RecordIsExact};
+ghost use Rattle.ash_host.specs.Laws.{ReachIsDecided, SweepIsExact, SweepIsOne, SweepSettles, CascadeIsSweep};
+ghost use Rattle.ash_host.specs.Laws.{CountIsReferences, PutIsExact, NumbersRise, SweepKeepsLast, RecordIsExact};
 ghost use Rattle.ash_host.specs.Records.{IsValidRecord};
 
 use crate::{HostAnswer, HostObject, Word};
@@ -32,7 +33,7 @@ pub fn count_is_references<M>()
     ensures { CountIsReferences M }
 {}
 
-/// An object that is put at a number changes that number alone, and the counts by what it holds.
+/// An object that is put at a number changes that number only, and the counts by what it holds.
 pub fn put_is_exact<M>()
     ensures { PutIsExact M }
 {}

@@ -1,12 +1,12 @@
 //! What scripts and the program that embeds them hand to each other: words, the values of the script language, and
-//! host objects, what the embedding program keeps after handles, with the two kinds that come with the product.
-//! It stands on nothing, so that every other crate can speak of it. It promises that the integer operators are
+//! host objects, the objects of the embedding program that handles refer to, with the two kinds that come with the
+//! product. It stands on no other crate, so that all others can use it. It promises that the integer operators are
 //! those of whole numbers, reduced to the width of their type, and of every host object that each answer lies
-//! within the relation that its kind reports.
+//! within the relation of its kind.
 //!
 //! In reading order: `word` (values), `answer` (what a call of a host object answers), `fault` (why one isn't saved
 //! or restored), `host_object` (the trait), `counter` and `tally` (the kinds that come with the product, with `int`,
-//! the number that they keep), `event` (what a request does to host objects), `laws` (of objects, and of what host
+//! the number that each has), `event` (what a request does to host objects), `laws` (of objects, and of what host
 //! objects answer).
 #![tactic(auto)]
 

@@ -21,14 +21,15 @@ impl Tally {
     /// The number of the kind.
     pub const KIND: u16 = 2;
 
-    /// A tally that stands at 0.
+    /// A tally whose total is 0.
     pub fn new() -> Tally
         ensures kind { ⟦<Tally as HostObject>⟧.kind_of result ≡ 2 }
         ensures zero { ⟦<Tally as HostObject>⟧.state result ≡ int_bytes (pos 0) }
         ensures refuses { (bytes : List ℕ)
             → ⟦<Tally as HostObject>⟧.refuses result bytes ↔ (length bytes ≢ 4) }
         ensures restores { RestoresSaved ⟦<Tally as HostObject>⟧ result }
-        ensures exact { SameRelation (⟦<Tally as HostObject>⟧.allows result) (AllowsByInt tally_step) }
+        ensures exact { SameRelation (⟦<Tally as HostObject>⟧.allows result)
+            (AllowsByInt tally_step) }
     {
         Tally { total: 0 }
     }

@@ -19,8 +19,8 @@ enum Ask {
 // A call, its answer, and the state after it.
 type Row = (Ask, &'static str, &'static [u8]);
 
-// The calls and the makers stand in functions of their own, which promise nothing: so each contract is seen once, and not
-// in every test.
+// The calls and the constructors are in functions of their own, which promise nothing: so each contract is seen once,
+// and not in every test.
 
 fn counter() -> Counter {
     Counter::new()
@@ -59,7 +59,7 @@ fn restore<B: HostObject>(object: &mut B, state: &[u8]) -> Result<(), RestoreFau
     object.restore(state)
 }
 
-fn saved<B: HostObject>(alloc: Global, object: &B) -> Result<Vec<u8>, NoMemory> {
+fn saved_state<B: HostObject>(alloc: Global, object: &B) -> Result<Vec<u8>, NoMemory> {
     let mut state = Vec::new(alloc);
     object.save(&mut state)?;
     Ok(state)
@@ -73,8 +73,8 @@ fn restored_text(alloc: Global, restored: Result<(), RestoreFault>) -> Result<St
     Ok(format!(in alloc; "{restored:?}")?)
 }
 
-// Makes a call and writes its answer out.
-fn asked<B: HostObject>(alloc: Global, object: &mut B, ask: Ask) -> Result<String, Fail> {
+// Makes a call, and returns the text of its answer.
+fn make_call<B: HostObject>(alloc: Global, object: &mut B, ask: Ask) -> Result<String, Fail> {
     match ask {
         Ask::Start(args) => answer_text(alloc, start(object, args)),
         Ask::Invoke(method, args) => answer_text(alloc, invoke(object, method, args)),
@@ -84,23 +84,29 @@ fn asked<B: HostObject>(alloc: Global, object: &mut B, ask: Ask) -> Result<Strin
     }
 }
 
-// What is reported of a call, its answer and the state after it.
-fn reported(alloc: Global, kind: u16, ask: Ask, answer: &str, state: &[u8]) -> Result<String, Fail> {
+// The text of a call, its answer and the state after it.
+fn call_text(
+    alloc: Global,
+    kind: u16,
+    ask: Ask,
+    answer: &str,
+    state: &[u8],
+) -> Result<String, Fail> {
     Ok(format!(in alloc; "kind {kind}, {ask:?}: {answer}, then {state:?}")?)
 }
 
-// Makes a call, and reports it.
-fn found<B: HostObject>(alloc: Global, object: &mut B, ask: Ask) -> Result<String, Fail> {
-    let answer = asked(alloc, object, ask)?;
-    let state = saved(alloc, object)?;
-    reported(alloc, kind(object), ask, &answer, &state)
+// Makes a call, and returns its text.
+fn make_call_text<B: HostObject>(alloc: Global, object: &mut B, ask: Ask) -> Result<String, Fail> {
+    let answer = make_call(alloc, object, ask)?;
+    let state = saved_state(alloc, object)?;
+    call_text(alloc, kind(object), ask, &answer, &state)
 }
 
 fn check(rt: &impl Abort, found: &str, wanted: &str) {
     assert_eq!(rt; found, wanted);
 }
 
-fn answers_row<B: HostObject>(
+fn check_row<B: HostObject>(
     rt: &impl Abort,
     alloc: Global,
     object: &mut B,
@@ -108,14 +114,14 @@ fn answers_row<B: HostObject>(
     row: Row,
 ) -> Result<(), Fail> {
     let (ask, answer, state) = row;
-    let wanted = reported(alloc, kind, ask, answer, state)?;
-    let found = found(alloc, object, ask)?;
+    let wanted = call_text(alloc, kind, ask, answer, state)?;
+    let found = make_call_text(alloc, object, ask)?;
     check(rt, &found, &wanted);
     Ok(())
 }
 
 // Makes each call in turn, and compares the kind, the answer and the state after it.
-fn answers<B: HostObject>(
+fn check_rows<B: HostObject>(
     rt: &impl Abort,
     alloc: Global,
     object: &mut B,
@@ -123,7 +129,7 @@ fn answers<B: HostObject>(
     rows: &[Row],
 ) -> Result<(), Fail> {
     for row in rows {
-        answers_row(rt, alloc, object, kind, *row)?;
+        check_row(rt, alloc, object, kind, *row)?;
     }
     Ok(())
 }
@@ -210,9 +216,9 @@ static BUFFER: [Row; 9] = [
 
 #[test]
 fn kinds_answer(rt: HostRuntime) -> Result<(), Fail> {
-    answers(&rt, rt.alloc(), &mut counter(), 1, &COUNTER)?;
-    answers(&rt, rt.alloc(), &mut tally(), 2, &TALLY)?;
-    answers(&rt, rt.alloc(), &mut buffer(rt.alloc()), 3, &BUFFER)
+    check_rows(&rt, rt.alloc(), &mut counter(), 1, &COUNTER)?;
+    check_rows(&rt, rt.alloc(), &mut tally(), 2, &TALLY)?;
+    check_rows(&rt, rt.alloc(), &mut buffer(rt.alloc()), 3, &BUFFER)
 }
 
 static RESTORED: [Row; 2] = [
@@ -223,13 +229,13 @@ static RESTORED: [Row; 2] = [
 #[test]
 fn a_box_answers_as_its_object(rt: HostRuntime) -> Result<(), Fail> {
     let mut counter: Box<dyn HostObject> = Box::new(rt.alloc(), counter())?;
-    answers(&rt, rt.alloc(), &mut counter, 1, &COUNTER)?;
-    answers(&rt, rt.alloc(), &mut counter, 1, &RESTORED)?;
+    check_rows(&rt, rt.alloc(), &mut counter, 1, &COUNTER)?;
+    check_rows(&rt, rt.alloc(), &mut counter, 1, &RESTORED)?;
     let mut tally: Box<dyn HostObject> = Box::new(rt.alloc(), tally())?;
-    answers(&rt, rt.alloc(), &mut tally, 2, &TALLY)
+    check_rows(&rt, rt.alloc(), &mut tally, 2, &TALLY)
 }
 
-static COUNTER_BACK: [Row; 5] = [
+static COUNTER_RESTORED: [Row; 5] = [
     (Ask::Restore(&[]), "Err(Refused)", &[0, 0, 0, 0]),
     (Ask::Restore(&[1, 2, 3]), "Err(Refused)", &[0, 0, 0, 0]),
     (
@@ -241,7 +247,7 @@ static COUNTER_BACK: [Row; 5] = [
     (Ask::Get(1), "Value(Int(-2147483648))", &[0, 0, 0, 128]),
 ];
 
-static TALLY_BACK: [Row; 5] = [
+static TALLY_RESTORED: [Row; 5] = [
     (Ask::Restore(&[]), "Err(Refused)", &[0, 0, 0, 0]),
     (Ask::Restore(&[1, 2, 3]), "Err(Refused)", &[0, 0, 0, 0]),
     (
@@ -259,12 +265,12 @@ static TALLY_BACK: [Row; 5] = [
 
 #[test]
 fn a_state_comes_back(rt: HostRuntime) -> Result<(), Fail> {
-    answers(&rt, rt.alloc(), &mut counter(), 1, &COUNTER_BACK)?;
-    answers(&rt, rt.alloc(), &mut tally(), 2, &TALLY_BACK)
+    check_rows(&rt, rt.alloc(), &mut counter(), 1, &COUNTER_RESTORED)?;
+    check_rows(&rt, rt.alloc(), &mut tally(), 2, &TALLY_RESTORED)
 }
 
 // Restores so many bytes, and compares the answer and how many there are then.
-fn fills(
+fn check_fill(
     rt: &impl Abort,
     alloc: Global,
     buffer: &mut Buffer,
@@ -273,7 +279,7 @@ fn fills(
 ) -> Result<(), Fail> {
     let state = vec![in alloc; 7u8; count]?;
     let answer = restored_text(alloc, restore(buffer, &state))?;
-    let length = saved(alloc, buffer)?.len();
+    let length = saved_state(alloc, buffer)?.len();
     let found = format!(in alloc; "{count}: {answer}, then {length}")?;
     check(rt, &found, wanted);
     Ok(())
@@ -282,16 +288,16 @@ fn fills(
 #[test]
 fn a_full_buffer_raises(rt: HostRuntime) -> Result<(), Fail> {
     let mut buffer = buffer(rt.alloc());
-    fills(
+    check_fill(
         &rt,
         rt.alloc(),
         &mut buffer,
         1024,
         "1024: Ok(()), then 1024",
     )?;
-    let full = asked(rt.alloc(), &mut buffer, Ask::Invoke(1, &[Word::Int(1)]))?;
+    let full = make_call(rt.alloc(), &mut buffer, Ask::Invoke(1, &[Word::Int(1)]))?;
     check(&rt, &full, "Raise(1)");
-    fills(
+    check_fill(
         &rt,
         rt.alloc(),
         &mut buffer,

@@ -1,5 +1,5 @@
-//! Tests of what the crates below the front end have: integers, kinds of host objects, and the table of objects. They are
-//! in a crate with tests alone, so that the crates with the code are proved once.
+//! Tests of what the crates below the front end have: integers, kinds of host objects, and the table of objects. They
+//! are in a crate of tests only, so that the crates with the code are proved once.
 //!
 //! - `rows`: every operator on every type of integers at its extremes, worked out by hand.
 //! - `kinds`: what each kind of host objects answers to rows of calls, what it saves, and what it comes back from.
@@ -7,7 +7,8 @@
 //!   memory that is ample or refused once.
 //! - `sequences`, `marks`, `arrays` and `limits`: sequences of calls with the events that they leave, what is named as
 //!   changed, arrays, and a table at its limits, with memory that is ample.
-//! - `restoring` and `pools`: tables from what a state holds, and the boxes that they take and give up.
+//! - `restoring`, `pools` and `refused_states`: tables from what a state holds, the boxes that they take, and those
+//! that   are given up where a state is refused.
 //! - `refusals`: memory that is refused once.
 #![tactic(auto)]
 
@@ -23,6 +24,8 @@ mod marks;
 mod pools;
 #[cfg(test)]
 mod refusals;
+#[cfg(test)]
+mod refused_states;
 #[cfg(test)]
 mod reporter;
 #[cfg(test)]

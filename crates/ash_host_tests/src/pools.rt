@@ -1,9 +1,9 @@
-//! Which boxes a table from a state takes from its pool, and which are given up: with the table, or where there is none.
-//! A box has a name of two digits, of which the first is its kind.
+//! Which boxes a table from a state takes from its pool, and which are given up with the table. A box has a name of two
+//! digits, of which the first is its kind.
 ghost use Rattle.std.specs.Prelude.{◌≡◌, IfOk, vec_len};
 
 use crate::reporter::{Log, Reporter, has_reported};
-use crate::restoring::{Kept, objects};
+use crate::restoring::{SavedHost, stored_objects};
 use crate::table::{Table, new_log, new_reporter};
 use ash_host::{Event, NoMemory};
 use ash_objects::{Objects, TableFault};
@@ -18,13 +18,13 @@ pub struct Service<'a> {
     pub state: &'a [u8],
 }
 
-/// A state with the host objects 3 and 5, and what there is to restore it.
+/// A state with the host objects 3 and 5, and what it is restored from: the free boxes and the services.
 #[derive(Clone, Copy)]
-pub struct Given<'a> {
+pub struct RestoreInput<'a> {
     /// The names of the free boxes, in order.
     pub pool: &'a [u16],
-    pub third: Kept<'a>,
-    pub fifth: Kept<'a>,
+    pub third: SavedHost<'a>,
+    pub fifth: SavedHost<'a>,
     /// In order.
     pub services: &'a [Service<'a>],
 }
@@ -65,21 +65,21 @@ fn boxes_and_states(
 pub fn restored(
     alloc: Global,
     log: &Log,
-    given: &Given<'_>,
+    input: &RestoreInput<'_>,
 ) -> Result<Result<Table, TableFault>, NoMemory> {
-    let pool = free_boxes(alloc, log, given.pool)?;
-    let (services, states) = boxes_and_states(alloc, log, given.services)?;
-    let objects = objects(alloc, given.third, given.fifth)?;
-    Ok(Objects::restored(alloc, objects, 9, &states, pool, services))
+    let pool = free_boxes(alloc, log, input.pool)?;
+    let (services, states) = boxes_and_states(alloc, log, input.services)?;
+    let stored = stored_objects(alloc, input.third, input.fifth)?;
+    Ok(Objects::restored(alloc, stored, &states, pool, services))
 }
 
 // Whether a counter of this name is among these, with this number if one is named.
 fn is_among(found: &[(u16, i32)], name: u16, number: Option<i32>) -> bool {
-    found.iter().any(|it| it.0 == name && number.is_none_or(|number| it.1 == number))
+    found.iter().any(|report| report.0 == name && number.is_none_or(|number| report.1 == number))
 }
 
-/// Whether these counters are the ones that were given up after so many others, in any order, each with its number if one
-/// is named.
+/// Whether these counters are the ones that were given up after so many others, in any order, each with its number if
+/// one is named.
 pub fn has_reported_then(log: &Log, many: usize, wanted: &[(u16, Option<i32>)]) -> bool {
     let Ok(found) = log.try_borrow() else {
         return false;
@@ -88,14 +88,14 @@ pub fn has_reported_then(log: &Log, many: usize, wanted: &[(u16, Option<i32>)]) 
         return false;
     }
     let found = &found[many..];
-    found.len() == wanted.len() && wanted.iter().all(|it| is_among(found, it.0, it.1))
+    found.len() == wanted.len()
+        && wanted
+            .iter()
+            .all(|report| is_among(found, report.0, report.1))
 }
 
-fn check_true(rt: &impl Abort, found: bool, what: &str, place: usize) {
-    assert!(rt; found, "{what} {place}");
-}
-
-const SERVICES: [Service<'static>; 2] = [
+/// Two services, with their states.
+pub const SERVICES: [Service<'static>; 2] = [
     Service {
         name: 31,
         state: &[8, 0, 0, 0],
@@ -175,32 +175,19 @@ static ORDERS: [Order<'static>; 8] = [
     },
 ];
 
-// Sweeps a table that nothing holds, and looks at what is given up; then the table goes.
-fn check_sweep(
-    rt: &impl Abort,
+// Sweeps a table that nothing holds, and returns whether the objects 3 and 5 are dropped, and their boxes given up with
+// their numbers; then the table goes.
+fn drops_boxes(
     alloc: Global,
     mut objects: Table,
     log: &Log,
     order: &Order<'_>,
-    place: usize,
-) -> Result<(), Fail> {
+) -> Result<bool, Fail> {
     let mut events = Vec::new(alloc);
     objects.sweep(&mut events)?;
     let expected = [Event::Dropped(3), Event::Dropped(5)];
-    check_true(
-        rt,
-        events.as_slice() == expected.as_slice(),
-        "the events of order",
-        place,
-    );
     let swept = [(order.third, 3), (order.fifth, 5)];
-    check_true(
-        rt,
-        has_reported(log, &swept),
-        "what is swept of order",
-        place,
-    );
-    Ok(())
+    Ok(events.as_slice() == expected.as_slice() && has_reported(log, &swept))
 }
 
 fn check_order(
@@ -210,20 +197,21 @@ fn check_order(
     place: usize,
 ) -> Result<(), Fail> {
     let log = new_log(alloc, 8)?;
-    let given = Given {
+    let input = RestoreInput {
         pool: order.pool,
-        third: Kept {
+        third: SavedHost {
             kind: 1,
             state: &[3, 0, 0, 0],
         },
-        fifth: Kept {
+        fifth: SavedHost {
             kind: order.kind,
             state: &[5, 0, 0, 0],
         },
         services: &SERVICES,
     };
-    let objects = restored(alloc, &log, &given)??;
-    check_sweep(rt, alloc, objects, &log, order, place)?;
+    let objects = restored(alloc, &log, &input)??;
+    let is_met = drops_boxes(alloc, objects, &log, order)?;
+    assert!(rt; is_met, "the sweep of order {place}");
     let [one, other] = order.left;
     let others = [
         (one, Some(0)),
@@ -231,12 +219,8 @@ fn check_order(
         (31, Some(8)),
         (41, Some(9)),
     ];
-    check_true(
-        rt,
-        has_reported_then(&log, 2, &others),
-        "what is left of order",
-        place,
-    );
+    let is_met = has_reported_then(&log, 2, &others);
+    assert!(rt; is_met, "what is left of order {place}");
     Ok(())
 }
 
@@ -244,179 +228,6 @@ fn check_order(
 fn boxes_go_to_objects_by_ascending_number(rt: HostRuntime) -> Result<(), Fail> {
     for (place, order) in ORDERS.iter().enumerate() {
         check_order(&rt, rt.alloc(), order, place)?;
-    }
-    Ok(())
-}
-
-// Why a state is refused, and the boxes that are given up then: each once, with its number where it had taken its state.
-struct Refusal<'a> {
-    given: Given<'a>,
-    fault: TableFault,
-    given_up: &'a [(u16, Option<i32>)],
-}
-
-// Memory aside a pool that is too short comes first, then the services in order, and then the objects by number. Those
-// before the one that refuses have their states.
-static REFUSALS: [Refusal<'static>; 6] = [
-    Refusal {
-        given: Given {
-            pool: &[21, 12, 22],
-            third: Kept {
-                kind: 1,
-                state: &[3],
-            },
-            fifth: Kept {
-                kind: 1,
-                state: &[5],
-            },
-            services: &[Service {
-                name: 31,
-                state: &[8],
-            }],
-        },
-        fault: TableFault::PoolShort(1),
-        given_up: &[(12, None), (21, None), (22, None), (31, None)],
-    },
-    Refusal {
-        given: Given {
-            pool: &[12, 11],
-            third: Kept {
-                kind: 1,
-                state: &[3, 0, 0, 0],
-            },
-            fifth: Kept {
-                kind: 2,
-                state: &[5, 0, 0, 0],
-            },
-            services: &[],
-        },
-        fault: TableFault::PoolShort(2),
-        given_up: &[(11, None), (12, None)],
-    },
-    Refusal {
-        given: Given {
-            pool: &[22, 21, 12, 11],
-            third: Kept {
-                kind: 1,
-                state: &[3],
-            },
-            fifth: Kept {
-                kind: 2,
-                state: &[5],
-            },
-            services: &[
-                Service {
-                    name: 31,
-                    state: &[8, 0, 0, 0],
-                },
-                Service {
-                    name: 41,
-                    state: &[9],
-                },
-                Service {
-                    name: 51,
-                    state: &[10],
-                },
-            ],
-        },
-        fault: TableFault::RestoreRefused(0),
-        given_up: &[
-            (11, None),
-            (12, None),
-            (21, None),
-            (22, None),
-            (31, Some(8)),
-            (41, None),
-            (51, None),
-        ],
-    },
-    Refusal {
-        given: Given {
-            pool: &[11, 21, 12, 22],
-            third: Kept {
-                kind: 1,
-                state: &[3],
-            },
-            fifth: Kept {
-                kind: 1,
-                state: &[5],
-            },
-            services: &SERVICES,
-        },
-        fault: TableFault::RestoreRefused(3),
-        given_up: &[
-            (11, None),
-            (12, None),
-            (21, None),
-            (22, None),
-            (31, Some(8)),
-            (41, Some(9)),
-        ],
-    },
-    Refusal {
-        given: Given {
-            pool: &[22, 12, 11],
-            third: Kept {
-                kind: 1,
-                state: &[3, 0, 0, 0],
-            },
-            fifth: Kept {
-                kind: 1,
-                state: &[5, 0, 0, 0, 0],
-            },
-            services: &[Service {
-                name: 31,
-                state: &[8, 0, 0, 0],
-            }],
-        },
-        fault: TableFault::RestoreRefused(5),
-        given_up: &[(11, None), (12, Some(3)), (22, None), (31, Some(8))],
-    },
-    Refusal {
-        given: Given {
-            pool: &[12, 22, 11, 21],
-            third: Kept {
-                kind: 1,
-                state: &[3, 0, 0, 0],
-            },
-            fifth: Kept {
-                kind: 2,
-                state: &[],
-            },
-            services: &[],
-        },
-        fault: TableFault::RestoreRefused(5),
-        given_up: &[(11, None), (12, Some(3)), (21, None), (22, None)],
-    },
-];
-
-fn check_refusal(
-    rt: &impl Abort,
-    alloc: Global,
-    refusal: &Refusal<'_>,
-    place: usize,
-) -> Result<(), Fail> {
-    let log = new_log(alloc, 8)?;
-    let fault = restored(alloc, &log, &refusal.given)?.err();
-    check_true(
-        rt,
-        fault == Some(refusal.fault),
-        "the fault of refusal",
-        place,
-    );
-    check_true(
-        rt,
-        has_reported_then(&log, 0, refusal.given_up),
-        "what is given up by refusal",
-        place,
-    );
-    Ok(())
-}
-
-#[test]
-fn boxes_of_a_refused_state_are_given_up(rt: HostRuntime) -> Result<(), Fail> {
-    for (place, refusal) in REFUSALS.iter().enumerate() {
-        check_refusal(&rt, rt.alloc(), refusal, place)?;
     }
     Ok(())
 }

@@ -1,9 +1,10 @@
-//! Memory that is refused once: `tests/program objects` has each allocation of each of these tests fail in turn, and they
-//! pass whichever it is. A call that is refused memory leaves all as it was, and does what it must when it is made again.
+//! Memory that is refused once: `tests/program objects` has each allocation of each of these tests fail in turn, and
+//! they pass whichever it is. A call that is refused memory leaves all as it was, and does what it must when it is made
+//! again.
 ghost use Rattle.std.specs.Prelude.{◌≡◌, ◌<◌, length};
 
-use crate::pools::{self, Given, Service, has_reported_then};
-use crate::restoring::{Kept, objects as stored};
+use crate::pools::{self, RestoreInput, Service, has_reported_then};
+use crate::restoring::{SavedHost, stored_objects};
 use crate::steps::{Memory, Sequence, Step, check, counts};
 use crate::table::new_log;
 use ash_host::{Counter, Event, HostAnswer, NoMemory, Target, Word};
@@ -90,7 +91,8 @@ fn counters(alloc: Global, many: usize) -> Result<Vec<Counter>, NoMemory> {
     Ok(counters)
 }
 
-fn counters_again(alloc: Global, many: usize) -> Result<Vec<Counter>, NoMemory> {
+// The same, and once more where memory was refused.
+fn retry_counters(alloc: Global, many: usize) -> Result<Vec<Counter>, NoMemory> {
     if let Ok(counters) = counters(alloc, many) {
         return Ok(counters);
     }
@@ -98,7 +100,7 @@ fn counters_again(alloc: Global, many: usize) -> Result<Vec<Counter>, NoMemory> 
 }
 
 // Has a service add one, and once more where memory was refused and no event was appended.
-fn add_again(objects: &mut Table, sum: i32, events: &mut Vec<Event>) -> bool
+fn add_with_retry(objects: &mut Table, sum: i32, events: &mut Vec<Event>) -> bool
     requires { 0 < length objects.old.services }
     ensures { length objects.new.services ≡ length objects.old.services }
 {
@@ -116,14 +118,14 @@ fn check_sums(rt: &impl Abort, objects: &mut Table, events: &mut Vec<Event>)
     requires { 0 < length objects.old.services }
 {
     for sum in 1..10 {
-        let is_met = add_again(objects, sum, events);
+        let is_met = add_with_retry(objects, sum, events);
         assert!(rt; is_met, "the sum {sum}");
     }
 }
 
 #[test]
 fn a_service_refused_memory_is_not_run(rt: HostRuntime) -> Result<(), Fail> {
-    let services = counters_again(rt.alloc(), 1)?;
+    let services = retry_counters(rt.alloc(), 1)?;
     if services.is_empty() {
         return Err("no service")?;
     }
@@ -144,12 +146,12 @@ fn restored(alloc: Global) -> Result<Result<Table, TableFault>, NoMemory> {
     let mut services = Vec::new(alloc);
     services.push(Counter::new())?;
     let pool = counters(alloc, 2)?;
-    let objects = stored(
+    let stored = stored_objects(
         alloc,
-        Kept::counter(&[3, 0, 0, 0]),
-        Kept::counter(&[5, 0, 0, 0]),
+        SavedHost::counter(&[3, 0, 0, 0]),
+        SavedHost::counter(&[5, 0, 0, 0]),
     )?;
-    Ok(Objects::restored(alloc, objects, 9, &states, pool, services))
+    Ok(Objects::restored(alloc, stored, &states, pool, services))
 }
 
 fn has_its_counts(table: Result<Result<Table, TableFault>, NoMemory>) -> Result<bool, NoMemory> {
@@ -171,13 +173,13 @@ fn a_state_is_restored_once_there_is_memory(rt: HostRuntime) -> Result<(), Fail>
 }
 
 // A state over four boxes, of which two are left, and a service.
-static GIVEN: Given<'static> = Given {
+static INPUT: RestoreInput<'static> = RestoreInput {
     pool: &[11, 21, 12, 22],
-    third: Kept {
+    third: SavedHost {
         kind: 1,
         state: &[3, 0, 0, 0],
     },
-    fifth: Kept {
+    fifth: SavedHost {
         kind: 2,
         state: &[5, 0, 0, 0],
     },
@@ -187,14 +189,14 @@ static GIVEN: Given<'static> = Given {
     }],
 };
 
-// Boxes that were handed over are given up, each once, with the table or where memory was refused.
+// Boxes that were passed in are given up, each once, with the table or where memory was refused.
 #[test]
 fn boxes_of_a_state_refused_memory_are_given_up(rt: HostRuntime) -> Result<(), Fail> {
     let log = match new_log(rt.alloc(), 5) {
         Ok(log) => log,
         Err(_) => new_log(rt.alloc(), 5)?,
     };
-    let Ok(answer) = pools::restored(rt.alloc(), &log, &GIVEN) else {
+    let Ok(answer) = pools::restored(rt.alloc(), &log, &INPUT) else {
         return Ok(());
     };
     assert!(rt; matches!(answer, Ok(_) | Err(TableFault::NoMemory)));

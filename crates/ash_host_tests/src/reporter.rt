@@ -1,10 +1,10 @@
-//! A Counter that reports which one it is, and its number, when its box is given up.
+//! A Counter that reports its name and its number when its box is given up.
 
 use ash_host::{Counter, HostAnswer, HostObject, NoMemory, RestoreFault, Word};
 use std::cell::RefCell;
 use std::rc::Rc;
 
-/// The names of counters that were given up, in order, each with the number that it kept.
+/// The names of counters that were given up, in order, each with its number.
 pub type Log = Rc<RefCell<Vec<(u16, i32)>>>;
 
 /// A Counter with a name and a kind of its own, which reports its name and its number when its box is given up.

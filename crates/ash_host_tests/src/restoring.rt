@@ -4,10 +4,11 @@ ghost use Rattle.ash_host.specs.declared.word.Word.{Word};
 ghost use Rattle.ash_host.specs.Objects.{object_at, Lives, AreNumbered, handle};
 ghost use Rattle.ash_slots.specs.Bodies.{words_of};
 ghost use Rattle.ash_objects.specs.Restoring.{stored_in};
+ghost use Rattle.ash_objects.specs.Table.{max_objects, max_elements};
 
 use crate::table::{Table, draw, new_log, new_pool};
 use ash_host::{Event, NoMemory, Word};
-use ash_objects::{Body, Objects, Saved, Script, Stored, Words};
+use ash_objects::{Body, Objects, Saved, Script, Stored, StoredObjects, Words};
 use std::alloc::Global;
 use std::test::Fail;
 
@@ -31,29 +32,29 @@ fn script(alloc: Global, number: u64, field: u64) -> Result<Stored, NoMemory>
 
 /// What a state has of a host object.
 #[derive(Clone, Copy)]
-pub struct Kept<'a> {
+pub struct SavedHost<'a> {
     /// The number of its kind.
     pub kind: u16,
     /// Its state in bytes.
     pub state: &'a [u8],
 }
 
-impl<'a> Kept<'a> {
+impl<'a> SavedHost<'a> {
     /// What a state has of a counter.
-    pub fn counter(state: &'a [u8]) -> Kept<'a> {
-        Kept { kind: 1, state }
+    pub fn counter(state: &'a [u8]) -> SavedHost<'a> {
+        SavedHost { kind: 1, state }
     }
 }
 
 // A host object.
-fn host(alloc: Global, number: u64, kept: Kept<'_>) -> Result<Stored, NoMemory>
+fn host(alloc: Global, number: u64, of: SavedHost<'_>) -> Result<Stored, NoMemory>
     ensures number { IfOk result (λ stored. stored.number ≡ number) }
     ensures words { IfOk result (λ stored. words_of stored.body ≡ []) }
 {
     let mut state = Vec::new(alloc);
-    state.extend_from_slice(kept.state)?;
+    state.extend_from_slice(of.state)?;
     let saved = Saved {
-        kind: kept.kind,
+        kind: of.kind,
         state,
     };
     Ok(Stored {
@@ -62,13 +63,23 @@ fn host(alloc: Global, number: u64, kept: Kept<'_>) -> Result<Stored, NoMemory>
     })
 }
 
-/// Two objects that hold the host object 3 and one that holds the host object 5, and these two.
-pub fn objects(alloc: Global, third: Kept<'_>, fifth: Kept<'_>) -> Result<Vec<Stored>, NoMemory>
-    ensures numbered { IfOk result (λ objects. AreNumbered 9 (stored_in objects.items)) }
-    ensures few { IfOk result (λ objects. vec_len objects ≤ 4096) }
-    ensures short { IfOk result (λ objects. (number : ℕ) → IfSome (object_at number (stored_in objects.items)) (λ body. length (words_of body) ≤ 4096)) }
-    ensures alive { IfOk result (λ objects. (number : ℕ) → IfSome (object_at number (stored_in objects.items))
-        (λ body. All (λ word. IfSome (handle word) (Lives (stored_in objects.items))) (words_of body))) }
+/// A state with two objects that hold the host object 3 and one that holds the host object 5, and these two, of which 9
+/// is the last number that was given.
+pub fn stored_objects(
+    alloc: Global,
+    third: SavedHost<'_>,
+    fifth: SavedHost<'_>,
+) -> Result<StoredObjects, NoMemory>
+    ensures numbered { IfOk result
+        (λ stored. AreNumbered stored.last (stored_in stored.objects.items)) }
+    ensures few { IfOk result (λ stored. vec_len stored.objects ≤ max_objects) }
+    ensures short { IfOk result
+        (λ stored. (number : ℕ) → IfSome (object_at number (stored_in stored.objects.items))
+        (λ body. length (words_of body) ≤ max_elements)) }
+    ensures alive { IfOk result
+        (λ stored. (number : ℕ) → IfSome (object_at number (stored_in stored.objects.items))
+        (λ body. All (λ word. IfSome (handle word) (Lives (stored_in stored.objects.items)))
+        (words_of body))) }
 {
     let mut objects = Vec::new(alloc);
     objects.push(script(alloc, 1, 3)?)?;
@@ -76,19 +87,19 @@ pub fn objects(alloc: Global, third: Kept<'_>, fifth: Kept<'_>) -> Result<Vec<St
     objects.push(host(alloc, 3, third)?)?;
     objects.push(script(alloc, 4, 3)?)?;
     objects.push(host(alloc, 5, fifth)?)?;
-    Ok(objects)
+    Ok(StoredObjects { objects, last: 9 })
 }
 
 // A table from that state, over three counters.
 fn restored(alloc: Global) -> Result<Table, Fail> {
     let log = new_log(alloc, 3)?;
     let pool = new_pool(alloc, &log, 3)?;
-    let objects = objects(
+    let stored = stored_objects(
         alloc,
-        Kept::counter(&[3, 0, 0, 0]),
-        Kept::counter(&[5, 0, 0, 0]),
+        SavedHost::counter(&[3, 0, 0, 0]),
+        SavedHost::counter(&[5, 0, 0, 0]),
     )?;
-    Ok(Objects::restored(alloc, objects, 9, &[], pool, Vec::new(alloc))?)
+    Ok(Objects::restored(alloc, stored, &[], pool, Vec::new(alloc))?)
 }
 
 #[test]

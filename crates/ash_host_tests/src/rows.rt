@@ -22,7 +22,7 @@ const GREATEST_UINT64: i128 = 18_446_744_073_709_551_615;
 // An operator, its type, its operands and the result.
 type Row = (Arithmetic, IntType, i128, i128, Result<i128, DivisionFault>);
 
-// The calls stand in functions of their own, which promise nothing: so each contract is seen once.
+// The calls are in functions of their own, which promise nothing: so each contract is seen once.
 
 fn word(of: IntType, number: i128) -> Word {
     word_from(of, number)

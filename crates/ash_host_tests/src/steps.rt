@@ -1,6 +1,6 @@
 //! What a test does with a table, step by step: the steps are data, so that the calls are proved once and not in each
-//! test. Memory is ample, or is refused once: then a step that is refused it leaves all as it was, and does what it must
-//! when it is taken again.
+//! test. Memory is ample, or is refused once: then a step that is refused it leaves all as it was, and does what it
+//! must when it is taken again.
 
 use crate::reporter::{Log, has_reported};
 use crate::table::{
@@ -70,7 +70,8 @@ pub struct Sequence<'a> {
     pub with_the_table: &'a [(u16, i32)],
 }
 
-fn made(answer: Result<u64, MakeFault>, number: u64) -> Result<bool, NoMemory> {
+// Whether an object was made, and got this number.
+fn has_number(answer: Result<u64, MakeFault>, number: u64) -> Result<bool, NoMemory> {
     match answer {
         Ok(found) => Ok(found == number),
         Err(MakeFault::NoMemory) => Err(NoMemory),
@@ -82,7 +83,7 @@ fn makes(alloc: Global, objects: &mut Table, fields: usize, number: u64) -> Resu
     if fields > 32 {
         return Ok(false);
     }
-    made(make(alloc, objects, fields)?, number)
+    has_number(make(alloc, objects, fields)?, number)
 }
 
 fn lacks_kind(objects: &mut Table, kind: u16, events: &mut Vec<Event>) -> Result<bool, NoMemory> {
@@ -118,7 +119,8 @@ fn raises(
     }
 }
 
-fn lengthened(answer: Result<(), LengthFault>) -> Result<bool, NoMemory> {
+// Whether an array got its length.
+fn has_length(answer: Result<(), LengthFault>) -> Result<bool, NoMemory> {
     match answer {
         Ok(()) => Ok(true),
         Err(LengthFault::TooLong) => Ok(false),
@@ -130,14 +132,14 @@ fn resizes(objects: &mut Table, number: u64, length: usize) -> Result<bool, NoMe
     if !is_array(objects, number) {
         return Ok(false);
     }
-    lengthened(objects.resize(number, length))
+    has_length(objects.resize(number, length))
 }
 
 fn inserts(objects: &mut Table, number: u64, word: Word) -> Result<bool, NoMemory> {
     if !is_array(objects, number) || !is_alive(objects, word) {
         return Ok(false);
     }
-    lengthened(objects.insert_last(number, word))
+    has_length(objects.insert_last(number, word))
 }
 
 fn removes(objects: &mut Table, number: u64) -> bool {
@@ -158,13 +160,13 @@ fn take(
 ) -> Result<bool, NoMemory> {
     match step {
         Step::Make(fields, number) => makes(alloc, objects, fields, number),
-        Step::Draw(number, start) => made(draw(objects, start, events), number),
+        Step::Draw(number, start) => has_number(draw(objects, start, events), number),
         Step::LacksKind(kind) => lacks_kind(objects, kind, events),
         Step::Add(number, by, sum) => adds(objects, number, by, sum, events),
         Step::Raise(number, code) => raises(objects, number, code, events),
         Step::SetField(number, place, word) => Ok(set_field(objects, number, place, word)),
         Step::MakeArray(length, number) => {
-            made(objects.new_array(Element::Class(0, 0), length), number)
+            has_number(objects.new_array(Element::Class(0, 0), length), number)
         }
         Step::Resize(number, length) => resizes(objects, number, length),
         Step::Insert(number, word) => inserts(objects, number, word),
@@ -203,7 +205,12 @@ fn words(objects: &Table) -> [usize; 4] {
 }
 
 // Takes a step, and once more where memory was refused and all was left as it was.
-fn take_again(alloc: Global, objects: &mut Table, step: Step, events: &mut Vec<Event>) -> bool {
+fn take_with_retry(
+    alloc: Global,
+    objects: &mut Table,
+    step: Step,
+    events: &mut Vec<Event>,
+) -> bool {
     let before = (counts(objects), words(objects), events.len());
     if let Ok(is_met) = take(alloc, objects, step, events) {
         return is_met;
@@ -221,7 +228,7 @@ fn take_with(
 ) -> Result<bool, NoMemory> {
     match memory {
         Memory::Ample => take(alloc, objects, step, events),
-        Memory::RefusedOnce => Ok(take_again(alloc, objects, step, events)),
+        Memory::RefusedOnce => Ok(take_with_retry(alloc, objects, step, events)),
     }
 }
 
@@ -229,14 +236,10 @@ fn new_table_with(alloc: Global, counters: u16, memory: Memory) -> Result<(Table
     match memory {
         Memory::Ample => new_table(alloc, counters),
         Memory::RefusedOnce => match new_table(alloc, counters) {
-            Ok(made) => Ok(made),
+            Ok(table) => Ok(table),
             Err(_) => new_table(alloc, counters),
         },
     }
-}
-
-fn check_true(rt: &impl Abort, found: bool, what: &str, number: usize) {
-    assert!(rt; found, "{what} {number}");
 }
 
 /// Takes the steps in order, and looks at what each comes to and at what they leave.
@@ -250,21 +253,11 @@ pub fn check(
     let mut events = Vec::new(alloc);
     for (place, step) in sequence.steps.iter().enumerate() {
         let is_met = take_with(alloc, &mut objects, *step, &mut events, memory)?;
-        check_true(rt, is_met, "step", place);
+        assert!(rt; is_met, "step {place}");
     }
-    check_true(rt, events.as_slice() == sequence.events, "the events of", 0);
-    check_true(
-        rt,
-        has_reported(&log, sequence.given_up),
-        "what is given up by",
-        0,
-    );
+    assert_eq!(rt; events.as_slice(), sequence.events);
+    assert!(rt; has_reported(&log, sequence.given_up));
     drop(objects);
-    check_true(
-        rt,
-        has_reported(&log, sequence.with_the_table),
-        "what goes with",
-        0,
-    );
+    assert!(rt; has_reported(&log, sequence.with_the_table));
     Ok(())
 }

@@ -1,4 +1,4 @@
-//! A table of counters that report, and its calls where a test has seen that they may be made.
+//! A table of counters that report, and its calls, each made only where a test finds that it may be.
 ghost use Rattle.std.specs.Prelude.{◌≡◌, ◌≤◌, IsTrue, IsSome};
 ghost use Rattle.ash_host.specs.Objects.{Lives};
 ghost use Rattle.ash_objects.specs.Table.{IsAlive, field_of};
@@ -14,7 +14,7 @@ use std::rc::Rc;
 
 pub type Table = Objects<Reporter>;
 
-/// What counters report to, with room for so many.
+/// A log that counters report to, with room for so many of them.
 pub fn new_log(alloc: Global, many: usize) -> Result<Log, NoMemory> {
     let mut names = Vec::new(alloc);
     names.reserve(many)?;

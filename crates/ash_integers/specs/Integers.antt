@@ -1,13 +1,16 @@
 -- The integers of scripts as whole numbers (AngelScript manual, "Primitives"), their conversions, and their operators
 -- ("Math operators", "Bitwise operators").
-use Rattle.std.specs.Prelude.{ℕ, zero, ◌-◌, ◌*◌, ◌/◌, ◌%◌, ◌^◌, ◌==◌, ◌||◌, not, Bool, ℤ, pos, negsuc, ◌+ℤ◌, ◌-ℤ◌, ◌*ℤ◌, unsigned_abs, bit_and, bit_or, bit_xor, int_lt, int_le, int_div, int_rem, if◌then◌else◌, Result, Ok, Err}
+use Rattle.std.specs.Prelude.{ℕ, zero, ◌-◌, ◌*◌, ◌/◌, ◌%◌, ◌^◌, ◌==◌, ◌||◌, not}
+use Rattle.std.specs.Prelude.{Bool, ℤ, pos, negsuc, ◌+ℤ◌, ◌-ℤ◌, ◌*ℤ◌, unsigned_abs, bit_and, bit_or}
+use Rattle.std.specs.Prelude.{bit_xor, int_lt, int_le, int_div, int_rem, if◌then◌else◌, Result, Ok, Err}
 use Rattle.std.specs.Int.{Width, w32, w64, int_wrap, int_rem_euclid, int_shr, cast_signed, cast_unsigned}
 use Rattle.ash_host.specs.declared.word.Word.{Word}
 use Rattle.ash_host.specs.declared.word.Word.TheVariants as words
 use Rattle.ash_integers.specs.declared.int_type.IntType.{IntType}
 use Rattle.ash_integers.specs.declared.int_type.IntType.TheVariants.{Int, Uint, Int64, Uint64}
 use Rattle.ash_integers.specs.declared.arithmetic.Arithmetic.{Arithmetic}
-use Rattle.ash_integers.specs.declared.arithmetic.Arithmetic.TheVariants.{Add, Subtract, Multiply, Divide, Remainder, BitAnd, BitOr, BitXor}
+use Rattle.ash_integers.specs.declared.arithmetic.Arithmetic.TheVariants.{Add, Subtract, Multiply, Divide}
+use Rattle.ash_integers.specs.declared.arithmetic.Arithmetic.TheVariants.{Remainder, BitAnd, BitOr, BitXor}
 use Rattle.ash_integers.specs.declared.arithmetic.DivisionFault.{DivisionFault}
 use Rattle.ash_integers.specs.declared.arithmetic.DivisionFault.TheVariants.{ByZero, Overflow}
 use Rattle.ash_integers.specs.declared.shift.Shift.{Shift}
@@ -38,7 +41,8 @@ reduced Uint z = int_rem_euclid z (pos (2 ^ 32))
 reduced Int64 z = int_wrap w64 z
 reduced Uint64 z = int_rem_euclid z (pos (2 ^ 64))
 
--- the bits of a number of the type, in two's complement, as a natural number; and the number of the type with these bits
+-- the bits of a number of the type, in two's complement, as a natural number; and the number of the type with these
+-- bits
 abbrev pub bits_of : IntType → ℤ → ℕ
 bits_of t z = cast_unsigned (width_of t) z
 
@@ -109,11 +113,13 @@ calculated operator t left right = in_word t (result_of operator t (number_at t 
 
 -- ---- shifts: the count is of any integer type, and counts modulo the width of the left operand
 
--- `<<` loses the bits that leave the width; `>>` shifts zeros in; `>>>` copies the top bit, whatever the sign of the type
+-- `<<` loses the bits that leave the width; `>>` shifts zeros in; `>>>` copies the top bit, whatever the sign of the
+-- type
 abbrev pub shifted_by : Shift → IntType → ℤ → ℕ → ℤ
 shifted_by shifts.Left t z k = from_bits t (bits_of t z * 2 ^ k % 2 ^ bit_count_of t)
 shifted_by shifts.Right t z k = from_bits t (bits_of t z / 2 ^ k)
-shifted_by shifts.RightArithmetic t z k = from_bits t (cast_unsigned (width_of t) (int_shr (cast_signed (width_of t) (bits_of t z)) k))
+shifted_by shifts.RightArithmetic t z k =
+    from_bits t (cast_unsigned (width_of t) (int_shr (cast_signed (width_of t) (bits_of t z)) k))
 
 abbrev pub count_of : IntType → ℤ → ℕ
 count_of t z = unsigned_abs (int_rem_euclid z (pos (bit_count_of t)))

@@ -134,7 +134,8 @@ fn int_remainder(left: i32, right: i32) -> Result<i32, DivisionFault>
 }
 
 fn calculate_uint(operator: Arithmetic, left: u32, right: u32) -> Result<Word, DivisionFault>
-    ensures { result ≡ in_word IntType.Uint (result_of operator IntType.Uint (pos left) (pos right)) }
+    ensures { result ≡ in_word IntType.Uint
+        (result_of operator IntType.Uint (pos left) (pos right)) }
 {
     match operator {
         Arithmetic::Add => Ok(Word::Uint(left.wrapping_add(right))),
@@ -190,7 +191,8 @@ fn int64_remainder(left: i64, right: i64) -> Result<i64, DivisionFault>
 }
 
 fn calculate_uint64(operator: Arithmetic, left: u64, right: u64) -> Result<Word, DivisionFault>
-    ensures { result ≡ in_word IntType.Uint64 (result_of operator IntType.Uint64 (pos left) (pos right)) }
+    ensures { result ≡ in_word IntType.Uint64
+        (result_of operator IntType.Uint64 (pos left) (pos right)) }
 {
     match operator {
         Arithmetic::Add => Ok(Word::Uint64(left.wrapping_add(right))),

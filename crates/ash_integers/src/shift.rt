@@ -55,7 +55,8 @@ fn shift_int(operator: Shift, left: i32, count: u32) -> Word
 }
 
 fn shift_uint(operator: Shift, left: u32, count: u32) -> Word
-    ensures { result ≡ word_at IntType.Uint (shifted_by operator IntType.Uint (pos left) (count % 32)) }
+    ensures { result ≡ word_at IntType.Uint
+        (shifted_by operator IntType.Uint (pos left) (count % 32)) }
 {
     Word::Uint(match operator {
         Shift::Left => left.wrapping_shl(count),
@@ -76,7 +77,8 @@ fn shift_int64(operator: Shift, left: i64, count: u32) -> Word
 }
 
 fn shift_uint64(operator: Shift, left: u64, count: u32) -> Word
-    ensures { result ≡ word_at IntType.Uint64 (shifted_by operator IntType.Uint64 (pos left) (count % 64)) }
+    ensures { result ≡ word_at IntType.Uint64
+        (shifted_by operator IntType.Uint64 (pos left) (count % 64)) }
 {
     Word::Uint64(match operator {
         Shift::Left => left.wrapping_shl(count),

@@ -1,13 +1,13 @@
 pub mod WordTables
 pub mod WordLookups
 pub mod SignTable
-pub mod Fronts
+pub mod Prefixes
 pub mod Bounds
-pub mod Found
+pub mod LongestPiece
 pub mod Values
 pub mod NameText
 pub mod Reading
-pub mod Sorts
+pub mod PieceClasses
 pub mod OneReading
 pub mod Verdict
 pub mod EveryText

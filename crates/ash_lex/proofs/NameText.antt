@@ -1,5 +1,6 @@
 -- The bytes of a name are ASCII, and so they are text; and none of them is a line feed.
-use Rattle.std.proofs.Common.{◌≡◌, ℕ, ◌<◌, true, List, [], ◌∷◌, Result, Ok, Err, MatchResult, IsOk, IsAscii, IsUtf8, refl, arith}
+use Rattle.std.proofs.Common.{◌≡◌, ℕ, ◌<◌, true, List, [], ◌∷◌, Result, Ok, Err, MatchResult, IsOk, IsAscii, IsUtf8}
+use Rattle.std.proofs.Common.{refl, arith}
 use Rattle.std.proofs.lemmas.Bool.Decides.{nat_tests}
 use Rattle.std.proofs.lemmas.Str.{IsUtf8-from_ascii}
 use Rattle.std.proofs.lemmas.Str.Ascii.{IsAscii-nil, IsAscii-cons}
@@ -19,6 +20,7 @@ name_is_text [] h = absurd h
 name_is_text (b ∷ bs) h = IsUtf8-from_ascii (b ∷ bs) (words_are_ascii (b ∷ bs) (letter_is_word b h.0, h.1))
 
 -- what can't fail is `Ok`
-pub ok_unless : {T E : Type 0} (r : Result T E) (P : T → Type 0) (Q : E → Type 0) → MatchResult r P Q → ((e : E) → Q e → ⊥) → IsOk r
+pub ok_unless : {T E : Type 0} (r : Result T E) (P : T → Type 0) (Q : E → Type 0) → MatchResult r P Q
+    → ((e : E) → Q e → ⊥) → IsOk r
 ok_unless (Ok x) P Q h never = refl
 ok_unless (Err e) P Q h never = absurd (never e h)

@@ -1,5 +1,7 @@
--- Fronts of a text: those that pass a test, those that a text begins with, and comments up to their end.
-use Rattle.std.proofs.Common.{◌≡◌, ℕ, ◌+◌, ◌≤◌, Bool, true, false, not, cond, ◌&&◌, nat_eq, List, [], ◌∷◌, ◌++◌, length, drop, Option, Some, None, option_map, codes, sym, refl, ap, ◌∙◌, subst, inl, inr, ◌⊎◌, arith}
+-- Prefixes of a text: those that pass a test, those that a text begins with, and comments up to their end.
+use Rattle.std.proofs.Common.{◌≡◌, ℕ, ◌+◌, ◌≤◌, Bool, true, false, not, cond, ◌&&◌, nat_eq, List, [], ◌∷◌, ◌++◌, length}
+use Rattle.std.proofs.Common.{drop, Option, Some, None, option_map, codes, sym, refl, ap, ◌∙◌, subst, inl, inr, ◌⊎◌}
+use Rattle.std.proofs.Common.{arith}
 use Rattle.std.specs.List.{starts_with, prefix_len, take_while}
 use Rattle.std.proofs.lemmas.Bool.Decides.{Decides-eqb}
 use Rattle.std.proofs.lemmas.List.Sums.{take_while-cons}
@@ -32,12 +34,12 @@ starts-true text p h = (starts_is Decides-eqb text p (starts_with nat_eq text p)
 pub starts-append : (p rest : List ℕ) → starts_with nat_eq (p ++ rest) p ≡ true
 starts-append p rest = (starts_is Decides-eqb (p ++ rest) p (starts_with nat_eq (p ++ rest) p) refl).1 rest refl
 
--- bytes that all pass are no more than those that pass from the prefix on, whatever follows
+-- bytes that all pass are no more than those that pass from the first on, whatever follows
 pub length-le-prefix_len : (test : ℕ → Bool) (xs ys : List ℕ) → Each test xs → length xs ≤ prefix_len test (xs ++ ys)
 length-le-prefix_len test [] ys h = omega arith
 length-le-prefix_len test (x ∷ xs) ys h = rw h.0 (omega (arith, length-le-prefix_len test xs ys h.1))
 
--- the bytes that pass from the prefix on pass
+-- the bytes that pass from the first on pass
 pub Each-take_while : (test : ℕ → Bool) (xs : List ℕ) → Each test (take_while test xs)
 Each-take_while test [] = tt
 Each-take_while test (x ∷ xs) =
@@ -47,8 +49,9 @@ Each-take_while test (x ∷ xs) =
       | false ↦ λ e. tt
     ]) refl)
 
--- whether `*/` begins at the byte before a `*/` or at it is reported by the `*` alone
-same_start : (x : ℕ) (t r : List ℕ) → starts_with nat_eq (x ∷ (t ++ 42 ∷ 47 ∷ r)) (codes "*/") ≡ starts_with nat_eq (x ∷ (t ++ 42 ∷ [])) (codes "*/")
+-- whether `*/` begins at the byte before a `*/` or at it is decided by the `*` alone
+same_start : (x : ℕ) (t r : List ℕ) → starts_with nat_eq (x ∷ (t ++ 42 ∷ 47 ∷ r)) (codes "*/")
+    ≡ starts_with nat_eq (x ∷ (t ++ 42 ∷ [])) (codes "*/")
 same_start x [] r = refl
 same_start x (y ∷ t) r = refl
 
@@ -72,10 +75,12 @@ map_none None h = refl
 map_none (Some m) h = cc
 
 -- the end that is found is the first `*/`
-pub comment_end-some : (xs : List ℕ) (n : ℕ) → comment_end xs ≡ Some n → (t r : List ℕ) × (xs ≡ t ++ 42 ∷ 47 ∷ r) × (n ≡ length t + 2) × HasNoEnd (t ++ 42 ∷ [])
+pub comment_end-some : (xs : List ℕ) (n : ℕ) → comment_end xs ≡ Some n
+    → (t r : List ℕ) × (xs ≡ t ++ 42 ∷ 47 ∷ r) × (n ≡ length t + 2) × HasNoEnd (t ++ 42 ∷ [])
 comment_end-some [] n h = cc
 comment_end-some (x ∷ xs) n h =
-    elim (cond_cases (starts_with nat_eq (x ∷ xs) (codes "*/")) (Some 2) (option_map (λ k. k + 1) (comment_end xs)) (Some n) h) [
+    elim (cond_cases (starts_with nat_eq (x ∷ xs) (codes "*/")) (Some 2) (option_map (λ k. k + 1) (comment_end xs))
+    (Some n) h) [
       | inl w ↦ ([], drop 2 (x ∷ xs), starts-true (x ∷ xs) (codes "*/") w.0, let e : 2 ≡ n = cc in sym e, (refl, tt))
       | inr w ↦
           let later = map_some (comment_end xs) n w.1 in
@@ -84,14 +89,19 @@ comment_end-some (x ∷ xs) n h =
             found.1,
             ap (λ l. x ∷ l) found.2,
             omega (arith, later.2, found.3),
-            (not_false _ (sym (same_start x found.0 found.1) ∙ ap (λ l. starts_with nat_eq (x ∷ l) (codes "*/")) (sym found.2) ∙ w.0), found.4),
+            (
+              not_false _ (sym (same_start x found.0 found.1)
+                  ∙ ap (λ l. starts_with nat_eq (x ∷ l) (codes "*/")) (sym found.2) ∙ w.0),
+              found.4,
+            ),
           )
     ]
 
 pub comment_end-none_found : (xs : List ℕ) → comment_end xs ≡ None → HasNoEnd xs
 comment_end-none_found [] h = tt
 comment_end-none_found (x ∷ xs) h =
-    elim (cond_cases (starts_with nat_eq (x ∷ xs) (codes "*/")) (Some 2) (option_map (λ k. k + 1) (comment_end xs)) None h) [
+    elim (cond_cases (starts_with nat_eq (x ∷ xs) (codes "*/")) (Some 2)
+    (option_map (λ k. k + 1) (comment_end xs)) None h) [
       | inl w ↦ cc
       | inr w ↦ (not_false _ w.0, comment_end-none_found xs (map_none (comment_end xs) w.1))
     ]

@@ -1,13 +1,24 @@
 -- Every sign is in the table, which goes from the longest to the shortest: so the first that a text
 -- begins with is the longest.
-use Rattle.std.proofs.Common.{◌≡◌, ℕ, ◌<◌, ◌≤◌, Bool, true, false, cond, leb, List, [], ◌∷◌, length, Option, Some, get_or, sym, refl, ap, ◌∙◌, subst, arith, lit<, ◌&&◌}
+use Rattle.std.proofs.Common.{◌≡◌, ℕ, ◌<◌, ◌≤◌, Bool, true, false, cond, leb, List, [], ◌∷◌, length, Option, Some}
+use Rattle.std.proofs.Common.{get_or, sym, refl, ap, ◌∙◌, subst, arith, lit<, ◌&&◌}
 use Rattle.std.specs.Prelude.{find, Contains, zero, suc}
 use Rattle.std.specs.Str.{bytes_eq}
 use Rattle.std.proofs.lemmas.Bool.Decides.{nat_tests}
 use Rattle.ash_lex.specs.Signs.{sign_text}
 use Rattle.ash_lex.specs.Scan.{signs, begins, first_sign}
 use Rattle.ash_lex.specs.declared.signs.Sign.{Sign}
-use Rattle.ash_lex.specs.declared.signs.Sign.TheVariants.{OpenParenthesis, CloseParenthesis, OpenBrace, CloseBrace, OpenBracket, CloseBracket, Semicolon, Comma, Colon, Question, Dot, Handle, BitNot, LogicalNot, NotIs, Assign, Equal, NotEqual, Less, LessOrEqual, Greater, GreaterOrEqual, Plus, Increment, PlusAssign, Minus, Decrement, MinusAssign, Star, StarAssign, Slash, SlashAssign, Percent, PercentAssign, BitAnd, LogicalAnd, BitAndAssign, BitOr, LogicalOr, BitOrAssign, BitXor, LogicalXor, BitXorAssign, ShiftLeft, ShiftLeftAssign, ShiftRight, ShiftRightAssign, ShiftRightArithmetic, ShiftRightArithmeticAssign, Power, Scope}
+use Rattle.ash_lex.specs.declared.signs.Sign.TheVariants.{OpenParenthesis, CloseParenthesis, OpenBrace, CloseBrace}
+use Rattle.ash_lex.specs.declared.signs.Sign.TheVariants.{OpenBracket, CloseBracket, Semicolon, Comma, Colon, Question}
+use Rattle.ash_lex.specs.declared.signs.Sign.TheVariants.{Dot, Handle, BitNot, LogicalNot, NotIs, Assign, Equal}
+use Rattle.ash_lex.specs.declared.signs.Sign.TheVariants.{NotEqual, Less, LessOrEqual, Greater, GreaterOrEqual, Plus}
+use Rattle.ash_lex.specs.declared.signs.Sign.TheVariants.{Increment, PlusAssign, Minus, Decrement, MinusAssign, Star}
+use Rattle.ash_lex.specs.declared.signs.Sign.TheVariants.{StarAssign, Slash, SlashAssign, Percent, PercentAssign}
+use Rattle.ash_lex.specs.declared.signs.Sign.TheVariants.{BitAnd, LogicalAnd, BitAndAssign, BitOr, LogicalOr}
+use Rattle.ash_lex.specs.declared.signs.Sign.TheVariants.{BitOrAssign, BitXor, LogicalXor, BitXorAssign, ShiftLeft}
+use Rattle.ash_lex.specs.declared.signs.Sign.TheVariants.{ShiftLeftAssign, ShiftRight, ShiftRightAssign}
+use Rattle.ash_lex.specs.declared.signs.Sign.TheVariants.{ShiftRightArithmetic, ShiftRightArithmeticAssign, Power}
+use Rattle.ash_lex.specs.declared.signs.Sign.TheVariants.{Scope}
 
 pub in_table : (s : Sign) → Contains signs s
 in_table OpenParenthesis = (26, lit< tt, refl)
@@ -77,21 +88,29 @@ both true b h = (refl, h)
 both false b h = cc
 
 -- the sign at a place of a list in which none is longer is not longer
-at_none_longer : (s : Sign) (ts : List Sign) → none_longer s ts ≡ true → (k : ℕ) (d : Sign) → k < length ts → length (sign_text (get_or ts k d)) ≤ length (sign_text s)
+at_none_longer : (s : Sign) (ts : List Sign) → none_longer s ts ≡ true → (k : ℕ) (d : Sign) → k < length ts
+    → length (sign_text (get_or ts k d)) ≤ length (sign_text s)
 unfolding none_longer
 at_none_longer s [] h k d within = absurd (omega arith)
-at_none_longer s (t ∷ ts) h zero d within = grind (arith, nat_tests, both (leb (length (sign_text t)) (length (sign_text s))) (none_longer s ts) h)
-at_none_longer s (t ∷ ts) h (suc k) d within = at_none_longer s ts (both (leb (length (sign_text t)) (length (sign_text s))) (none_longer s ts) h).1 k d (omega arith)
+at_none_longer s (t ∷ ts) h zero d within =
+    grind (arith, nat_tests, both (leb (length (sign_text t)) (length (sign_text s))) (none_longer s ts) h)
+at_none_longer s (t ∷ ts) h (suc k) d within =
+    at_none_longer s ts (both (leb (length (sign_text t)) (length (sign_text s))) (none_longer s ts) h).1 k d
+    (omega arith)
 
 -- in a list that goes down, the first that passes a test is as long as each that does
-first_is_longest : (test : Sign → Bool) (ss : List Sign) → descends ss ≡ true → (k : ℕ) (d : Sign) → k < length ss → test (get_or ss k d) ≡ true → (r : Sign) × (find test ss ≡ Some r) × (length (sign_text (get_or ss k d)) ≤ length (sign_text r))
+first_is_longest : (test : Sign → Bool) (ss : List Sign) → descends ss ≡ true → (k : ℕ) (d : Sign) → k < length ss
+    → test (get_or ss k d) ≡ true → (r : Sign) × (find test ss ≡ Some r)
+    × (length (sign_text (get_or ss k d)) ≤ length (sign_text r))
 unfolding descends
 first_is_longest test [] h k d within passes = absurd (omega arith)
-first_is_longest test (s ∷ ss) h zero d within passes = (s, ap (λ b. cond b (Some s) (find test ss)) passes, omega arith)
+first_is_longest test (s ∷ ss) h zero d within passes =
+    (s, ap (λ b. cond b (Some s) (find test ss)) passes, omega arith)
 first_is_longest test (s ∷ ss) h (suc k) d within passes =
     let parts = both (none_longer s ss) (descends ss) h in
     let later = first_is_longest test ss parts.1 k d (omega arith) passes in
-    elim (test s) as (λ b. (r : Sign) × (cond b (Some s) (find test ss) ≡ Some r) × (length (sign_text (get_or ss k d)) ≤ length (sign_text r))) [
+    elim (test s) as (λ b. (r : Sign) × (cond b (Some s) (find test ss) ≡ Some r)
+    × (length (sign_text (get_or ss k d)) ≤ length (sign_text r))) [
       | true ↦ (s, refl, at_none_longer s ss parts.0 k d (omega arith))
       | false ↦ later
     ]
@@ -107,7 +126,8 @@ find_passes test (s ∷ ss) r h =
     ]) refl h
 
 -- a sign that the text begins with is no longer than the one that is found
-pub first_sign-longest : (text : List ℕ) (s : Sign) → begins text s ≡ true → (r : Sign) × (first_sign text ≡ Some r) × (length (sign_text s) ≤ length (sign_text r))
+pub first_sign-longest : (text : List ℕ) (s : Sign) → begins text s ≡ true
+    → (r : Sign) × (first_sign text ≡ Some r) × (length (sign_text s) ≤ length (sign_text r))
 unfolding descends none_longer
 first_sign-longest text s h =
     let place = in_table s in

@@ -1,5 +1,6 @@
 -- What the look-ups of words say.
-use Rattle.std.proofs.Common.{◌≡◌, ◌≢◌, ℕ, Bool, true, false, cond, List, [], ◌∷◌, Some, None, sym, refl, ap, ◌∙◌, subst}
+use Rattle.std.proofs.Common.{◌≡◌, ◌≢◌, ℕ, Bool, true, false, cond, List, [], ◌∷◌, Some, None, sym, refl, ap, ◌∙◌}
+use Rattle.std.proofs.Common.{subst}
 use Rattle.std.specs.Prelude.{find}
 use Rattle.std.specs.Str.{bytes_eq}
 use Rattle.std.proofs.lemmas.Slice.Eq.{bytes_eq-Decides}
@@ -20,17 +21,22 @@ find_passes {W} test (w ∷ ws) r h =
     ]) refl h
 
 pub reserved_word-is : (text : List ℕ) (w : ReservedWord) → reserved_word text ≡ Some w → text ≡ reserved_text w
-reserved_word-is text w h = (bytes_eq-Decides text (reserved_text w)).0 (find_passes (λ v. bytes_eq text (reserved_text v)) reserved_words w h)
+reserved_word-is text w h =
+    (bytes_eq-Decides text (reserved_text w)).0 (find_passes (λ v. bytes_eq text (reserved_text v)) reserved_words w h)
 
-pub unsupported_word-is : (text : List ℕ) (w : UnsupportedWord) → unsupported_word text ≡ Some w → text ≡ unsupported_text w
-unsupported_word-is text w h = (bytes_eq-Decides text (unsupported_text w)).0 (find_passes (λ v. bytes_eq text (unsupported_text v)) unsupported_words w h)
+pub unsupported_word-is : (text : List ℕ) (w : UnsupportedWord) → unsupported_word text ≡ Some w
+    → text ≡ unsupported_text w
+unsupported_word-is text w h =
+    (bytes_eq-Decides text (unsupported_text w)).0
+    (find_passes (λ v. bytes_eq text (unsupported_text v)) unsupported_words w h)
 
 pub reserved_word-none : (text : List ℕ) → reserved_word text ≡ None → (w : ReservedWord) → text ≢ reserved_text w
 reserved_word-none text h w same =
     let found : reserved_word text ≡ Some w = ap reserved_word same ∙ reserved_word-of_text w in
     let apart : None ≡ Some w = sym h ∙ found in cc
 
-pub unsupported_word-none : (text : List ℕ) → unsupported_word text ≡ None → (w : UnsupportedWord) → text ≢ unsupported_text w
+pub unsupported_word-none : (text : List ℕ) → unsupported_word text ≡ None → (w : UnsupportedWord)
+    → text ≢ unsupported_text w
 unsupported_word-none text h w same =
     let found : unsupported_word text ≡ Some w = ap unsupported_word same ∙ unsupported_word-of_text w in
     let apart : None ≡ Some w = sym h ∙ found in cc
@@ -42,4 +48,5 @@ reserved_text-injective v w h =
 
 pub unsupported_text-injective : (v w : UnsupportedWord) → unsupported_text v ≡ unsupported_text w → v ≡ w
 unsupported_text-injective v w h =
-    let both : Some v ≡ Some w = sym (unsupported_word-of_text v) ∙ ap unsupported_word h ∙ unsupported_word-of_text w in cc
+    let both : Some v ≡ Some w =
+    sym (unsupported_word-of_text v) ∙ ap unsupported_word h ∙ unsupported_word-of_text w in cc

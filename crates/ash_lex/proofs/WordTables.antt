@@ -4,9 +4,16 @@ use Rattle.std.specs.Str.{bytes_eq}
 use Rattle.ash_lex.specs.Words.{reserved_text, unsupported_text}
 use Rattle.ash_lex.specs.Scan.{reserved_word, unsupported_word}
 use Rattle.ash_lex.specs.declared.words.ReservedWord.{ReservedWord}
-use Rattle.ash_lex.specs.declared.words.ReservedWord.TheVariants.{And, Or, Xor, Not, Is, Null, True, False, Void, Bool as BoolWord, Int, Int32, Int64, Uint, Uint32, Uint64, Class, Interface, Cast, Array, This, If, Else, While, Do, For, Switch, Case, Default, Break, Continue, Return}
+use Rattle.ash_lex.specs.declared.words.ReservedWord.TheVariants.{And, Or, Xor, Not, Is, Null, True, False, Void}
+use Rattle.ash_lex.specs.declared.words.ReservedWord.TheVariants.{Bool as BoolWord, Int, Int32, Int64, Uint, Uint32}
+use Rattle.ash_lex.specs.declared.words.ReservedWord.TheVariants.{Uint64, Class, Interface, Cast, Array, This, If, Else}
+use Rattle.ash_lex.specs.declared.words.ReservedWord.TheVariants.{While, Do, For, Switch, Case, Default, Break}
+use Rattle.ash_lex.specs.declared.words.ReservedWord.TheVariants.{Continue, Return}
 use Rattle.ash_lex.specs.declared.words.UnsupportedWord.{UnsupportedWord}
-use Rattle.ash_lex.specs.declared.words.UnsupportedWord.TheVariants.{Auto, Catch, Const, Double, Enum, Float, Funcdef, Import, In, Inout, Int8, Int16, Mixin, Namespace, Out, Private, Protected, Try, Typedef, Uint8, Uint16}
+use Rattle.ash_lex.specs.declared.words.UnsupportedWord.TheVariants.{Auto, Catch, Const, Double, Enum, Float, Funcdef}
+use Rattle.ash_lex.specs.declared.words.UnsupportedWord.TheVariants.{Import, In, Inout, Int8, Int16, Mixin, Namespace}
+use Rattle.ash_lex.specs.declared.words.UnsupportedWord.TheVariants.{Out, Private, Protected, Try, Typedef, Uint8}
+use Rattle.ash_lex.specs.declared.words.UnsupportedWord.TheVariants.{Uint16}
 
 -- the look-up of a word's own characters gives the word
 pub reserved_word-of_text : (w : ReservedWord) → reserved_word (reserved_text w) ≡ Some w
@@ -44,7 +51,9 @@ reserved_word-of_text Continue = refl
 reserved_word-of_text Return = refl
 
 -- words that give each text with this first byte its word give this text its word
-pub reserved_word-from : (text : List ℕ) (words : List ReservedWord) → 0 < length text → ((after : List ℕ) → find (λ w. bytes_eq (get_or text 0 0 ∷ after) (reserved_text w)) words ≡ reserved_word (get_or text 0 0 ∷ after)) → find (λ w. bytes_eq text (reserved_text w)) words ≡ reserved_word text
+pub reserved_word-from : (text : List ℕ) (words : List ReservedWord) → 0 < length text
+    → ((after : List ℕ) → find (λ w. bytes_eq (get_or text 0 0 ∷ after) (reserved_text w)) words
+    ≡ reserved_word (get_or text 0 0 ∷ after)) → find (λ w. bytes_eq text (reserved_text w)) words ≡ reserved_word text
 reserved_word-from [] words some each = absurd (omega arith)
 reserved_word-from (b ∷ after) words some each = each after
 
@@ -73,6 +82,9 @@ unsupported_word-of_text Uint8 = refl
 unsupported_word-of_text Uint16 = refl
 
 -- words that give each text with this first byte its word give this text its word
-pub unsupported_word-from : (text : List ℕ) (words : List UnsupportedWord) → 0 < length text → ((after : List ℕ) → find (λ w. bytes_eq (get_or text 0 0 ∷ after) (unsupported_text w)) words ≡ unsupported_word (get_or text 0 0 ∷ after)) → find (λ w. bytes_eq text (unsupported_text w)) words ≡ unsupported_word text
+pub unsupported_word-from : (text : List ℕ) (words : List UnsupportedWord) → 0 < length text
+    → ((after : List ℕ) → find (λ w. bytes_eq (get_or text 0 0 ∷ after) (unsupported_text w)) words
+    ≡ unsupported_word (get_or text 0 0 ∷ after))
+    → find (λ w. bytes_eq text (unsupported_text w)) words ≡ unsupported_word text
 unsupported_word-from [] words some each = absurd (omega arith)
 unsupported_word-from (b ∷ after) words some each = each after

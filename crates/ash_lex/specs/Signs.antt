@@ -1,10 +1,20 @@
--- How the signs are written.
+-- These definitions say how the signs are written.
 use Rattle.std.specs.Prelude.{ℕ, Bool, true, not, List, codes}
 use Rattle.ash_lex.specs.Bytes.{begins_with_word}
 use Rattle.ash_lex.specs.declared.signs.Sign.{Sign}
-use Rattle.ash_lex.specs.declared.signs.Sign.TheVariants.{OpenParenthesis, CloseParenthesis, OpenBrace, CloseBrace, OpenBracket, CloseBracket, Semicolon, Comma, Colon, Question, Dot, Handle, BitNot, LogicalNot, NotIs, Assign, Equal, NotEqual, Less, LessOrEqual, Greater, GreaterOrEqual, Plus, Increment, PlusAssign, Minus, Decrement, MinusAssign, Star, StarAssign, Slash, SlashAssign, Percent, PercentAssign, BitAnd, LogicalAnd, BitAndAssign, BitOr, LogicalOr, BitOrAssign, BitXor, LogicalXor, BitXorAssign, ShiftLeft, ShiftLeftAssign, ShiftRight, ShiftRightAssign, ShiftRightArithmetic, ShiftRightArithmeticAssign, Power, Scope}
+use Rattle.ash_lex.specs.declared.signs.Sign.TheVariants.{OpenParenthesis, CloseParenthesis, OpenBrace, CloseBrace}
+use Rattle.ash_lex.specs.declared.signs.Sign.TheVariants.{OpenBracket, CloseBracket, Semicolon, Comma, Colon, Question}
+use Rattle.ash_lex.specs.declared.signs.Sign.TheVariants.{Dot, Handle, BitNot, LogicalNot, NotIs, Assign, Equal}
+use Rattle.ash_lex.specs.declared.signs.Sign.TheVariants.{NotEqual, Less, LessOrEqual, Greater, GreaterOrEqual, Plus}
+use Rattle.ash_lex.specs.declared.signs.Sign.TheVariants.{Increment, PlusAssign, Minus, Decrement, MinusAssign, Star}
+use Rattle.ash_lex.specs.declared.signs.Sign.TheVariants.{StarAssign, Slash, SlashAssign, Percent, PercentAssign}
+use Rattle.ash_lex.specs.declared.signs.Sign.TheVariants.{BitAnd, LogicalAnd, BitAndAssign, BitOr, LogicalOr}
+use Rattle.ash_lex.specs.declared.signs.Sign.TheVariants.{BitOrAssign, BitXor, LogicalXor, BitXorAssign, ShiftLeft}
+use Rattle.ash_lex.specs.declared.signs.Sign.TheVariants.{ShiftLeftAssign, ShiftRight, ShiftRightAssign}
+use Rattle.ash_lex.specs.declared.signs.Sign.TheVariants.{ShiftRightArithmetic, ShiftRightArithmeticAssign, Power}
+use Rattle.ash_lex.specs.declared.signs.Sign.TheVariants.{Scope}
 
--- the characters of a sign
+-- `sign_text s` are the characters of a sign.
 abbrev pub sign_text : Sign → List ℕ
 sign_text OpenParenthesis = codes "("
 sign_text CloseParenthesis = codes ")"
@@ -58,7 +68,7 @@ sign_text ShiftRightArithmeticAssign = codes ">>>="
 sign_text Power = codes "**"
 sign_text Scope = codes "::"
 
--- what may follow a sign: no letter, digit or `_` after `!is`, and anything after another
+-- No letter, digit or `_` may follow `!is`, and anything may follow another sign.
 abbrev pub may_follow : Sign → List ℕ → Bool
 may_follow NotIs after = not (begins_with_word after)
 may_follow _ after = true

@@ -1,43 +1,44 @@
--- One step of the lexer, at the prefix of what is left of a text.
+-- These definitions say what one step of the lexer does, over the longest piece that begins what is left of a text.
 use Rattle.std.specs.Prelude.{◌≡◌, ℕ, ◌<◌, ◌≤◌, List, length, take, drop}
 use Rattle.ash_lex.specs.Bytes.{value_in}
 use Rattle.ash_lex.specs.Signs.{sign_text}
 use Rattle.ash_lex.specs.Pieces.{IsGap, IsName, IsNumeral, IsOpenComment, IsLongest}
 use Rattle.ash_lex.specs.Tokens.{Means, meaning_of, FaultAt, FirstFault}
 use Rattle.ash_lex.specs.declared.pieces.Piece.{Piece}
-use Rattle.ash_lex.specs.declared.pieces.Piece.TheVariants.{Gap as GapPiece, Open, Name as NamePiece, Decimal, Hexadecimal, Sign as SignPiece}
+use Rattle.ash_lex.specs.declared.pieces.Piece.TheVariants.{Gap as GapPiece, Open, Name as NamePiece, Decimal}
+use Rattle.ash_lex.specs.declared.pieces.Piece.TheVariants.{Hexadecimal, Sign as SignPiece}
 use Rattle.ash_lex.specs.declared.lexer.Step.{Step}
 use Rattle.ash_lex.specs.declared.lexer.Step.TheVariants.{Gap, Token}
 use Rattle.ash_lex.specs.declared.faults.LexFault.{LexFault}
 use Rattle.ash_lex.specs.declared.faults.LexFault.TheVariants.{NoMemory}
 
--- the first n bytes are the longest piece that begins the text
+-- The first n bytes are the longest piece that begins the text.
 pub record IsCut (text : List ℕ) (n : ℕ) : Type 0 where
   pub some : 0 < n
   pub within : n ≤ length text
   pub longest : IsLongest (take n text) (drop n text)
 
--- what the longest piece at the prefix of a text is
-abbrev pub IsFront : List ℕ → Piece → Type 0
-IsFront text (GapPiece n) = IsCut text n × IsGap (take n text)
-IsFront text Open = IsOpenComment text
-IsFront text (NamePiece n) = IsCut text n × IsName (take n text)
-IsFront text (Decimal n) = IsCut text n × IsNumeral (take n text) (value_in 10 (take n text))
-IsFront text (Hexadecimal n) = IsCut text n × IsNumeral (take n text) (value_in 16 (drop 2 (take n text))) × (2 ≤ n)
-IsFront text (SignPiece s) =
+-- The text begins with this piece, and with no longer one.
+abbrev pub BeginsWith : List ℕ → Piece → Type 0
+BeginsWith text (GapPiece n) = IsCut text n × IsGap (take n text)
+BeginsWith text Open = IsOpenComment text
+BeginsWith text (NamePiece n) = IsCut text n × IsName (take n text)
+BeginsWith text (Decimal n) = IsCut text n × IsNumeral (take n text) (value_in 10 (take n text))
+BeginsWith text (Hexadecimal n) = IsCut text n × IsNumeral (take n text) (value_in 16 (drop 2 (take n text))) × (2 ≤ n)
+BeginsWith text (SignPiece s) =
     IsCut text (length (sign_text s)) × (take (length (sign_text s)) text ≡ sign_text s)
 
--- past a gap, or past a token
+-- The step passes a gap or a token that begins the text.
 abbrev pub IsStep : List ℕ → Step → Type 0
 IsStep text (Gap n) = IsCut text n × IsGap (take n text)
 IsStep text (Token kind n) = IsCut text n × Means (take n text) (meaning_of kind)
 
--- the fault stands at the prefix of what is left, or memory ran out
+-- The fault is at the beginning of what is left, or memory ran out.
 abbrev pub StopsStep : ℕ → List ℕ → LexFault → Type 0
 StopsStep place left NoMemory = Unit {0}
 StopsStep place left fault = FaultAt place left fault
 
--- the text's first lexical fault, or memory ran out
+-- The fault is the text's first lexical fault, or memory ran out.
 abbrev pub StopsText : List ℕ → LexFault → Type 0
 StopsText text NoMemory = Unit {0}
 StopsText text fault = FirstFault text fault

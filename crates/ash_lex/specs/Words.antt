@@ -1,11 +1,17 @@
--- How the words that are no names are written.
+-- These definitions say how the words that are no names are written.
 use Rattle.std.specs.Prelude.{ℕ, List, codes}
 use Rattle.ash_lex.specs.declared.words.ReservedWord.{ReservedWord}
-use Rattle.ash_lex.specs.declared.words.ReservedWord.TheVariants.{And, Or, Xor, Not, Is, Null, True, False, Void, Bool, Int, Int32, Int64, Uint, Uint32, Uint64, Class, Interface, Cast, Array, This, If, Else, While, Do, For, Switch, Case, Default, Break, Continue, Return}
+use Rattle.ash_lex.specs.declared.words.ReservedWord.TheVariants.{And, Or, Xor, Not, Is, Null, True, False, Void, Bool}
+use Rattle.ash_lex.specs.declared.words.ReservedWord.TheVariants.{Int, Int32, Int64, Uint, Uint32, Uint64, Class}
+use Rattle.ash_lex.specs.declared.words.ReservedWord.TheVariants.{Interface, Cast, Array, This, If, Else, While, Do}
+use Rattle.ash_lex.specs.declared.words.ReservedWord.TheVariants.{For, Switch, Case, Default, Break, Continue, Return}
 use Rattle.ash_lex.specs.declared.words.UnsupportedWord.{UnsupportedWord}
-use Rattle.ash_lex.specs.declared.words.UnsupportedWord.TheVariants.{Auto, Catch, Const, Double, Enum, Float, Funcdef, Import, In, Inout, Int8, Int16, Mixin, Namespace, Out, Private, Protected, Try, Typedef, Uint8, Uint16}
+use Rattle.ash_lex.specs.declared.words.UnsupportedWord.TheVariants.{Auto, Catch, Const, Double, Enum, Float, Funcdef}
+use Rattle.ash_lex.specs.declared.words.UnsupportedWord.TheVariants.{Import, In, Inout, Int8, Int16, Mixin, Namespace}
+use Rattle.ash_lex.specs.declared.words.UnsupportedWord.TheVariants.{Out, Private, Protected, Try, Typedef, Uint8}
+use Rattle.ash_lex.specs.declared.words.UnsupportedWord.TheVariants.{Uint16}
 
--- the characters of a reserved word
+-- `reserved_text w` are the characters of a reserved word.
 abbrev pub reserved_text : ReservedWord → List ℕ
 reserved_text And = codes "and"
 reserved_text Or = codes "or"
@@ -40,7 +46,7 @@ reserved_text Break = codes "break"
 reserved_text Continue = codes "continue"
 reserved_text Return = codes "return"
 
--- the characters of an unsupported word
+-- `unsupported_text w` are the characters of an unsupported word.
 abbrev pub unsupported_text : UnsupportedWord → List ℕ
 unsupported_text Auto = codes "auto"
 unsupported_text Catch = codes "catch"

@@ -81,7 +81,7 @@ pub fn hex_digits_len(bytes: &[u8]) -> usize
     bytes.iter().take_while(|byte| is_hex_digit(**byte)).count()
 }
 
-/// How many bytes stand before the first line feed.
+/// How many bytes there are before the first line feed.
 pub fn line_len(bytes: &[u8]) -> usize
     ensures value { result ≡ prefix_len (λ b. not (spec.is_line_feed b)) bytes.now }
     ensures within { result ≤ length bytes.now }

@@ -1,17 +1,19 @@
 //! The lexer: one pass over the text, a piece at a time.
 
-ghost use Rattle.std.specs.Prelude.{◌≡◌, ℕ, ◌<◌, ◌≤◌, ◌^◌, ◌↔◌, ◌⊎◌, List, [], length, take, drop, count_by, IfOk, IfErr, MatchResult, IsErrAnd};
+ghost use Rattle.std.specs.Prelude.{◌≡◌, ℕ, ◌<◌, ◌≤◌, ◌^◌, ◌↔◌, ◌⊎◌, List, [], length, take, drop, count_by};
+ghost use Rattle.std.specs.Prelude.{IfOk, IfErr, MatchResult, IsErrAnd};
 ghost use Rattle.ash_lex.specs.declared.faults.LexFault.{LexFault};
 ghost use Rattle.ash_lex.specs.declared.faults.LexFault.TheVariants.{NoMemory, NumberTooLarge};
 ghost use Rattle.ash_lex.specs.Pieces.{IsName};
 ghost use Rattle.ash_lex.specs.Bytes as spec;
-ghost use Rattle.ash_lex.specs.Tokens.{Means, meaning_of, number, Lexeme, lexemes, Reads, Spells, Rises, FirstFault, IsRefusal};
+ghost use Rattle.ash_lex.specs.Tokens.{Means, meaning_of, number, Lexeme, lexemes, Reads, Spells, Rises};
+ghost use Rattle.ash_lex.specs.Tokens.{FirstFault, IsRefusal};
 ghost use Rattle.ash_lex.specs.Steps.{IsStep, StopsStep, StopsText};
 
 use crate::bytes::line_feeds;
 use crate::faults::LexFault;
 use crate::numbers::value_in;
-use crate::pieces::{Piece, begins_with_blank, prefix};
+use crate::pieces::{Piece, begins_with_blank, longest_piece};
 use crate::tokens::{Token, TokenKind};
 use crate::words::{reserved_word, unsupported_word};
 use std::alloc::Global;
@@ -23,8 +25,8 @@ pub const MAX_SOURCE: usize = 65_536;
 /// U+FEFF in UTF-8.
 const BYTE_ORDER_MARK: [u8; 3] = [0xef, 0xbb, 0xbf];
 
-/// How many bytes a token takes with the blanks around it, at the least in nearly all texts: with room for so many tokens
-/// the list is not moved.
+/// How many bytes a token takes with the blanks around it, at the least in nearly all texts: with room for so many
+/// tokens the list is not moved.
 const BYTES_A_TOKEN: usize = 2;
 
 /// What a step over one piece passes, with its length in bytes.
@@ -53,8 +55,11 @@ fn word_kind(alloc: Global, word: &[u8]) -> Result<TokenKind, LexFault>
 /// The number that the digits spell in a base. `at` is the offset of its token.
 fn number(base: u64, digits: &[u8], at: usize) -> Result<TokenKind, LexFault>
     requires { 0 < base }
-    ensures value { IfOk result (λ kind. (meaning_of kind ≡ number (spec.value_in base digits.now)) × (spec.value_in base digits.now < 2 ^ 64)) }
-    ensures too_large { IfErr result (λ fault. (fault ≡ NumberTooLarge at) × (2 ^ 64 ≤ spec.value_in base digits.now)) }
+    ensures value { IfOk result (λ kind.
+        (meaning_of kind ≡ number (spec.value_in base digits.now))
+        × (spec.value_in base digits.now < 2 ^ 64)) }
+    ensures too_large { IfErr result (λ fault.
+        (fault ≡ NumberTooLarge at) × (2 ^ 64 ≤ spec.value_in base digits.now)) }
 {
     match value_in(base, digits) {
         Some(value) => Ok(TokenKind::Number(value)),
@@ -62,7 +67,7 @@ fn number(base: u64, digits: &[u8], at: usize) -> Result<TokenKind, LexFault>
     }
 }
 
-/// Passes the longest piece at the prefix of what is left of the text, which begins at the offset `at`.
+/// Passes the longest piece that begins what is left of the text. `at` is the offset of what is left.
 fn next_step(alloc: Global, left: &[u8], at: usize) -> Result<Step, LexFault>
     requires { 0 < length left.now }
     ensures passes { IfOk result (λ step. IsStep left.now step) }
@@ -72,7 +77,7 @@ fn next_step(alloc: Global, left: &[u8], at: usize) -> Result<Step, LexFault>
     if begins_with_blank(left) {
         return Ok(Step::Gap(1));
     }
-    let Some(piece) = prefix(left) else {
+    let Some(piece) = longest_piece(left) else {
         return Err(LexFault::BadCharacter { at });
     };
     match piece {
@@ -144,12 +149,13 @@ pub fn lex(alloc: Global, text: &str) -> Result<Vec<Token>, LexFault>
     ensures found { IfOk result (λ tokens. Spells text.now (lexemes tokens.items)) }
     ensures rising { IfOk result (λ tokens. Rises 0 (length text.now) (lexemes tokens.items)) }
     // What the text spells is answered.
-    ensures only { (tokens : List Lexeme) → Spells text.now tokens → length text.now ≤ MAX_SOURCE →
-        MatchResult result (λ answered. lexemes answered.items ≡ tokens) (λ fault. fault ≡ NoMemory) }
+    ensures only { (tokens : List Lexeme) → Spells text.now tokens → length text.now ≤ MAX_SOURCE
+        → MatchResult result (λ answer. lexemes answer.items ≡ tokens) (λ fault. fault ≡ NoMemory) }
     // A fault that is answered is the text's first, and the first is answered.
     ensures fault { IfErr result (λ fault. IsRefusal text.now fault) }
-    ensures refused { (fault : LexFault) → FirstFault text.now fault → length text.now ≤ MAX_SOURCE →
-        IsErrAnd result (λ answered. (answered ≡ fault) ⊎ (answered ≡ NoMemory)) }
+    ensures refused { (fault : LexFault) → FirstFault text.now fault
+        → length text.now ≤ MAX_SOURCE
+        → IsErrAnd result (λ answer. (answer ≡ fault) ⊎ (answer ≡ NoMemory)) }
 {
     if text.len() > MAX_SOURCE {
         return Err(LexFault::SourceTooLong);
@@ -157,10 +163,13 @@ pub fn lex(alloc: Global, text: &str) -> Result<Vec<Token>, LexFault>
     tokens_of(alloc, text.as_bytes())
 }
 
-/// A text has one list of tokens or one first fault, and not both.
+/// That a text has one list of tokens or one first fault, and not both. It does nothing when it runs.
 pub fn one_reading()
-    ensures total { (text : List ℕ) → ((tokens : List Lexeme) × Spells text tokens) ⊎ ((fault : LexFault) × FirstFault text fault) }
+    ensures total { (text : List ℕ) → ((tokens : List Lexeme) × Spells text tokens)
+        ⊎ ((fault : LexFault) × FirstFault text fault) }
     ensures tokens { (text : List ℕ) (a b : List Lexeme) → Spells text a → Spells text b → a ≡ b }
-    ensures faults { (text : List ℕ) (f g : LexFault) → FirstFault text f → FirstFault text g → f ≡ g }
-    ensures apart { (text : List ℕ) (tokens : List Lexeme) (f : LexFault) → Spells text tokens → ¬ FirstFault text f }
+    ensures faults { (text : List ℕ) (f g : LexFault) → FirstFault text f → FirstFault text g
+        → f ≡ g }
+    ensures apart { (text : List ℕ) (tokens : List Lexeme) (f : LexFault) → Spells text tokens
+        → ¬ FirstFault text f }
 {}

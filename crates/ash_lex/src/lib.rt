@@ -1,12 +1,12 @@
 //! The tokens of a script.
 //!
 //! `lex` cuts a text into its tokens, each with its line and the bytes that it takes, or reports the
-//! text's first lexical fault. It stands on no other crate of the repository. What it answers is what
+//! text's first lexical fault. It uses no other crate of the repository. What it answers is what
 //! the text spells, by the definition in `specs/Tokens.antt`; what the text spells is answered, unless
-//! memory runs out; and each text has either tokens or a first fault, and one of them alone.
+//! memory runs out; and each text has either tokens or a first fault, and never both.
 //!
 //! In reading order: `tokens`, with the kinds in `signs` and `words`; `faults`; `bytes`, the classes of
-//! bytes; `pieces`, the longest piece at the prefix of a text; `numbers`; `lexer`, the pass over the text.
+//! bytes; `pieces`, the longest piece that begins a text; `numbers`; `lexer`, the pass over the text.
 #![tactic(auto)]
 
 mod bytes;

@@ -3,7 +3,7 @@
 ghost use Rattle.std.specs.Prelude.{◌≡◌, ◌+◌, ◌<◌, ◌≤◌, ◌^◌, length, IfSome, IsTrue, MatchOption};
 ghost use Rattle.ash_lex.specs.declared.pieces.Piece.TheVariants.{Gap as GapPiece};
 ghost use Rattle.ash_lex.specs.Scan as spec;
-ghost use Rattle.ash_lex.specs.Steps.{IsFront};
+ghost use Rattle.ash_lex.specs.Steps.{BeginsWith};
 ghost use Rattle.ash_lex.specs.Tokens.{BeginsNothing};
 
 use crate::bytes::{
@@ -12,7 +12,7 @@ use crate::bytes::{
 };
 use crate::signs::{Sign, sign_at};
 
-/// What stands at the prefix of a text, with its length in bytes.
+/// A piece that begins a text, with its length in bytes.
 #[derive(Clone, Copy, Debug)]
 pub enum Piece {
     /// A blank or a comment.
@@ -27,7 +27,7 @@ pub enum Piece {
     Sign(Sign),
 }
 
-/// How many bytes stand up to the first `*/`, and with it.
+/// How many bytes there are up to the first `*/`, and with it.
 fn comment_end(text: &[u8]) -> Option<usize>
     ensures value { result ≡ spec.comment_end text.now }
     ensures within { IfSome result (λ n. n ≤ length text.now) }
@@ -46,7 +46,7 @@ fn comment_end(text: &[u8]) -> Option<usize>
     }
 }
 
-/// The comment whose text, after its `/*`, is the prefix of this one.
+/// The comment whose text after its `/*` begins so.
 fn block_comment(text: &[u8]) -> Piece
     requires { length text.now + 2 < 2 ^ 64 }
     ensures { result ≡ spec.block_comment (spec.comment_end text.now) }
@@ -92,10 +92,10 @@ fn numeral(text: &[u8]) -> Piece
     }
 }
 
-/// What the first byte says of the longest piece.
+/// The longest piece, by its first byte.
 fn by_first_byte(text: &[u8]) -> Option<Piece>
     requires { 0 < length text.now }
-    ensures { result ≡ spec.prefix text.now }
+    ensures { result ≡ spec.longest_piece text.now }
 {
     let first = text[0];
     if is_blank(first) {
@@ -114,15 +114,15 @@ fn by_first_byte(text: &[u8]) -> Option<Piece>
 /// Whether the text begins with a blank, which is then its longest piece.
 pub fn begins_with_blank(text: &[u8]) -> bool
     requires { 0 < length text.now }
-    ensures blank { IsTrue result → IsFront text.now (GapPiece 1) }
+    ensures blank { IsTrue result → BeginsWith text.now (GapPiece 1) }
 {
     is_blank(text[0])
 }
 
 /// The longest piece that the text begins with.
-pub fn prefix(text: &[u8]) -> Option<Piece>
+pub fn longest_piece(text: &[u8]) -> Option<Piece>
     requires { 0 < length text.now }
-    ensures { MatchOption result (BeginsNothing text.now) (IsFront text.now) }
+    ensures { MatchOption result (BeginsNothing text.now) (BeginsWith text.now) }
 {
     by_first_byte(text)
 }

@@ -9,7 +9,7 @@ use crate::bytes::begins_with_word;
 use std::fmt;
 
 /// A sign of the language. `**` and `::` are signs of AngelScript that this profile doesn't have: they
-/// are reported apart here, so that the parser can name them.
+/// are tokens of their own here, so that the parser can name them.
 #[derive(Clone, Copy, Debug, PartialEq, Eq, Hash)]
 pub enum Sign {
     /// `(`
@@ -277,7 +277,7 @@ fn or_sign(after: &[u8]) -> Sign
     }
 }
 
-/// The longest sign of a byte and what stands after it.
+/// The longest sign that a byte and what follows it begin with.
 fn sign_from(first: u8, after: &[u8]) -> Option<Sign>
     ensures { result ≡ first_sign (first ∷ after.now) }
 {

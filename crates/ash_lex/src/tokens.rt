@@ -15,7 +15,7 @@ pub enum TokenKind {
     Unsupported(UnsupportedWord),
 }
 
-/// A token and where it stands: the bytes `from..to` of the text, and the line of its first byte, from 1.
+/// A token and where it is: the bytes `from..to` of the text, and the line of its first byte, from 1.
 #[derive(Debug, PartialEq, Eq, Drop)]
 pub struct Token {
     pub kind: TokenKind,

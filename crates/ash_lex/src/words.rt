@@ -7,7 +7,7 @@ ghost use Rattle.ash_lex.specs.Scan.{reserved_word, unsupported_word};
 
 use std::fmt;
 
-/// A word of the language that is no name. `and`, `or`, `xor` and `not` stand for `&&`, `||`, `^^` and `!`.
+/// A word of the language that is no name. `and`, `or`, `xor` and `not` mean `&&`, `||`, `^^` and `!`.
 #[derive(Clone, Copy, Debug, PartialEq, Eq, Hash)]
 pub enum ReservedWord {
     /// `and`
@@ -182,7 +182,8 @@ impl fmt::Display for ReservedWord {
 
 /// The reserved words that begin with this byte.
 fn reserved_words_from(first: u8) -> &'static [ReservedWord]
-    ensures { (after : List ℕ) → find (λ w. bytes_eq (first ∷ after) (reserved_text w)) result.now ≡ reserved_word (first ∷ after) }
+    ensures { (after : List ℕ) → find (λ w. bytes_eq (first ∷ after) (reserved_text w))
+        result.now ≡ reserved_word (first ∷ after) }
 {
     match first {
         b'a' => &[ReservedWord::And, ReservedWord::Array],
@@ -286,7 +287,8 @@ impl fmt::Display for UnsupportedWord {
 
 /// The unsupported words that begin with this byte.
 fn unsupported_words_from(first: u8) -> &'static [UnsupportedWord]
-    ensures { (after : List ℕ) → find (λ w. bytes_eq (first ∷ after) (unsupported_text w)) result.now ≡ unsupported_word (first ∷ after) }
+    ensures { (after : List ℕ) → find (λ w. bytes_eq (first ∷ after) (unsupported_text w))
+        result.now ≡ unsupported_word (first ∷ after) }
 {
     match first {
         b'a' => &[UnsupportedWord::Auto],

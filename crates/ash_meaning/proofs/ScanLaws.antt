@@ -8,9 +8,9 @@ use Rattle.std.proofs.lemmas.List.{length-append, length-drop, take-append-drop}
 use Rattle.ash_lex.specs.Bytes.{is_line_feed, value_in}
 use Rattle.ash_lex.specs.Signs.{sign_text}
 use Rattle.ash_lex.specs.Pieces.{IsName, IsNumeral}
-use Rattle.ash_lex.specs.Scan.{prefix, reserved_word, unsupported_word}
+use Rattle.ash_lex.specs.Scan.{longest_piece, reserved_word, unsupported_word}
 use Rattle.ash_lex.specs.Tokens.{number, sign, Lexeme, Means, byte_order_mark, Spells, FirstFault}
-use Rattle.ash_lex.specs.Steps.{IsCut, IsFront}
+use Rattle.ash_lex.specs.Steps.{IsCut, BeginsWith}
 use Rattle.ash_lex.specs.declared.words.ReservedWord.{ReservedWord}
 use Rattle.ash_lex.specs.declared.words.UnsupportedWord.{UnsupportedWord}
 use Rattle.ash_lex.specs.declared.pieces.Piece.{Piece}
@@ -18,8 +18,8 @@ use Rattle.ash_lex.specs.declared.pieces.Piece.TheVariants as pieces
 use Rattle.ash_lex.specs.declared.faults.LexFault.{LexFault}
 use Rattle.ash_lex.specs.declared.faults.LexFault.TheVariants as faults
 use Rattle.ash_lex.proofs.WordLookups.{reserved_word-is, unsupported_word-is, reserved_word-none, unsupported_word-none}
-use Rattle.ash_lex.proofs.Fronts.{starts-true}
-use Rattle.ash_lex.proofs.Found.{prefix_is, none_stands}
+use Rattle.ash_lex.proofs.Prefixes.{starts-true}
+use Rattle.ash_lex.proofs.LongestPiece.{longest_piece_is, none_begins}
 use Rattle.ash_lex.proofs.Reading.{IsReadTo, past_gap, past_token, first_fault, spelled, read_mark, read_nothing}
 use Rattle.ash_meaning.specs.Scanning.{Step, Gap, Token, Fault, word_by, step_over, after, From, scan_from, scan}
 
@@ -60,7 +60,7 @@ module _ (text : List ℕ) (place line : ℕ) (tokens : List Lexeme) (read : IsR
     grind (arith, nat_tests),
   )
 
-  at_piece : (p : Piece) → IsFront (drop place text) p → GoesOn (step_over place (drop place text) (Some p))
+  at_piece : (p : Piece) → BeginsWith (drop place text) p → GoesOn (step_over place (drop place text) (Some p))
   at_piece (pieces.Gap n) h = ((h.0).some, past_gap text place line n tokens read h.0 h.1)
   at_piece pieces.Open h = first_fault text place line tokens (faults.UnclosedComment place) read (refl, h)
   at_piece (pieces.Name n) h = (
@@ -79,10 +79,10 @@ module _ (text : List ℕ) (place line : ℕ) (tokens : List Lexeme) (read : IsR
         h.1,
   )
 
-  at_prefix : (o : Option Piece) → prefix (drop place text) ≡ o → GoesOn (step_over place (drop place text) o)
-  at_prefix None e = first_fault text place line tokens (faults.BadCharacter place) read
-      (refl, omega (arith, length-drop place text, more), none_stands (drop place text) e)
-  at_prefix (Some p) e = at_piece p (prefix_is (drop place text) p e)
+  at_longest : (o : Option Piece) → longest_piece (drop place text) ≡ o → GoesOn (step_over place (drop place text) o)
+  at_longest None e = first_fault text place line tokens (faults.BadCharacter place) read
+      (refl, omega (arith, length-drop place text, more), none_begins (drop place text) e)
+  at_longest (Some p) e = at_piece p (longest_piece_is (drop place text) p e)
 
   goes_on : (next : From) → ((n line' : ℕ) (tokens' : List Lexeme) → 0 < n → IsReadTo text (place + n) line' tokens'
       → IsScan text (next (place + n) line' tokens')) → (s : Step) → GoesOn s
@@ -104,7 +104,7 @@ scan_from-is (suc fuel) text place line tokens read h =
     by_end text place line tokens read _ (λ more.
     goes_on text place line tokens read more (scan_from fuel text)
     (λ n line' tokens' some to. scan_from-is fuel text (place + n) line' tokens' to (omega arith)) _
-    (at_prefix text place line tokens read more (prefix (drop place text)) refl))
+    (at_longest text place line tokens read more (longest_piece (drop place text)) refl))
     (nat_le (length text) place) refl
 
 begin : (text : List ℕ) (v : Bool) → starts_with nat_eq text byte_order_mark ≡ v → IsReadTo text (cond v 3 0) 1 []

@@ -7,7 +7,7 @@ use Rattle.std.specs.Str.{is_utf8}
 use Rattle.std.specs.Str.Lossy.{utf8_valid_len}
 use Rattle.ash_lex.specs.Bytes.{is_line_feed, value_in}
 use Rattle.ash_lex.specs.Signs.{sign_text}
-use Rattle.ash_lex.specs.Scan.{prefix, reserved_word, unsupported_word}
+use Rattle.ash_lex.specs.Scan.{longest_piece, reserved_word, unsupported_word}
 use Rattle.ash_lex.specs.Tokens.{Meaning, name, number, sign, reserved, unsupported, Lexeme, byte_order_mark}
 use Rattle.ash_lex.specs.declared.pieces.Piece.{Piece}
 use Rattle.ash_lex.specs.declared.pieces.Piece.TheVariants as pieces
@@ -64,7 +64,7 @@ scan_from zero text place line tokens = Ok tokens
 scan_from (suc fuel) text place line tokens =
     if nat_le (length text) place then Ok tokens
     else after (scan_from fuel text) (drop place text) place line tokens
-    (step_over place (drop place text) (prefix (drop place text)))
+    (step_over place (drop place text) (longest_piece (drop place text)))
 
 -- a byte order mark at the beginning is no token
 unfoldable pub scan : List ℕ → Result (List Lexeme) LexFault

@@ -22,10 +22,13 @@ use Rattle.ash_objects.proofs.Fields.{view_face, counted_same}
 
 module _ {B : Type 0} where
   -- what a contract sees of the box is what is there
-  pub box_view : (n : ℕ) (l : List (ℕ × Placed B)) → option_and_then (λ object. box_of object.body) (object_at n (living_in l)) ≡ stored_box n l
+  pub box_view : (n : ℕ) (l : List (ℕ × Placed B))
+      → option_and_then (λ object. box_of object.body) (object_at n (living_in l)) ≡ stored_box n l
   box_view n l = ap (λ (v : Option (Living B)). option_and_then (λ object. box_of object.body) v) (object_at-living n l l) ∙ go (object_at n l)
     where
-      go : (v : Option (Placed B)) → option_and_then (λ object. box_of object.body) (option_map (living (fields_in n l)) v) ≡ option_and_then (λ object. box_of (object.item).body) v
+      go : (v : Option (Placed B))
+          → option_and_then (λ object. box_of object.body) (option_map (living (fields_in n l)) v)
+          ≡ option_and_then (λ object. box_of (object.item).body) v
       go None = refl
       go (Some p) = refl
 
@@ -39,7 +42,8 @@ module _ {B : Type 0} where
         body (Array array) h = cc
         body (Host x) h = refl
 
-        go : (v : Option (Placed B)) → option_and_then (λ object. box_of (object.item).body) v ≡ Some box → option_map_or (holding m) v 0 ≡ 0
+        go : (v : Option (Placed B)) → option_and_then (λ object. box_of (object.item).body) v ≡ Some box
+            → option_map_or (holding m) v 0 ≡ 0
         go None h = refl
         go (Some p) h = ap (λ (ws : List Word). handles_to m ws) (body (p.item).body h)
 
@@ -59,7 +63,8 @@ module _ {B : Type 0} where
         (λ m. ap (λ (v : Option (Placed B)). option_map face v) (object_at-change n (boxed after) m l) ∙ each (nat_eq n m) (object_at m l))
         (λ m. omega (arith, fields_boxed m, counted_same n (boxed after) (λ p. refl) m l))
       where
-        each : (b : Bool) (v : Option (Placed B)) → option_map face (cond b (option_map (boxed after) v) v) ≡ cond b (option_map (with_box after) (option_map face v)) (option_map face v)
+        each : (b : Bool) (v : Option (Placed B)) → option_map face (cond b (option_map (boxed after) v) v)
+            ≡ cond b (option_map (with_box after) (option_map face v)) (option_map face v)
         each false v = refl
         each true None = refl
         each true (Some p) = refl
@@ -69,12 +74,14 @@ module _ {B : Type 0} where
       covered = λ m. omega (arith, fields_boxed m, counted_same n (boxed after) (λ p. refl) m l, s.covered m);
       bounded = λ m. omega (arith, fields_boxed m, counted_same n (boxed after) (λ p. refl) m l, s.bounded m);
       waiting = each-change (λ p. (p.item).count ≡ 0 → p.waiting ≡ true) n (boxed after) l (λ p is h. h) s.waiting;
-      short = each-change (λ p. length (words_of (p.item).body) ≤ 4096) n (boxed after) l (λ p is h. omega arith) s.short;
+      short =
+          each-change (λ p. length (words_of (p.item).body) ≤ 4096) n (boxed after) l (λ p is h. omega arith) s.short;
       few = omega (arith, length-change n (boxed after) l, s.few);
     }
 
   -- a table stays one
-  pub table_box : (n : ℕ) (l : List (ℕ × Placed B)) (last settled : ℕ) (box after : B) → IsTable l last settled → stored_box n l ≡ Some box → IsTable (change_at n (boxed after) l) last settled
+  pub table_box : (n : ℕ) (l : List (ℕ × Placed B)) (last settled : ℕ) (box after : B) → IsTable l last settled
+      → stored_box n l ≡ Some box → IsTable (change_at n (boxed after) l) last settled
   table_box n l last settled box after t was = record {
     in_order = in_order-change n (boxed after) l t.in_order;
     counted = sound_box n l box after t.in_order t.counted was;
@@ -82,11 +89,13 @@ module _ {B : Type 0} where
     cleared = t.cleared;
   }
 
-  pub some_box : (n : ℕ) (l : List (ℕ × Placed B)) → IsSome (option_and_then (λ object. box_of object.body) (object_at n (living_in l))) → IsSome (stored_box n l)
+  pub some_box : (n : ℕ) (l : List (ℕ × Placed B))
+      → IsSome (option_and_then (λ object. box_of object.body) (object_at n (living_in l))) → IsSome (stored_box n l)
   some_box n l h = subst (λ (v : Option B). IsSome v) (box_view n l) h
 
 -- the event of a call that did not run out of memory
-pub called_is : (target : Target) (method : ℕ) (answer : HostAnswer) → (answer ≡ answers.NoMemory → ⊥) → called target method answer ≡ Called target method ∷ []
+pub called_is : (target : Target) (method : ℕ) (answer : HostAnswer) → (answer ≡ answers.NoMemory → ⊥)
+    → called target method answer ≡ Called target method ∷ []
 called_is target method (answers.Value word) h = refl
 called_is target method answers.Nothing h = refl
 called_is target method (answers.Raise code) h = refl

@@ -35,8 +35,9 @@ module _ {B : Type 0} where
   abbrev pub living_mark : ℕ × Living B → ℕ × Bool
   living_mark e = (e.0, is_boxed (e.1).body)
 
-  -- what a contract sees of reports
-  pub since_is : (settled : ℕ) (gone : List (ℕ × Living B)) → gone_since settled gone ≡ marked_since settled (map living_mark gone)
+  -- the events of what a contract sees
+  pub since_is : (settled : ℕ) (gone : List (ℕ × Living B)) → gone_since settled gone
+      ≡ marked_since settled (map living_mark gone)
   since_is settled [] = refl
   since_is settled (e ∷ gone) = ap (λ (l : List ℕ). cond (nat_le e.0 settled) (e.0 ∷ l) l) (since_is settled gone)
 
@@ -44,11 +45,17 @@ module _ {B : Type 0} where
   drops_is [] = refl
   drops_is (e ∷ gone) = go (is_boxed (e.1).body) (drops_is gone)
     where
-      go : (b : Bool) → drops gone ≡ marked_drops (map living_mark gone) → map (λ number. Dropped number) (keys_of (cond b (e ∷ filter (λ f. is_boxed (f.1).body) gone) (filter (λ f. is_boxed (f.1).body) gone))) ≡ map (λ number. Dropped number) (keys_of (cond b ((e.0, is_boxed (e.1).body) ∷ filter (λ f. f.1) (map living_mark gone)) (filter (λ f. f.1) (map living_mark gone))))
+      go : (b : Bool) → drops gone ≡ marked_drops (map living_mark gone)
+          → map (λ number. Dropped number)
+          (keys_of (cond b (e ∷ filter (λ f. is_boxed (f.1).body) gone) (filter (λ f. is_boxed (f.1).body) gone)))
+          ≡ map (λ number. Dropped number)
+          (keys_of (cond b ((e.0, is_boxed (e.1).body) ∷ filter (λ f. f.1) (map living_mark gone))
+          (filter (λ f. f.1) (map living_mark gone))))
       go true later = ap (λ (l : List Event). Dropped e.0 ∷ l) later
       go false later = later
 
-  sum_living : (measure : ℕ × Bool → ℕ) (all l : List (ℕ × Placed B)) → sum_by (λ e. measure (living_mark e)) (living_among all l) ≡ sum_by (λ e. measure (mark_of e)) l
+  sum_living : (measure : ℕ × Bool → ℕ) (all l : List (ℕ × Placed B))
+      → sum_by (λ e. measure (living_mark e)) (living_among all l) ≡ sum_by (λ e. measure (mark_of e)) l
   sum_living measure all [] = refl
   sum_living measure all (e ∷ l) =
       let now = sum_by-cons (λ (x : ℕ × Living B). measure (living_mark x)) (e.0, living (fields_in e.0 all) e.1) (living_among all l) in
@@ -68,7 +75,8 @@ module _ {B : Type 0} where
       go None e = e
       go (Some p) e = refl
 
-  seen_at : (m : ℕ) (l : List (ℕ × Placed B)) → object_at m (living_in l) ≡ option_map (with_holds (counted m l - fields_in m l)) (face_at m l)
+  seen_at : (m : ℕ) (l : List (ℕ × Placed B)) → object_at m (living_in l)
+      ≡ option_map (with_holds (counted m l - fields_in m l)) (face_at m l)
   seen_at m l = object_at-living m l l ∙ living_face m l (fields_in m l)
 
   module _ (l now : List (ℕ × Placed B)) (taken : List (Entry B)) (o : IsInOrder l) (s : AreCounted l) (h : HaveGone l now taken) where
@@ -90,11 +98,13 @@ module _ {B : Type 0} where
     short_now : (m : ℕ) → IfSome (object_at m now) (λ object. length (words_of (object.item).body) ≤ 4096)
     short_now m = go (object_at m now) refl
       where
-        some : (v : Option (Placed B)) → IsSome v → IfSome v (λ object. length (words_of (object.item).body) ≤ 4096) → IsSomeAnd v (λ object. length (words_of (object.item).body) ≤ 4096)
+        some : (v : Option (Placed B)) → IsSome v → IfSome v (λ object. length (words_of (object.item).body) ≤ 4096)
+            → IsSomeAnd v (λ object. length (words_of (object.item).body) ≤ 4096)
         some None lives small = cc
         some (Some p) lives small = small
 
-        go : (v : Option (Placed B)) → object_at m now ≡ v → IfSome v (λ object. length (words_of (object.item).body) ≤ 4096)
+        go : (v : Option (Placed B)) → object_at m now ≡ v
+            → IfSome v (λ object. length (words_of (object.item).body) ≤ 4096)
         go None is = tt
         go (Some p) is =
             let lives : Lives now m = subst (λ (u : Option (Placed B)). IsSome u) (sym is) refl in
@@ -126,12 +136,18 @@ module _ {B : Type 0} where
     seen_order k p = rw (numbers-living k k) p
 
     filtered_order : (p : ℕ → Bool) → IsInOrder (filter (λ e. p e.0) (living_in l))
-    filtered_order p = subst IsStrictlyIncreasing (sym (numbers-filter p (living_in l))) (IsStrictlyIncreasing-filter p (numbers (living_in l)) (seen_order l o))
+    filtered_order p =
+        subst IsStrictlyIncreasing (sym (numbers-filter p (living_in l)))
+        (IsStrictlyIncreasing-filter p (numbers (living_in l)) (seen_order l o))
 
-    boxed_at : (m : ℕ) (k : List (ℕ × Placed B)) → option_map (λ (x : Living B). is_boxed x.body) (object_at m (living_in k)) ≡ option_map (λ (x : Living B). is_boxed x.body) (face_at m k)
+    boxed_at : (m : ℕ) (k : List (ℕ × Placed B))
+        → option_map (λ (x : Living B). is_boxed x.body) (object_at m (living_in k))
+        ≡ option_map (λ (x : Living B). is_boxed x.body) (face_at m k)
     boxed_at m k = ap (λ (v : Option (Living B)). option_map (λ (x : Living B). is_boxed x.body) v) (seen_at m k) ∙ go (face_at m k)
       where
-        go : (v : Option (Living B)) → option_map (λ (x : Living B). is_boxed x.body) (option_map (with_holds (counted m k - fields_in m k)) v) ≡ option_map (λ (x : Living B). is_boxed x.body) v
+        go : (v : Option (Living B))
+            → option_map (λ (x : Living B). is_boxed x.body) (option_map (with_holds (counted m k - fields_in m k)) v)
+            ≡ option_map (λ (x : Living B). is_boxed x.body) v
         go None = refl
         go (Some x) = refl
 
@@ -146,7 +162,10 @@ module _ {B : Type 0} where
         ∙ each m (object_at m (living_in now)) refl
         ∙ sym (object_at-mapped (λ (x : Living B). is_boxed x.body) m (living_in now)))
       where
-        each : (m : ℕ) (v : Option (Living B)) → object_at m (living_in now) ≡ v → option_map (λ (x : Living B). is_boxed x.body) (cond (not (is_none (object_at m (living_in now)))) (object_at m (living_in l)) None) ≡ option_map (λ (x : Living B). is_boxed x.body) (object_at m (living_in now))
+        each : (m : ℕ) (v : Option (Living B)) → object_at m (living_in now) ≡ v
+            → option_map (λ (x : Living B). is_boxed x.body)
+            (cond (not (is_none (object_at m (living_in now)))) (object_at m (living_in l)) None)
+            ≡ option_map (λ (x : Living B). is_boxed x.body) (object_at m (living_in now))
         each m None is =
             ap (λ (u : Option (Living B)). option_map (λ (x : Living B). is_boxed x.body) (cond (not (is_none u)) (object_at m (living_in l)) None)) is
             ∙ sym (ap (λ (u : Option (Living B)). option_map (λ (x : Living B). is_boxed x.body) u) is)
@@ -158,7 +177,9 @@ module _ {B : Type 0} where
     pub gone_marks : AreInOrder taken (map living_mark (gone_from (living_in l) (living_in now)))
     unfolding is_left
     gone_marks = record {
-      in_order = in_order-mapped (λ (x : Living B). is_boxed x.body) (gone_from (living_in l) (living_in now)) (filtered_order (λ m. is_none (object_at m (living_in now))));
+      in_order =
+          in_order-mapped (λ (x : Living B). is_boxed x.body) (gone_from (living_in l) (living_in now))
+          (filtered_order (λ m. is_none (object_at m (living_in now))));
       same = λ measure.
           let f : ℕ × Living B → ℕ = λ e. measure (living_mark e) in
           let parts = sum_by-filter_both (λ (e : ℕ × Living B). is_none (object_at e.0 (living_in now))) (λ (e : ℕ × Living B). is_left e.0) (λ e. refl) f (living_in l) in
@@ -175,30 +196,38 @@ module _ {B : Type 0} where
       some_count : (m : ℕ) → Lives now m → 0 < counted m now
       some_count m lives = go (object_at m now) refl (h.waiting m) (done m) lives
         where
-          each : (p : Placed B) (n : ℕ) → (p.item).count ≡ n → ((p.item).count ≡ 0 → p.waiting ≡ true) → p.waiting ≡ false → 0 < (p.item).count
+          each : (p : Placed B) (n : ℕ) → (p.item).count ≡ n → ((p.item).count ≡ 0 → p.waiting ≡ true)
+              → p.waiting ≡ false → 0 < (p.item).count
           each p zero is waits rests = let yes = waits is in absurd (cc)
           each p (suc n) is waits rests = omega (arith, is)
 
-          go : (v : Option (Placed B)) → object_at m now ≡ v → IfSome v (λ object. (object.item).count ≡ 0 → object.waiting ≡ true) → IfSome v (λ object. object.waiting ≡ false) → IsSome v → 0 < counted m now
+          go : (v : Option (Placed B)) → object_at m now ≡ v
+              → IfSome v (λ object. (object.item).count ≡ 0 → object.waiting ≡ true)
+              → IfSome v (λ object. object.waiting ≡ false) → IsSome v → 0 < counted m now
           go None is waits rests lives = cc
           go (Some p) is waits rests lives =
               let mine = ap (λ (u : Option (Placed B)). option_map_or (λ object. (object.item).count) u 0) is in
               omega (arith, mine, each p (p.item).count refl waits rests)
 
-      no_holds : (m : ℕ) → object_at m (living_in now) ≡ None → option_map_or (λ object. object.holds) (object_at m (living_in l)) 0 ≡ 0
+      no_holds : (m : ℕ) → object_at m (living_in now) ≡ None
+          → option_map_or (λ object. object.holds) (object_at m (living_in l)) 0 ≡ 0
       no_holds m none = ap (λ (v : Option (Living B)). option_map_or (λ object. object.holds) v 0) (seen_at m l) ∙ go (face_at m l)
         where
-          go : (v : Option (Living B)) → option_map_or (λ object. object.holds) (option_map (with_holds (counted m l - fields_in m l)) v) 0 ≡ 0
+          go : (v : Option (Living B))
+              → option_map_or (λ object. object.holds) (option_map (with_holds (counted m l - fields_in m l)) v) 0 ≡ 0
           go None = refl
           go (Some x) = omega (arith, h.go m (none_seen m now none))
 
-      no_reference : (one other : ℕ) → object_at other (living_in now) ≡ None → Lives (living_in now) one → RefersTo (living_in l) one other → ⊥
+      no_reference : (one other : ℕ) → object_at other (living_in now) ≡ None → Lives (living_in now) one
+          → RefersTo (living_in l) one other → ⊥
       no_reference one other none lives refers =
           let alive = lives_seen one now lives in
           let there = subst (λ (v : Option (Living B)). IsSomeAnd v (λ object. Contains (handles (words_of object.body)) other)) (sym (unchanged one alive) ∙ seen_at one now) refers in
           go (object_at one now) refl there
         where
-          go : (v : Option (Placed B)) → object_at one now ≡ v → IsSomeAnd (option_map (with_holds (counted one now - fields_in one now)) (option_map face v)) (λ object. Contains (handles (words_of object.body)) other) → ⊥
+          go : (v : Option (Placed B)) → object_at one now ≡ v
+              → IsSomeAnd (option_map (with_holds (counted one now - fields_in one now)) (option_map face v))
+              (λ object. Contains (handles (words_of object.body)) other) → ⊥
           go None is h' = h'
           go (Some p) is h' =
               let some = handles_counted other (words_of (p.item).body) (is_among_yes other (handles (words_of (p.item).body)) h') in
@@ -215,11 +244,13 @@ module _ {B : Type 0} where
         others = ap (λ (ns : List ℕ). record { objects = living_in now; pool = pool; services = services; last = last; settled = settled; gone = gone ++ ns }) (sym (since_is settled (gone_from (living_in l) (living_in now))));
       }
 
-  pub order_now : (l now : List (ℕ × Placed B)) (taken : List (Entry B)) → HaveGone l now taken → IsInOrder (living_in now)
+  pub order_now : (l now : List (ℕ × Placed B)) (taken : List (Entry B)) → HaveGone l now taken
+      → IsInOrder (living_in now)
   order_now l now taken h = rw (numbers-living now now) h.in_order
 
   -- an object that fields hold is referred to
-  some_refers : (n : ℕ) (objects : List (ℕ × Living B)) → IsInOrder objects → 0 < fields_holding n objects → (one : ℕ) × RefersTo objects one n
+  some_refers : (n : ℕ) (objects : List (ℕ × Living B)) → IsInOrder objects → 0 < fields_holding n objects → (one : ℕ)
+      × RefersTo objects one n
   some_refers n [] o h = absurd (omega arith)
   some_refers n (e ∷ l) o h =
       go (handles_to n (words_of (e.1).body)) refl (λ more. some_refers n l (in_order_after e l o) more)
@@ -230,11 +261,13 @@ module _ {B : Type 0} where
       move : (one : ℕ) → RefersTo l one n → RefersTo (e ∷ l) one n
       move one f = subst (λ (v : Option (Living B)). IsSomeAnd v (λ object. Contains (handles (words_of object.body)) n)) (sym (object_later one e l (none_after e l one o (lives (object_at one l) f)))) f
         where
-          lives : (v : Option (Living B)) → IsSomeAnd v (λ object. Contains (handles (words_of object.body)) n) → IsSome v
+          lives : (v : Option (Living B)) → IsSomeAnd v (λ object. Contains (handles (words_of object.body)) n)
+              → IsSome v
           lives None f = absurd f
           lives (Some x) f = refl
 
-      go : (k : ℕ) → handles_to n (words_of (e.1).body) ≡ k → (0 < fields_holding n l → (one : ℕ) × RefersTo l one n) → (one : ℕ) × RefersTo (e ∷ l) one n
+      go : (k : ℕ) → handles_to n (words_of (e.1).body) ≡ k → (0 < fields_holding n l → (one : ℕ) × RefersTo l one n)
+          → (one : ℕ) × RefersTo (e ∷ l) one n
       go zero none later = let r = later (omega (arith, none, both)) in (r.0, move r.0 r.1)
       go (suc k) some later =
           let among = is_among_says n (handles (words_of (e.1).body)) (counted_handles n (words_of (e.1).body) (omega (arith, some))) in
@@ -248,30 +281,35 @@ module _ {B : Type 0} where
 
     reached_lives : (n : ℕ) → Reachable (λ root. 0 < holds_of root old) (RefersTo old.objects) n → Lives new.objects n
     reached_lives n (Root held) = from_none (object_at n new.objects) (λ none. let zero_holds = c.not_held n none in omega (arith, held, zero_holds))
-    reached_lives n (Field {one} r f) = from_none (object_at n new.objects) (λ none. c.not_referred one n none (reached_lives one r) f)
+    reached_lives n (Field {one} r f) =
+        from_none (object_at n new.objects) (λ none. c.not_referred one n none (reached_lives one r) f)
 
-    lives_of : (one n : ℕ) (v : Option (Living B)) → IsSomeAnd v (λ object. Contains (handles (words_of object.body)) n) → IsSome v
+    lives_of : (one n : ℕ) (v : Option (Living B))
+        → IsSomeAnd v (λ object. Contains (handles (words_of object.body)) n) → IsSome v
     lives_of one n None f = absurd f
     lives_of one n (Some x) f = refl
 
     lived_old : (n : ℕ) → Lives new.objects n → Lives old.objects n
     lived_old n lives = subst (λ (v : Option (Living B)). IsSome v) (c.unchanged n lives) lives
 
-    held_or_referred : (n : ℕ) → Lives new.objects n → (0 < holds_of n old) ⊎ ((one : ℕ) × RefersTo old.objects one n × Lives new.objects one)
+    held_or_referred : (n : ℕ) → Lives new.objects n → (0 < holds_of n old)
+        ⊎ ((one : ℕ) × RefersTo old.objects one n × Lives new.objects one)
     held_or_referred n lives =
         go (holds_of n new) refl
       where
         same_holds : holds_of n new ≡ holds_of n old
         same_holds = ap (λ (v : Option (Living B)). option_map_or (λ object. object.holds) v 0) (c.unchanged n lives)
 
-        go : (k : ℕ) → holds_of n new ≡ k → (0 < holds_of n old) ⊎ ((one : ℕ) × RefersTo old.objects one n × Lives new.objects one)
+        go : (k : ℕ) → holds_of n new ≡ k → (0 < holds_of n old)
+            ⊎ ((one : ℕ) × RefersTo old.objects one n × Lives new.objects one)
         go (suc k) is = inl (omega (arith, is, same_holds))
         go zero is =
             let r = some_refers n new.objects order (omega (arith, c.counted n lives, is)) in
             let alive = lives_of r.0 n (object_at r.0 new.objects) r.1 in
             inr (r.0, subst (λ (v : Option (Living B)). IsSomeAnd v (λ object. Contains (handles (words_of object.body)) n)) (c.unchanged r.0 alive) r.1, alive)
 
-    live_reached : (fuel n : ℕ) → top ≤ fuel + rank n → Lives new.objects n → Reachable (λ root. 0 < holds_of root old) (RefersTo old.objects) n
+    live_reached : (fuel n : ℕ) → top ≤ fuel + rank n → Lives new.objects n
+        → Reachable (λ root. 0 < holds_of root old) (RefersTo old.objects) n
     live_reached zero n bound lives = absurd (omega (arith, ranks.below n (lived_old n lives), bound))
     live_reached (suc fuel) n bound lives =
         elim (held_or_referred n lives) [
@@ -315,7 +353,9 @@ module _ {B : Type 0} where
         subst P (ap (λ (k : List (ℕ × Bool)). gone ++ marked_since settled k) no_marks ∙ append-nil gone) now
 
     pub drops_none : (events : List Event) → events ≡ events ++ drops (gone_from (living_in l) (living_in l))
-    drops_none events = sym (ap (λ (k : List Event). events ++ k) (drops_is (gone_from (living_in l) (living_in l)) ∙ ap marked_drops no_marks) ∙ append-nil events)
+    drops_none events =
+        sym (ap (λ (k : List Event). events ++ k) (drops_is (gone_from (living_in l) (living_in l))
+        ∙ ap marked_drops no_marks) ∙ append-nil events)
 
     pub order_none : IsInOrder (living_in l)
     order_none = order_now l l [] (none_gone l o s)

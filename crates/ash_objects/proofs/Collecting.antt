@@ -23,30 +23,38 @@ use Rattle.ash_objects.proofs.Referring.{lives_face}
 use Rattle.ash_objects.proofs.Releasing.{released_face, released_fields, released_order, released_length, released_marks, released_each, released_counted}
 
 -- a sum over entries without one of them
-sum_entries-removed : {A : Type 0} (g : ℕ × A → ℕ) (n : ℕ) (x : A) (l : List (ℕ × A)) → object_at n l ≡ Some x → sum_by g (remove_entry (nat_eq n) l) + g (n, x) ≡ sum_by g l
+sum_entries-removed : {A : Type 0} (g : ℕ × A → ℕ) (n : ℕ) (x : A) (l : List (ℕ × A)) → object_at n l ≡ Some x
+    → sum_by g (remove_entry (nat_eq n) l) + g (n, x) ≡ sum_by g l
 sum_entries-removed g n x [] h = cc
 sum_entries-removed {A} g n x (e ∷ l) h =
     go (nat_eq n e.0) refl h (λ later. sum_entries-removed g n x l later)
   where
-    go : (b : Bool) → nat_eq n e.0 ≡ b → cond b (Some e.1) (object_at n l) ≡ Some x → (object_at n l ≡ Some x → sum_by g (remove_entry (nat_eq n) l) + g (n, x) ≡ sum_by g l) → sum_by g (cond b l (e ∷ remove_entry (nat_eq n) l)) + g (n, x) ≡ sum_by g (e ∷ l)
+    go : (b : Bool) → nat_eq n e.0 ≡ b → cond b (Some e.1) (object_at n l) ≡ Some x
+        → (object_at n l ≡ Some x → sum_by g (remove_entry (nat_eq n) l) + g (n, x) ≡ sum_by g l)
+        → sum_by g (cond b l (e ∷ remove_entry (nat_eq n) l)) + g (n, x) ≡ sum_by g (e ∷ l)
     go true is at later =
         let value : e.1 ≡ x = cc in
         let same : g e ≡ g (n, x) = ap (λ (k : ℕ). g (k, e.1)) (sym (eqb-true n e.0 is)) ∙ ap (λ (v : A). g (n, v)) value in
         omega (arith, same, sum_by-cons g e l)
     go false is at later = omega (arith, later at, sum_by-cons g e l, sum_by-cons g e (remove_entry (nat_eq n) l))
 
-length-removed : {A : Type 0} (n : ℕ) (x : A) (l : List (ℕ × A)) → object_at n l ≡ Some x → length (remove_entry (nat_eq n) l) + 1 ≡ length l
+length-removed : {A : Type 0} (n : ℕ) (x : A) (l : List (ℕ × A)) → object_at n l ≡ Some x
+    → length (remove_entry (nat_eq n) l) + 1 ≡ length l
 length-removed n x [] h = cc
 length-removed {A} n x (e ∷ l) h =
     go (nat_eq n e.0) h (λ later. length-removed n x l later)
   where
-    go : (b : Bool) → cond b (Some e.1) (object_at n l) ≡ Some x → (object_at n l ≡ Some x → length (remove_entry (nat_eq n) l) + 1 ≡ length l) → length (cond b l (e ∷ remove_entry (nat_eq n) l)) + 1 ≡ suc (length l)
+    go : (b : Bool) → cond b (Some e.1) (object_at n l) ≡ Some x
+        → (object_at n l ≡ Some x → length (remove_entry (nat_eq n) l) + 1 ≡ length l)
+        → length (cond b l (e ∷ remove_entry (nat_eq n) l)) + 1 ≡ suc (length l)
     go true at later = omega arith
     go false at later = omega (arith, later at)
 
 module _ {B : Type 0} where
   -- what is counted nowhere has no count
-  pub idle_zero : (slot : ℕ) (v : Option (Placed B)) → IsSomeAnd v (λ object. (object.slot ≡ slot) × ((object.item).count ≡ 0)) → option_map_or (λ object. (object.item).count) v 0 ≡ 0
+  pub idle_zero : (slot : ℕ) (v : Option (Placed B))
+      → IsSomeAnd v (λ object. (object.slot ≡ slot) × ((object.item).count ≡ 0))
+      → option_map_or (λ object. (object.item).count) v 0 ≡ 0
   idle_zero slot None e = refl
   idle_zero slot (Some p) e = e.1
 
@@ -68,7 +76,8 @@ module _ {B : Type 0} where
     abbrev pub seen : List (ℕ × Placed B)
     seen = change_in slot (with_waiting false) l
 
-    at_seen : (m : ℕ) → object_at m (change_in slot (with_waiting false) l) ≡ option_map (λ object. cond (nat_eq slot object.slot) (with_waiting false object) object) (object_at m l)
+    at_seen : (m : ℕ) → object_at m (change_in slot (with_waiting false) l)
+        ≡ option_map (λ object. cond (nat_eq slot object.slot) (with_waiting false object) object) (object_at m l)
     at_seen m = object_at-change_in slot (with_waiting false) m l
 
     pub seen_face : (m : ℕ) → face_at m (change_in slot (with_waiting false) l) ≡ face_at m l
@@ -78,7 +87,10 @@ module _ {B : Type 0} where
         each true p = refl
         each false p = refl
 
-        go : (v : Option (Placed B)) → option_map face (option_map (λ object. cond (nat_eq slot object.slot) (with_waiting false object) object) v) ≡ option_map face v
+        go : (v : Option (Placed B))
+            → option_map face
+            (option_map (λ object. cond (nat_eq slot object.slot) (with_waiting false object) object) v)
+            ≡ option_map face v
         go None = refl
         go (Some p) = ap Some (each (nat_eq slot p.slot) p)
 
@@ -89,14 +101,18 @@ module _ {B : Type 0} where
         each true p = refl
         each false p = refl
 
-        go : (v : Option (Placed B)) → option_map_or (λ object. (object.item).count) (option_map (λ object. cond (nat_eq slot object.slot) (with_waiting false object) object) v) 0 ≡ option_map_or (λ object. (object.item).count) v 0
+        go : (v : Option (Placed B))
+            → option_map_or (λ object. (object.item).count)
+            (option_map (λ object. cond (nat_eq slot object.slot) (with_waiting false object) object) v) 0
+            ≡ option_map_or (λ object. (object.item).count) v 0
         go None = refl
         go (Some p) = each (nat_eq slot p.slot) p
 
     pub seen_order : IsInOrder l → IsInOrder (change_in slot (with_waiting false) l)
     seen_order o = rw (numbers-change_in slot (with_waiting false) l) o
 
-  seen_sum : (slot : ℕ) (g : ℕ × Placed B → ℕ) → ((k : ℕ) (p : Placed B) → g (k, with_waiting false p) ≡ g (k, p)) → (l : List (ℕ × Placed B)) → sum_by g (change_in slot (with_waiting false) l) ≡ sum_by g l
+  seen_sum : (slot : ℕ) (g : ℕ × Placed B → ℕ) → ((k : ℕ) (p : Placed B) → g (k, with_waiting false p) ≡ g (k, p))
+      → (l : List (ℕ × Placed B)) → sum_by g (change_in slot (with_waiting false) l) ≡ sum_by g l
   seen_sum slot g same [] = refl
   seen_sum slot g same (e ∷ l) =
       let now = sum_by-cons g (e.0, cond (nat_eq slot (e.1).slot) (with_waiting false e.1) e.1) (change_in slot (with_waiting false) l) in
@@ -106,7 +122,8 @@ module _ {B : Type 0} where
       each true = same e.0 e.1
       each false = refl
 
-  seen_fields : (slot m : ℕ) (l : List (ℕ × Placed B)) → fields_in m (change_in slot (with_waiting false) l) ≡ fields_in m l
+  seen_fields : (slot m : ℕ) (l : List (ℕ × Placed B)) → fields_in m (change_in slot (with_waiting false) l)
+      ≡ fields_in m l
   seen_fields slot m [] = refl
   seen_fields slot m (e ∷ l) =
       let now = sum_by-cons (holding m) (cond (nat_eq slot (e.1).slot) (with_waiting false e.1) e.1) (values_of (change_in slot (with_waiting false) l)) in
@@ -120,34 +137,45 @@ module _ {B : Type 0} where
   seen_length slot [] = refl
   seen_length slot (e ∷ l) = ap suc (seen_length slot l)
 
-  pub seen_stored : (slot : ℕ) (l : List (ℕ × Placed B)) → AreStored l → AreStored (change_in slot (with_waiting false) l)
+  pub seen_stored : (slot : ℕ) (l : List (ℕ × Placed B)) → AreStored l
+      → AreStored (change_in slot (with_waiting false) l)
   seen_stored slot l s = record {
     in_order = seen_order slot l s.in_order;
-    apart = λ place one other here there. s.apart place one other (in_face one place l (change_in slot (with_waiting false) l) (sym (seen_face slot l one)) here) (in_face other place l (change_in slot (with_waiting false) l) (sym (seen_face slot l other)) there);
+    apart =
+        λ place one other here there. s.apart place one other
+        (in_face one place l (change_in slot (with_waiting false) l) (sym (seen_face slot l one)) here)
+        (in_face other place l (change_in slot (with_waiting false) l) (sym (seen_face slot l other)) there);
   }
 
-  pub seen_covered : (slot : ℕ) (l : List (ℕ × Placed B)) → ((m : ℕ) → fields_in m l ≤ counted m l) → (m : ℕ) → fields_in m (change_in slot (with_waiting false) l) ≤ counted m (change_in slot (with_waiting false) l)
+  pub seen_covered : (slot : ℕ) (l : List (ℕ × Placed B)) → ((m : ℕ) → fields_in m l ≤ counted m l) → (m : ℕ)
+      → fields_in m (change_in slot (with_waiting false) l) ≤ counted m (change_in slot (with_waiting false) l)
   seen_covered slot l covered m = omega (arith, seen_fields slot m l, seen_counted slot l m, covered m)
 
   -- the handles of an object that is taken out are counted
-  pub taken_covers : (l : List (ℕ × Placed B)) (n : ℕ) (it : Item B) → IsInOrder l → ((m : ℕ) → fields_in m l ≤ counted m l) → IsSomeAnd (object_at n l) (λ object. object.item ≡ it) → counted n l ≡ 0 → (m : ℕ) → handles_to m (words_of it.body) ≤ counted m (remove_entry (nat_eq n) l)
+  pub taken_covers : (l : List (ℕ × Placed B)) (n : ℕ) (it : Item B) → IsInOrder l
+      → ((m : ℕ) → fields_in m l ≤ counted m l) → IsSomeAnd (object_at n l) (λ object. object.item ≡ it)
+      → counted n l ≡ 0 → (m : ℕ) → handles_to m (words_of it.body) ≤ counted m (remove_entry (nat_eq n) l)
   taken_covers l n it o covered mine none m =
       let sums = sum_by-remove_entry (holding m) (nat_eq n) l in
       omega (arith, sums, held (object_at n l) mine, counts, covered m)
     where
-      held : (v : Option (Placed B)) → IsSomeAnd v (λ object. object.item ≡ it) → unwrap_or (option_map (holding m) v) 0 ≡ handles_to m (words_of it.body)
+      held : (v : Option (Placed B)) → IsSomeAnd v (λ object. object.item ≡ it)
+          → unwrap_or (option_map (holding m) v) 0 ≡ handles_to m (words_of it.body)
       held None h = absurd h
       held (Some p) h = ap (λ (i : Item B). handles_to m (words_of i.body)) h
 
       counts : counted m (remove_entry (nat_eq n) l) ≡ counted m l
       counts = ap (λ (v : Option (Placed B)). option_map_or (λ object. (object.item).count) v 0) (object_at-removed n m l o) ∙ go (nat_eq n m) refl
         where
-          go : (b : Bool) → nat_eq n m ≡ b → option_map_or (λ object. (object.item).count) (cond b None (object_at m l)) 0 ≡ counted m l
+          go : (b : Bool) → nat_eq n m ≡ b
+              → option_map_or (λ object. (object.item).count) (cond b None (object_at m l)) 0 ≡ counted m l
           go true is = sym none ∙ ap (λ (k : ℕ). counted k l) (eqb-true n m is)
           go false is = refl
 
   -- an object that is counted stays
-  pub skipped : (old l : List (ℕ × Placed B)) (slot : ℕ) (taken : List (Entry B)) → HaveGone old l taken → (IsIdle slot (change_in slot (with_waiting false) l) → ⊥) → HaveGone old (change_in slot (with_waiting false) l) taken
+  pub skipped : (old l : List (ℕ × Placed B)) (slot : ℕ) (taken : List (Entry B)) → HaveGone old l taken
+      → (IsIdle slot (change_in slot (with_waiting false) l) → ⊥)
+      → HaveGone old (change_in slot (with_waiting false) l) taken
   skipped old l slot taken h busy = record {
     in_order = seen_order slot l h.in_order;
     covered = λ m. omega (arith, seen_fields slot m l, seen_counted slot l m, h.covered m);
@@ -165,20 +193,28 @@ module _ {B : Type 0} where
       gone : (m : ℕ) → object_at m (change_in slot (with_waiting false) l) ≡ None → object_at m l ≡ None
       gone m none = go (object_at m l) (sym (at_seen slot l m) ∙ none)
         where
-          go : (v : Option (Placed B)) → option_map (λ object. cond (nat_eq slot object.slot) (with_waiting false object) object) v ≡ None → v ≡ None
+          go : (v : Option (Placed B))
+              → option_map (λ object. cond (nat_eq slot object.slot) (with_waiting false object) object) v ≡ None
+              → v ≡ None
           go None e = refl
           go (Some p) e = absurd (cc)
 
-      waits : (m : ℕ) → IfSome (object_at m (change_in slot (with_waiting false) l)) (λ object. (object.item).count ≡ 0 → object.waiting ≡ true)
+      waits : (m : ℕ) → IfSome (object_at m (change_in slot (with_waiting false) l)) (λ object. (object.item).count
+          ≡ 0 → object.waiting ≡ true)
       waits m = subst (λ (v : Option (Placed B)). IfSome v (λ object. (object.item).count ≡ 0 → object.waiting ≡ true)) (sym (at_seen slot l m)) (go (object_at m l) refl (h.waiting m))
         where
-          each : (p : Placed B) → object_at m l ≡ Some p → ((p.item).count ≡ 0 → p.waiting ≡ true) → (b : Bool) → nat_eq slot p.slot ≡ b → ((cond b (with_waiting false p) p).item).count ≡ 0 → (cond b (with_waiting false p) p).waiting ≡ true
+          each : (p : Placed B) → object_at m l ≡ Some p → ((p.item).count ≡ 0 → p.waiting ≡ true) → (b : Bool)
+              → nat_eq slot p.slot ≡ b → ((cond b (with_waiting false p) p).item).count ≡ 0
+              → (cond b (with_waiting false p) p).waiting ≡ true
           each p is was false apart none = was none
           each p is was true same none =
               let there : object_at m (change_in slot (with_waiting false) l) ≡ Some (with_waiting false p) = at_seen slot l m ∙ ap (λ (v : Option (Placed B)). option_map (λ object. cond (nat_eq slot object.slot) (with_waiting false object) object) v) is ∙ ap (λ (b : Bool). Some (cond b (with_waiting false p) p)) same in
               absurd (busy (m, subst (λ (v : Option (Placed B)). IsSomeAnd v (λ object. (object.slot ≡ slot) × ((object.item).count ≡ 0))) (sym there) (sym (eqb-true slot p.slot same), none)))
 
-          go : (v : Option (Placed B)) → object_at m l ≡ v → IfSome v (λ object. (object.item).count ≡ 0 → object.waiting ≡ true) → IfSome (option_map (λ object. cond (nat_eq slot object.slot) (with_waiting false object) object) v) (λ object. (object.item).count ≡ 0 → object.waiting ≡ true)
+          go : (v : Option (Placed B)) → object_at m l ≡ v
+              → IfSome v (λ object. (object.item).count ≡ 0 → object.waiting ≡ true)
+              → IfSome (option_map (λ object. cond (nat_eq slot object.slot) (with_waiting false object) object) v)
+              (λ object. (object.item).count ≡ 0 → object.waiting ≡ true)
           go None is was = tt
           go (Some p) is was = each p is was (nat_eq slot p.slot) refl
 
@@ -197,18 +233,24 @@ module _ {B : Type 0} where
     l2 = remove_entry (nat_eq entry.number) (change_in slot (with_waiting false) l)
 
     abbrev l3 : List (ℕ × Placed B)
-    l3 = release_all (words_of (entry.item).body) (remove_entry (nat_eq entry.number) (change_in slot (with_waiting false) l))
+    l3 =
+        release_all (words_of (entry.item).body)
+        (remove_entry (nat_eq entry.number) (change_in slot (with_waiting false) l))
 
     -- the one object in the slot
     in_slot : (m : ℕ) → IsIn m slot l1 → IsIn m slot l
     in_slot m is = in_face m slot l l1 (sym (seen_face slot l m)) is
 
-    idle_in : (m : ℕ) (v : Option (Placed B)) → IsSomeAnd v (λ object. (object.slot ≡ slot) × ((object.item).count ≡ 0)) → IsSomeAnd v (λ object. object.slot ≡ slot)
+    idle_in : (m : ℕ) (v : Option (Placed B))
+        → IsSomeAnd v (λ object. (object.slot ≡ slot) × ((object.item).count ≡ 0))
+        → IsSomeAnd v (λ object. object.slot ≡ slot)
     idle_in m None e = absurd e
     idle_in m (Some p) e = e.0
 
     idle_is : idle.0 ≡ entry.number
-    idle_is = s.apart slot idle.0 entry.number (in_slot idle.0 (idle_in idle.0 (object_at idle.0 l1) idle.1)) (in_slot entry.number here)
+    idle_is =
+        s.apart slot idle.0 entry.number (in_slot idle.0 (idle_in idle.0 (object_at idle.0 l1) idle.1))
+        (in_slot entry.number here)
 
     zero_count : counted entry.number l1 ≡ 0
     zero_count = ap (λ (k : ℕ). counted k l1) (sym idle_is) ∙ idle_zero slot (object_at idle.0 l1) idle.1
@@ -217,7 +259,9 @@ module _ {B : Type 0} where
     it : (p : Placed B) × (object_at entry.number l1 ≡ Some p) × (p.item ≡ entry.item)
     it = go (object_at entry.number l1) refl mine
       where
-        go : (v : Option (Placed B)) → object_at entry.number l1 ≡ v → IsSomeAnd v (λ object. object.item ≡ entry.item) → (p : Placed B) × (object_at entry.number l1 ≡ Some p) × (p.item ≡ entry.item)
+        go : (v : Option (Placed B)) → object_at entry.number l1 ≡ v
+            → IsSomeAnd v (λ object. object.item ≡ entry.item) → (p : Placed B) × (object_at entry.number l1 ≡ Some p)
+            × (p.item ≡ entry.item)
         go None is e = absurd e
         go (Some p) is e = (p, is, e)
 
@@ -227,7 +271,8 @@ module _ {B : Type 0} where
     taken_counted : (m : ℕ) → counted m l2 ≡ counted m l
     taken_counted m = ap (λ (v : Option (Placed B)). option_map_or (λ object. (object.item).count) v 0) (at_taken m) ∙ go (nat_eq entry.number m) refl ∙ seen_counted slot l m
       where
-        go : (b : Bool) → nat_eq entry.number m ≡ b → option_map_or (λ object. (object.item).count) (cond b None (object_at m l1)) 0 ≡ counted m l1
+        go : (b : Bool) → nat_eq entry.number m ≡ b
+            → option_map_or (λ object. (object.item).count) (cond b None (object_at m l1)) 0 ≡ counted m l1
         go true is = sym zero_count ∙ ap (λ (k : ℕ). counted k l1) (eqb-true entry.number m is)
         go false is = refl
 
@@ -251,18 +296,22 @@ module _ {B : Type 0} where
     some_other m true e = cc
     some_other m false e = refl
 
-    -- who lives still is another, and lived
+    -- what lives still is another, and lived
     lives_taken : (m : ℕ) → Lives l3 m → Lives l2 m
     lives_taken m lives = lives_face m l2 l3 (sym (released_face ws m l2)) lives
 
     apart_now : (m : ℕ) → Lives l3 m → nat_eq entry.number m ≡ false
-    apart_now m lives = some_other m (nat_eq entry.number m) (subst (λ (v : Option (Placed B)). IsSome v) (at_taken m) (lives_taken m lives))
+    apart_now m lives =
+        some_other m (nat_eq entry.number m)
+        (subst (λ (v : Option (Placed B)). IsSome v) (at_taken m) (lives_taken m lives))
 
     at_other : (m : ℕ) → nat_eq entry.number m ≡ false → object_at m l2 ≡ object_at m l1
     at_other m apart = at_taken m ∙ ap (λ (b : Bool). cond {A = Option (Placed B)} b None (object_at m l1)) apart
 
     face_now : (m : ℕ) → Lives l3 m → face_at m l3 ≡ face_at m l
-    face_now m lives = released_face ws m l2 ∙ ap (λ (v : Option (Placed B)). option_map face v) (at_other m (apart_now m lives)) ∙ seen_face slot l m
+    face_now m lives =
+        released_face ws m l2 ∙ ap (λ (v : Option (Placed B)). option_map face v) (at_other m (apart_now m lives))
+        ∙ seen_face slot l m
 
     lived_now : (m : ℕ) → Lives l3 m → Lives l m
     lived_now m lives = lives_face m l l3 (sym (face_now m lives)) lives
@@ -272,26 +321,38 @@ module _ {B : Type 0} where
     waits_taken m = subst (λ (v : Option (Placed B)). IfSome v (λ object. (object.item).count ≡ 0 → object.waiting ≡ true)) (sym (at_taken m)) (go (nat_eq entry.number m) refl)
       where
         slots : (p : Placed B) → object_at m l ≡ Some p → nat_eq slot p.slot ≡ true → entry.number ≡ m
-        slots p is same = s.apart slot entry.number m (in_slot entry.number here) (subst (λ (v : Option (Placed B)). IsSomeAnd v (λ object. object.slot ≡ slot)) (sym is) (sym (eqb-true slot p.slot same)))
+        slots p is same =
+            s.apart slot entry.number m (in_slot entry.number here)
+            (subst (λ (v : Option (Placed B)). IsSomeAnd v (λ object. object.slot ≡ slot)) (sym is)
+            (sym (eqb-true slot p.slot same)))
 
-        each : (p : Placed B) → object_at m l ≡ Some p → nat_eq entry.number m ≡ false → ((p.item).count ≡ 0 → p.waiting ≡ true) → (b : Bool) → nat_eq slot p.slot ≡ b → ((cond b (with_waiting false p) p).item).count ≡ 0 → (cond b (with_waiting false p) p).waiting ≡ true
+        each : (p : Placed B) → object_at m l ≡ Some p → nat_eq entry.number m ≡ false
+            → ((p.item).count ≡ 0 → p.waiting ≡ true) → (b : Bool) → nat_eq slot p.slot ≡ b
+            → ((cond b (with_waiting false p) p).item).count ≡ 0 → (cond b (with_waiting false p) p).waiting ≡ true
         each p is apart was false other none = was none
         each p is apart was true same none = let yes = eq-eqb entry.number m (slots p is same) in absurd (cc)
 
-        through : (v : Option (Placed B)) → object_at m l ≡ v → nat_eq entry.number m ≡ false → IfSome v (λ object. (object.item).count ≡ 0 → object.waiting ≡ true) → IfSome (option_map (λ object. cond (nat_eq slot object.slot) (with_waiting false object) object) v) (λ object. (object.item).count ≡ 0 → object.waiting ≡ true)
+        through : (v : Option (Placed B)) → object_at m l ≡ v → nat_eq entry.number m ≡ false
+            → IfSome v (λ object. (object.item).count ≡ 0 → object.waiting ≡ true)
+            → IfSome (option_map (λ object. cond (nat_eq slot object.slot) (with_waiting false object) object) v)
+            (λ object. (object.item).count ≡ 0 → object.waiting ≡ true)
         through None is apart was = tt
         through (Some p) is apart was = each p is apart was (nat_eq slot p.slot) refl
 
-        go : (b : Bool) → nat_eq entry.number m ≡ b → IfSome (cond b None (object_at m l1)) (λ object. (object.item).count ≡ 0 → object.waiting ≡ true)
+        go : (b : Bool) → nat_eq entry.number m ≡ b
+            → IfSome (cond b None (object_at m l1)) (λ object. (object.item).count ≡ 0 → object.waiting ≡ true)
         go true is = tt
-        go false is = subst (λ (v : Option (Placed B)). IfSome v (λ object. (object.item).count ≡ 0 → object.waiting ≡ true)) (sym (at_seen slot l m)) (through (object_at m l) refl is (h.waiting m))
+        go false is =
+            subst (λ (v : Option (Placed B)). IfSome v (λ object. (object.item).count ≡ 0 → object.waiting ≡ true))
+            (sym (at_seen slot l m)) (through (object_at m l) refl is (h.waiting m))
 
-    less_waits : (p : Placed B) → 0 < (p.item).count → ((p.item).count ≡ 0 → p.waiting ≡ true) → ((once_less p).item).count ≡ 0 → (once_less p).waiting ≡ true
+    less_waits : (p : Placed B) → 0 < (p.item).count → ((p.item).count ≡ 0 → p.waiting ≡ true)
+        → ((once_less p).item).count ≡ 0 → (once_less p).waiting ≡ true
     less_waits p some was none =
         let one : (p.item).count ≡ 1 = omega arith in
         ap (λ (b : Bool). cond b true p.waiting) (eq-eqb (p.item).count 1 one)
 
-    -- who is no longer there was not held
+    -- what is no longer there was not held
     gone_now : (m : ℕ) → object_at m l3 ≡ None → counted m old ≤ fields_in m old
     gone_now m none = go (nat_eq entry.number m) refl
       where
@@ -303,7 +364,9 @@ module _ {B : Type 0} where
         none2 = none_taken (object_at m l3) (object_at m l2) (released_face ws m l2) none
 
         lived : Lives l entry.number
-        lived = lives_face entry.number l l1 (sym (seen_face slot l entry.number)) (subst (λ (v : Option (Placed B)). IsSome v) (sym it.1) refl)
+        lived =
+            lives_face entry.number l l1 (sym (seen_face slot l entry.number))
+            (subst (λ (v : Option (Placed B)). IsSome v) (sym it.1) refl)
 
         go : (b : Bool) → nat_eq entry.number m ≡ b → counted m old ≤ fields_in m old
         go true is =
@@ -313,14 +376,19 @@ module _ {B : Type 0} where
             let one = ap (λ (k : ℕ). counted k old) same in
             let two = ap (λ (k : ℕ). fields_in k old) same in
             omega (arith, balance, zero_before, one, two)
-        go false is = h.go m (none_taken (object_at m l1) (object_at m l) (seen_face slot l m) (sym (at_other m is) ∙ none2))
+        go false is =
+            h.go m (none_taken (object_at m l1) (object_at m l) (seen_face slot l m) (sym (at_other m is) ∙ none2))
 
-    pub one_more : HaveGone old (release_all (words_of (entry.item).body) (remove_entry (nat_eq entry.number) (change_in slot (with_waiting false) l))) (taken ++ entry ∷ [])
+    pub one_more : HaveGone old
+        (release_all (words_of (entry.item).body)
+        (remove_entry (nat_eq entry.number) (change_in slot (with_waiting false) l))) (taken ++ entry ∷ [])
     one_more = record {
       in_order = released_order ws l2 order;
       covered = λ m. omega (arith, count_now m, fields_now m, h.covered m);
       balance = λ m lives. omega (arith, count_now m, fields_now m, h.balance m (lived_now m lives));
-      waiting = released_each (λ object. (object.item).count ≡ 0 → object.waiting ≡ true) ws l2 covers less_waits waits_taken;
+      waiting =
+          released_each (λ object. (object.item).count ≡ 0
+          → object.waiting ≡ true) ws l2 covers less_waits waits_taken;
       stay = λ m lives. face_now m lives ∙ h.stay m (lived_now m lives);
       go = gone_now;
       whole = λ measure.

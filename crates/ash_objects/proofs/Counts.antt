@@ -1,4 +1,4 @@
--- What is kept of counts, and what a contract sees of it.
+-- The counts that are stored, and what a contract sees of them.
 use Rattle.std.proofs.Common.{◌≡◌, ℕ, Bool, true, false, cond, List, [], ◌∷◌, refl, sym, subst, ap, ◌∙◌, nat_eq, arith, Option, Some, None, length, ◌+◌, ◌-◌, ◌≤◌, ◌<◌, ◌^◌, ◌*◌}
 use Rattle.std.specs.Prelude.{IsSome, IfSome}
 use Rattle.std.specs.Option.{option_map, option_map_or}
@@ -16,12 +16,16 @@ use Rattle.ash_slots.proofs.Changing.{object_at-change, length-change, in_order-
 
 module _ {B : Type 0} where
   -- what a contract sees at a number
-  pub object_at-living : (n : ℕ) (all l : List (ℕ × Placed B)) → object_at n (living_among all l) ≡ option_map (living (fields_in n all)) (object_at n l)
+  pub object_at-living : (n : ℕ) (all l : List (ℕ × Placed B)) → object_at n (living_among all l)
+      ≡ option_map (living (fields_in n all)) (object_at n l)
   object_at-living n all [] = refl
   object_at-living n all (e ∷ l) =
       go (nat_eq n e.0) refl (object_at-living n all l)
     where
-      go : (b : Bool) → nat_eq n e.0 ≡ b → object_at n (living_among all l) ≡ option_map (living (fields_in n all)) (object_at n l) → cond b (Some (living (fields_in e.0 all) e.1)) (object_at n (living_among all l)) ≡ option_map (living (fields_in n all)) (cond b (Some e.1) (object_at n l))
+      go : (b : Bool) → nat_eq n e.0 ≡ b → object_at n (living_among all l)
+          ≡ option_map (living (fields_in n all)) (object_at n l)
+          → cond b (Some (living (fields_in e.0 all) e.1)) (object_at n (living_among all l))
+          ≡ option_map (living (fields_in n all)) (cond b (Some e.1) (object_at n l))
       go true is later = ap (λ (k : ℕ). Some (living (fields_in k all) e.1)) (sym (eqb-true n e.0 is))
       go false is later = later
 
@@ -36,14 +40,19 @@ module _ {B : Type 0} where
       let b = sum_by-cons (holding n) e.1 (values_of l) in
       omega (arith, a, b, fields-living n all l)
 
-  -- what a contract sees of two stores differs at one number alone
-  pub view_change : (old new : List (ℕ × Placed B)) (n : ℕ) (f : Living B → Living B) → IsInOrder old → IsInOrder new → ((m : ℕ) → option_map (living (fields_in m new)) (object_at m new) ≡ cond (nat_eq n m) (option_map f (option_map (living (fields_in m old)) (object_at m old))) (option_map (living (fields_in m old)) (object_at m old))) → living_in new ≡ change_at n f (living_in old)
+  -- what a contract sees of two stores differs at one number only
+  pub view_change : (old new : List (ℕ × Placed B)) (n : ℕ) (f : Living B → Living B) → IsInOrder old → IsInOrder new
+      → ((m : ℕ) → option_map (living (fields_in m new)) (object_at m new)
+      ≡ cond (nat_eq n m) (option_map f (option_map (living (fields_in m old)) (object_at m old)))
+      (option_map (living (fields_in m old)) (object_at m old))) → living_in new ≡ change_at n f (living_in old)
   view_change old new n f o p each =
       same_in_order (living_in new) (change_at n f (living_in old)) (rw (numbers-living new new) p) (in_order-change n f (living_in old) (rw (numbers-living old old) o))
       (λ m. object_at-living m new new ∙ each m ∙ sym (object_at-change n f m (living_in old) ∙ ap (λ (v : Option (Living B)). cond (nat_eq n m) (option_map f v) v) (object_at-living m old old)))
 
   -- what the words of an object hold is at most their number, and so for all
-  pub fields_small : (n : ℕ) (l : List (ℕ × Placed B)) → IsInOrder l → ((m : ℕ) → IfSome (object_at m l) (λ object. length (words_of (object.item).body) ≤ 4096)) → fields_in n l ≤ 4096 * length l
+  pub fields_small : (n : ℕ) (l : List (ℕ × Placed B)) → IsInOrder l
+      → ((m : ℕ) → IfSome (object_at m l) (λ object. length (words_of (object.item).body) ≤ 4096))
+      → fields_in n l ≤ 4096 * length l
   fields_small n [] o short = omega arith
   fields_small n (e ∷ l) o short =
       let here : length (words_of (e.1.item).body) ≤ 4096 = subst (λ (v : Option (Placed B)). IfSome v (λ object. length (words_of (object.item).body) ≤ 4096)) (ap (λ (b : Bool). cond b (Some e.1) (object_at e.0 l)) (eq-eqb e.0 e.0 refl)) (short e.0) in
@@ -52,8 +61,11 @@ module _ {B : Type 0} where
       let both = sum_by-cons (holding n) e.1 (values_of l) in
       omega (arith, here, some, later, both)
     where
-      tail : (m : ℕ) (v : Option (Placed B)) → object_at m l ≡ v → IfSome (object_at m l) (λ object. length (words_of (object.item).body) ≤ 4096)
-      tail m None is = subst (λ (v : Option (Placed B)). IfSome v (λ object. length (words_of (object.item).body) ≤ 4096)) (sym is) tt
+      tail : (m : ℕ) (v : Option (Placed B)) → object_at m l ≡ v
+          → IfSome (object_at m l) (λ object. length (words_of (object.item).body) ≤ 4096)
+      tail m None is =
+          subst (λ (v : Option (Placed B)). IfSome v (λ object. length (words_of (object.item).body) ≤ 4096))
+          (sym is) tt
       tail m (Some x) is =
           let apart = none_after e l m o (subst (λ (v : Option (Placed B)). IsSome v) (sym is) refl) in
           subst (λ (v : Option (Placed B)). IfSome v (λ object. length (words_of (object.item).body) ≤ 4096)) (ap (λ (b : Bool). cond b (Some e.1) (object_at m l)) apart) (short m)
@@ -62,12 +74,16 @@ module _ {B : Type 0} where
   pub counted_fits : (n : ℕ) (l : List (ℕ × Placed B)) → IsInOrder l → AreCounted l → counted n l ≤ 2 ^ 127 + 2 ^ 24
   counted_fits n l o s = omega (arith, s.bounded n, s.few, fields_small n l o s.short)
 
-  -- the count that is kept is the one that a contract sees
-  pub count_is : (n : ℕ) (l : List (ℕ × Placed B)) → AreCounted l → option_map_or (λ object. object.holds) (object_at n (living_in l)) 0 + fields_holding n (living_in l) ≡ counted n l
+  -- the count that is stored is the one that a contract sees
+  pub count_is : (n : ℕ) (l : List (ℕ × Placed B)) → AreCounted l
+      → option_map_or (λ object. object.holds) (object_at n (living_in l)) 0 + fields_holding n (living_in l)
+      ≡ counted n l
   count_is n l s =
       go (object_at n l) refl
     where
-      go : (o : Option (Placed B)) → object_at n l ≡ o → option_map_or (λ object. object.holds) (object_at n (living_in l)) 0 + fields_holding n (living_in l) ≡ counted n l
+      go : (o : Option (Placed B)) → object_at n l ≡ o
+          → option_map_or (λ object. object.holds) (object_at n (living_in l)) 0 + fields_holding n (living_in l)
+          ≡ counted n l
       go None is =
           let view = ap (λ (v : Option (Living B)). option_map_or (λ object. object.holds) v 0) (object_at-living n l l ∙ ap (λ (v : Option (Placed B)). option_map (living (fields_in n l)) v) is) in
           let mine = ap (λ (v : Option (Placed B)). option_map_or (λ object. (object.item).count) v 0) is in
@@ -78,15 +94,22 @@ module _ {B : Type 0} where
           omega (arith, view, mine, fields-living n l l, s.covered n)
 
   -- the count at each number, after a change at one
-  pub counted-change : (n : ℕ) (f : Placed B → Placed B) (m : ℕ) (l : List (ℕ × Placed B)) → counted m (change_at n f l) ≡ option_map_or (λ object. (object.item).count) (cond (nat_eq n m) (option_map f (object_at m l)) (object_at m l)) 0
-  counted-change n f m l = ap (λ (v : Option (Placed B)). option_map_or (λ object. (object.item).count) v 0) (object_at-change n f m l)
+  pub counted-change : (n : ℕ) (f : Placed B → Placed B) (m : ℕ) (l : List (ℕ × Placed B))
+      → counted m (change_at n f l)
+      ≡ option_map_or (λ object. (object.item).count)
+      (cond (nat_eq n m) (option_map f (object_at m l)) (object_at m l)) 0
+  counted-change n f m l =
+      ap (λ (v : Option (Placed B)). option_map_or (λ object. (object.item).count) v 0) (object_at-change n f m l)
 
   -- what is true of each object stays so where a change keeps it
-  pub each-change : (P : Placed B → Type 0) (n : ℕ) (f : Placed B → Placed B) (l : List (ℕ × Placed B)) → ((p : Placed B) → object_at n l ≡ Some p → P p → P (f p)) → ((m : ℕ) → IfSome (object_at m l) P) → (m : ℕ) → IfSome (object_at m (change_at n f l)) P
+  pub each-change : (P : Placed B → Type 0) (n : ℕ) (f : Placed B → Placed B) (l : List (ℕ × Placed B))
+      → ((p : Placed B) → object_at n l ≡ Some p → P p → P (f p)) → ((m : ℕ) → IfSome (object_at m l) P) → (m : ℕ)
+      → IfSome (object_at m (change_at n f l)) P
   each-change P n f l keeps each m =
       subst (λ (v : Option (Placed B)). IfSome v P) (sym (object_at-change n f m l)) (go (nat_eq n m) refl (object_at m l) refl (each m))
     where
-      go : (b : Bool) → nat_eq n m ≡ b → (o : Option (Placed B)) → object_at m l ≡ o → IfSome o P → IfSome (cond b (option_map f o) o) P
+      go : (b : Bool) → nat_eq n m ≡ b → (o : Option (Placed B)) → object_at m l ≡ o → IfSome o P
+          → IfSome (cond b (option_map f o) o) P
       go true p None is h = tt
       go true p (Some x) is h = keeps x (ap (λ (k : ℕ). object_at k l) (eqb-true n m p) ∙ is) h
       go false p o is h = h
@@ -105,7 +128,9 @@ module _ {B : Type 0} where
         view_change l (change_at n once_more l) n held o (in_order-change n once_more l o)
         (λ m. ap (λ (k : ℕ). option_map (living k) (object_at m (change_at n once_more l))) (more_fields m) ∙ ap (λ (v : Option (Placed B)). option_map (living (fields_in m l)) v) (object_at-change n once_more m l) ∙ each m (nat_eq n m) (object_at m l) refl)
       where
-        each : (m : ℕ) (b : Bool) (v : Option (Placed B)) → object_at m l ≡ v → option_map (living (fields_in m l)) (cond b (option_map once_more v) v) ≡ cond b (option_map held (option_map (living (fields_in m l)) v)) (option_map (living (fields_in m l)) v)
+        each : (m : ℕ) (b : Bool) (v : Option (Placed B)) → object_at m l ≡ v
+            → option_map (living (fields_in m l)) (cond b (option_map once_more v) v)
+            ≡ cond b (option_map held (option_map (living (fields_in m l)) v)) (option_map (living (fields_in m l)) v)
         each m true None is = refl
         each m false v is = refl
         each m true (Some p) is =
@@ -119,7 +144,10 @@ module _ {B : Type 0} where
         view_change l (change_at n once_less l) n unheld o (in_order-change n once_less l o)
         (λ m. ap (λ (k : ℕ). option_map (living k) (object_at m (change_at n once_less l))) (less_fields m) ∙ ap (λ (v : Option (Placed B)). option_map (living (fields_in m l)) v) (object_at-change n once_less m l) ∙ each m (nat_eq n m) (object_at m l))
       where
-        each : (m : ℕ) (b : Bool) (v : Option (Placed B)) → option_map (living (fields_in m l)) (cond b (option_map once_less v) v) ≡ cond b (option_map unheld (option_map (living (fields_in m l)) v)) (option_map (living (fields_in m l)) v)
+        each : (m : ℕ) (b : Bool) (v : Option (Placed B))
+            → option_map (living (fields_in m l)) (cond b (option_map once_less v) v)
+            ≡ cond b (option_map unheld (option_map (living (fields_in m l)) v))
+            (option_map (living (fields_in m l)) v)
         each m true None = refl
         each m false v = refl
         each m true (Some p) =
@@ -127,11 +155,18 @@ module _ {B : Type 0} where
             ap (λ (k : ℕ). Some (record { slot = p.slot; holds = k; touched = (p.item).touched; body = (p.item).body })) holds
 
     -- one count more, and the others
-    more_counts : (m : ℕ) → (counted m l ≤ counted m (change_at n once_more l)) × (counted m (change_at n once_more l) ≤ counted m l + 1) × (nat_eq n m ≡ false → counted m (change_at n once_more l) ≡ counted m l)
+    more_counts : (m : ℕ) → (counted m l ≤ counted m (change_at n once_more l))
+        × (counted m (change_at n once_more l) ≤ counted m l + 1)
+        × (nat_eq n m ≡ false → counted m (change_at n once_more l) ≡ counted m l)
     more_counts m =
         let at = counted-change n once_more m l in go (nat_eq n m) refl (object_at m l) refl at
       where
-        go : (b : Bool) → nat_eq n m ≡ b → (v : Option (Placed B)) → object_at m l ≡ v → counted m (change_at n once_more l) ≡ option_map_or (λ object. (object.item).count) (cond b (option_map once_more v) v) 0 → (counted m l ≤ counted m (change_at n once_more l)) × (counted m (change_at n once_more l) ≤ counted m l + 1) × (nat_eq n m ≡ false → counted m (change_at n once_more l) ≡ counted m l)
+        go : (b : Bool) → nat_eq n m ≡ b → (v : Option (Placed B)) → object_at m l ≡ v
+            → counted m (change_at n once_more l)
+            ≡ option_map_or (λ object. (object.item).count) (cond b (option_map once_more v) v) 0
+            → (counted m l ≤ counted m (change_at n once_more l))
+            × (counted m (change_at n once_more l) ≤ counted m l + 1)
+            × (nat_eq n m ≡ false → counted m (change_at n once_more l) ≡ counted m l)
         go true p None is at = let mine = ap (λ (v : Option (Placed B)). option_map_or (λ object. (object.item).count) v 0) is in (omega (arith, at, mine), omega (arith, at, mine), λ no. absurd (cc))
         go true p (Some x) is at = let mine = ap (λ (v : Option (Placed B)). option_map_or (λ object. (object.item).count) v 0) is in (omega (arith, at, mine), omega (arith, at, mine), λ no. absurd (cc))
         go false p v is at = let mine = ap (λ (v : Option (Placed B)). option_map_or (λ object. (object.item).count) v 0) is in (omega (arith, at, mine), omega (arith, at, mine), λ no. omega (arith, at, mine))
@@ -140,27 +175,38 @@ module _ {B : Type 0} where
     sound_more below = record {
       covered = λ m. omega (arith, more_fields m, (more_counts m).0, s.covered m);
       bounded = λ m. bound m (nat_eq n m) refl;
-      waiting = each-change (λ object. (object.item).count ≡ 0 → object.waiting ≡ true) n once_more l (λ p is h none. absurd (omega arith)) s.waiting;
+      waiting =
+          each-change (λ object. (object.item).count ≡ 0 → object.waiting ≡ true) n once_more l
+          (λ p is h none. absurd (omega arith)) s.waiting;
       short = each-change (λ object. length (words_of (object.item).body) ≤ 4096) n once_more l (λ p is h. h) s.short;
       few = omega (arith, length-change n once_more l, s.few);
     }
       where
-        bound : (m : ℕ) (b : Bool) → nat_eq n m ≡ b → counted m (change_at n once_more l) ≤ fields_in m (change_at n once_more l) + 2 ^ 127
+        bound : (m : ℕ) (b : Bool) → nat_eq n m ≡ b
+            → counted m (change_at n once_more l) ≤ fields_in m (change_at n once_more l) + 2 ^ 127
         bound m true p =
             let same = ap (λ (k : ℕ). counted k l) (eqb-true n m p) in
             omega (arith, same, more_fields m, (more_counts m).1, below)
         bound m false p = omega (arith, more_fields m, (more_counts m).2 p, s.bounded m)
 
-    less_counts : (m : ℕ) → (counted m (change_at n once_less l) ≤ counted m l) × (counted m l ≤ counted m (change_at n once_less l) + 1) × (nat_eq n m ≡ false → counted m (change_at n once_less l) ≡ counted m l)
+    less_counts : (m : ℕ) → (counted m (change_at n once_less l) ≤ counted m l)
+        × (counted m l ≤ counted m (change_at n once_less l) + 1)
+        × (nat_eq n m ≡ false → counted m (change_at n once_less l) ≡ counted m l)
     less_counts m =
         let at = counted-change n once_less m l in go (nat_eq n m) refl (object_at m l) refl at
       where
-        go : (b : Bool) → nat_eq n m ≡ b → (v : Option (Placed B)) → object_at m l ≡ v → counted m (change_at n once_less l) ≡ option_map_or (λ object. (object.item).count) (cond b (option_map once_less v) v) 0 → (counted m (change_at n once_less l) ≤ counted m l) × (counted m l ≤ counted m (change_at n once_less l) + 1) × (nat_eq n m ≡ false → counted m (change_at n once_less l) ≡ counted m l)
+        go : (b : Bool) → nat_eq n m ≡ b → (v : Option (Placed B)) → object_at m l ≡ v
+            → counted m (change_at n once_less l)
+            ≡ option_map_or (λ object. (object.item).count) (cond b (option_map once_less v) v) 0
+            → (counted m (change_at n once_less l) ≤ counted m l)
+            × (counted m l ≤ counted m (change_at n once_less l) + 1)
+            × (nat_eq n m ≡ false → counted m (change_at n once_less l) ≡ counted m l)
         go true p None is at = let mine = ap (λ (v : Option (Placed B)). option_map_or (λ object. (object.item).count) v 0) is in (omega (arith, at, mine), omega (arith, at, mine), λ no. absurd (cc))
         go true p (Some x) is at = let mine = ap (λ (v : Option (Placed B)). option_map_or (λ object. (object.item).count) v 0) is in (omega (arith, at, mine), omega (arith, at, mine), λ no. absurd (cc))
         go false p v is at = let mine = ap (λ (v : Option (Placed B)). option_map_or (λ object. (object.item).count) v 0) is in (omega (arith, at, mine), omega (arith, at, mine), λ no. omega (arith, at, mine))
 
-    less_waits : (p : Placed B) → 0 < (p.item).count → ((p.item).count ≡ 0 → p.waiting ≡ true) → ((once_less p).item).count ≡ 0 → (once_less p).waiting ≡ true
+    less_waits : (p : Placed B) → 0 < (p.item).count → ((p.item).count ≡ 0 → p.waiting ≡ true)
+        → ((once_less p).item).count ≡ 0 → (once_less p).waiting ≡ true
     less_waits p some was none =
         let one : (p.item).count ≡ 1 = omega arith in
         ap (λ (b : Bool). cond b true p.waiting) (eq-eqb (p.item).count 1 one)
@@ -174,7 +220,8 @@ module _ {B : Type 0} where
       few = omega (arith, length-change n once_less l, s.few);
     }
       where
-        cover : (m : ℕ) (b : Bool) → nat_eq n m ≡ b → fields_in m (change_at n once_less l) ≤ counted m (change_at n once_less l)
+        cover : (m : ℕ) (b : Bool) → nat_eq n m ≡ b
+            → fields_in m (change_at n once_less l) ≤ counted m (change_at n once_less l)
         cover m true p =
             let same = ap (λ (k : ℕ). counted k l) (eqb-true n m p) in
             let fields = ap (λ (k : ℕ). fields_in k l) (eqb-true n m p) in
@@ -182,7 +229,8 @@ module _ {B : Type 0} where
         cover m false p = omega (arith, less_fields m, (less_counts m).2 p, s.covered m)
 
   -- the numbers that were given stay given
-  pub given-change : (last n : ℕ) (f : Placed B → Placed B) (l : List (ℕ × Placed B)) → AreGiven last l → AreGiven last (change_at n f l)
+  pub given-change : (last n : ℕ) (f : Placed B → Placed B) (l : List (ℕ × Placed B)) → AreGiven last l
+      → AreGiven last (change_at n f l)
   given-change last n f l given m lives =
       given m (go (nat_eq n m) (object_at m l) (subst (λ (v : Option (Placed B)). IsSome v) (object_at-change n f m l) lives))
     where

@@ -38,22 +38,24 @@ hits_word m (words.Object k) = refl
 same_test : (a b : ℕ) → nat_eq a b ≡ nat_eq b a
 same_test a b = grind (arith, nat_tests)
 
--- the word that stands at a place
+-- the word that is at a place
 word_at : {A : Type 0} (ws : List A) (i : ℕ) (x d : A) → slice_get ws i ≡ Some x → (i < length ws) × (get_or ws i d ≡ x)
 word_at [] i x d h = cc
 word_at (y ∷ ws) zero x d h = (omega arith, cc)
 word_at (y ∷ ws) (suc i) x d h = let later = word_at ws i x d h in (omega (arith, later.0), later.1)
 
 -- the handles among words, after one was written
-pub handles-set : (m : ℕ) (ws : List Word) (i : ℕ) (before after : Word) → slice_get ws i ≡ Some before → handles_to m (set ws i after) + hits (handle before) m ≡ handles_to m ws + hits (handle after) m
+pub handles-set : (m : ℕ) (ws : List Word) (i : ℕ) (before after : Word) → slice_get ws i ≡ Some before
+    → handles_to m (set ws i after) + hits (handle before) m ≡ handles_to m ws + hits (handle after) m
 handles-set m ws i before after there =
     let at = word_at ws i before words.Null there in
     let sums = sum_by-set (λ (w : Word). cond {A = ℕ} (is_handle_to m w) 1 0) ws i after words.Null at.0 in
     let was = ap (λ (w : Word). cond {A = ℕ} (is_handle_to m w) 1 0) at.1 in
     omega (arith, sums, was, hits_word m before, hits_word m after)
 
--- a word that stands among words is counted
-pub handles-at : (m : ℕ) (ws : List Word) (i : ℕ) (before : Word) → slice_get ws i ≡ Some before → hits (handle before) m ≤ handles_to m ws
+-- a word that is among words is counted
+pub handles-at : (m : ℕ) (ws : List Word) (i : ℕ) (before : Word) → slice_get ws i ≡ Some before
+    → hits (handle before) m ≤ handles_to m ws
 handles-at m ws i before there =
     let at = word_at ws i before words.Null there in
     let some = get_or-le-sum_by (λ (w : Word). cond {A = ℕ} (is_handle_to m w) 1 0) ws i words.Null at.0 in
@@ -65,15 +67,21 @@ module _ {B : Type 0} where
   with_holds holds object = record object { holds = holds }
 
   -- what a contract sees is that, with what the count has beside fields
-  pub living_face : (m : ℕ) (l : List (ℕ × Placed B)) (F : ℕ) → option_map (living F) (object_at m l) ≡ option_map (with_holds (counted m l - F)) (face_at m l)
+  pub living_face : (m : ℕ) (l : List (ℕ × Placed B)) (F : ℕ) → option_map (living F) (object_at m l)
+      ≡ option_map (with_holds (counted m l - F)) (face_at m l)
   living_face m l F = go (object_at m l) refl
     where
-      go : (v : Option (Placed B)) → object_at m l ≡ v → option_map (living F) v ≡ option_map (with_holds (option_map_or (λ object. (object.item).count) v 0 - F)) (option_map face v)
+      go : (v : Option (Placed B)) → object_at m l ≡ v → option_map (living F) v
+          ≡ option_map (with_holds (option_map_or (λ object. (object.item).count) v 0 - F)) (option_map face v)
       go None is = refl
       go (Some p) is = refl
 
-  -- what a contract sees of two stores whose counts and fields changed alike differs at one number alone
-  pub view_face : (old new : List (ℕ × Placed B)) (n : ℕ) (f : Living B → Living B) → ((k : ℕ) (x : Living B) → with_holds k (f x) ≡ f (with_holds k x)) → IsInOrder old → IsInOrder new → ((m : ℕ) → face_at m new ≡ cond (nat_eq n m) (option_map f (face_at m old)) (face_at m old)) → ((m : ℕ) → counted m new - fields_in m new ≡ counted m old - fields_in m old) → living_in new ≡ change_at n f (living_in old)
+  -- what a contract sees of two stores whose counts and fields changed alike differs at one number only
+  pub view_face : (old new : List (ℕ × Placed B)) (n : ℕ) (f : Living B → Living B)
+      → ((k : ℕ) (x : Living B) → with_holds k (f x) ≡ f (with_holds k x)) → IsInOrder old → IsInOrder new
+      → ((m : ℕ) → face_at m new ≡ cond (nat_eq n m) (option_map f (face_at m old)) (face_at m old))
+      → ((m : ℕ) → counted m new - fields_in m new ≡ counted m old - fields_in m old)
+      → living_in new ≡ change_at n f (living_in old)
   view_face old new n f apart o p faces holds =
       view_change old new n f o p
       (λ m.
@@ -83,13 +91,15 @@ module _ {B : Type 0} where
       ∙ each (counted m old - fields_in m old) (nat_eq n m) (face_at m old)
       ∙ sym (ap (λ (v : Option (Living B)). cond (nat_eq n m) (option_map f v) v) (living_face m old (fields_in m old))))
     where
-      each : (k : ℕ) (b : Bool) (v : Option (Living B)) → option_map (with_holds k) (cond b (option_map f v) v) ≡ cond b (option_map f (option_map (with_holds k) v)) (option_map (with_holds k) v)
+      each : (k : ℕ) (b : Bool) (v : Option (Living B)) → option_map (with_holds k) (cond b (option_map f v) v)
+          ≡ cond b (option_map f (option_map (with_holds k) v)) (option_map (with_holds k) v)
       each k true None = refl
       each k true (Some x) = ap Some (apart k x)
       each k false v = refl
 
   -- a change that leaves what a contract sees but the count
-  face_same : (n : ℕ) (f : Placed B → Placed B) → ((p : Placed B) → face (f p) ≡ face p) → (m : ℕ) (l : List (ℕ × Placed B)) → face_at m (change_at n f l) ≡ face_at m l
+  face_same : (n : ℕ) (f : Placed B → Placed B) → ((p : Placed B) → face (f p) ≡ face p)
+      → (m : ℕ) (l : List (ℕ × Placed B)) → face_at m (change_at n f l) ≡ face_at m l
   face_same n f same m l = ap (λ (v : Option (Placed B)). option_map face v) (object_at-change n f m l) ∙ go (nat_eq n m) (object_at m l)
     where
       go : (b : Bool) (v : Option (Placed B)) → option_map face (cond b (option_map f v) v) ≡ option_map face v
@@ -97,15 +107,17 @@ module _ {B : Type 0} where
       go true None = refl
       go true (Some p) = ap Some (same p)
 
-  -- what stands at each number after a handle was counted
+  -- what is at each number after a handle was counted
   module _ (f : Placed B → Placed B) (keeps : (p : Placed B) → face (f p) ≡ face p) where
     pub handle_face : (h : Option ℕ) (m : ℕ) (l : List (ℕ × Placed B)) → face_at m (change_handle f h l) ≡ face_at m l
     handle_face None m l = refl
     handle_face (Some k) m l = face_same k f keeps m l
 
-    pub handle_fields : (h : Option ℕ) (m : ℕ) (l : List (ℕ × Placed B)) → fields_in m (change_handle f h l) ≡ fields_in m l
+    pub handle_fields : (h : Option ℕ) (m : ℕ) (l : List (ℕ × Placed B)) → fields_in m (change_handle f h l)
+        ≡ fields_in m l
     handle_fields None m l = refl
-    handle_fields (Some k) m l = sum_same-change (holding m) k f (λ p. ap (λ (x : Living B). handles_to m (words_of x.body)) (keeps p)) l
+    handle_fields (Some k) m l =
+        sum_same-change (holding m) k f (λ p. ap (λ (x : Living B). handles_to m (words_of x.body)) (keeps p)) l
 
     pub handle_order : (h : Option ℕ) (l : List (ℕ × Placed B)) → IsInOrder l → IsInOrder (change_handle f h l)
     handle_order None l o = o
@@ -115,7 +127,9 @@ module _ {B : Type 0} where
     handle_length None l = refl
     handle_length (Some k) l = length-change k f l
 
-    pub handle_each : (P : Placed B → Type 0) (h : Option ℕ) (l : List (ℕ × Placed B)) → ((p : Placed B) (k : ℕ) → h ≡ Some k → object_at k l ≡ Some p → P p → P (f p)) → ((m : ℕ) → IfSome (object_at m l) P) → (m : ℕ) → IfSome (object_at m (change_handle f h l)) P
+    pub handle_each : (P : Placed B → Type 0) (h : Option ℕ) (l : List (ℕ × Placed B))
+        → ((p : Placed B) (k : ℕ) → h ≡ Some k → object_at k l ≡ Some p → P p → P (f p))
+        → ((m : ℕ) → IfSome (object_at m l) P) → (m : ℕ) → IfSome (object_at m (change_handle f h l)) P
     handle_each P None l stays each = each
     handle_each P (Some k) l stays each = each-change P k f l (λ p is. stays p k refl is) each
 
@@ -126,13 +140,17 @@ module _ {B : Type 0} where
       go None is h = cc
       go (Some p) is h = (p, is)
 
-  pub more_handle : (h : Option ℕ) (m : ℕ) (l : List (ℕ × Placed B)) → IfSome h (Lives l) → counted m (change_handle once_more h l) ≡ counted m l + hits h m
+  pub more_handle : (h : Option ℕ) (m : ℕ) (l : List (ℕ × Placed B)) → IfSome h (Lives l)
+      → counted m (change_handle once_more h l) ≡ counted m l + hits h m
   more_handle None m l alive = omega arith
   more_handle (Some k) m l alive =
       let p = lives_some k l alive in
       go p.0 p.1 (nat_eq k m) refl (counted-change k once_more m l)
     where
-      go : (p : Placed B) → object_at k l ≡ Some p → (b : Bool) → nat_eq k m ≡ b → counted m (change_at k once_more l) ≡ option_map_or (λ object. (object.item).count) (cond (nat_eq k m) (option_map once_more (object_at m l)) (object_at m l)) 0 → counted m (change_at k once_more l) ≡ counted m l + cond (nat_eq m k) 1 0
+      go : (p : Placed B) → object_at k l ≡ Some p → (b : Bool) → nat_eq k m ≡ b → counted m (change_at k once_more l)
+          ≡ option_map_or (λ object. (object.item).count)
+          (cond (nat_eq k m) (option_map once_more (object_at m l)) (object_at m l)) 0
+          → counted m (change_at k once_more l) ≡ counted m l + cond (nat_eq m k) 1 0
       go p is true same at =
           let k_is : k ≡ m = eqb-true k m same in
           let there : object_at m l ≡ Some p = ap (λ (j : ℕ). object_at j l) (sym k_is) ∙ is in
@@ -145,12 +163,17 @@ module _ {B : Type 0} where
           let none = ap (λ (b : Bool). cond {A = ℕ} b 1 0) (same_test m k ∙ same) in
           omega (arith, now, none)
 
-  pub less_handle : (h : Option ℕ) (m : ℕ) (l : List (ℕ × Placed B)) → IfSome h (λ k. 0 < counted k l) → counted m (change_handle once_less h l) + hits h m ≡ counted m l
+  pub less_handle : (h : Option ℕ) (m : ℕ) (l : List (ℕ × Placed B)) → IfSome h (λ k. 0 < counted k l)
+      → counted m (change_handle once_less h l) + hits h m ≡ counted m l
   less_handle None m l some = omega arith
   less_handle (Some k) m l some =
       go (nat_eq k m) refl (object_at m l) refl (counted-change k once_less m l)
     where
-      go : (b : Bool) → nat_eq k m ≡ b → (v : Option (Placed B)) → object_at m l ≡ v → counted m (change_at k once_less l) ≡ option_map_or (λ object. (object.item).count) (cond (nat_eq k m) (option_map once_less (object_at m l)) (object_at m l)) 0 → counted m (change_at k once_less l) + cond (nat_eq m k) 1 0 ≡ counted m l
+      go : (b : Bool) → nat_eq k m ≡ b → (v : Option (Placed B)) → object_at m l ≡ v
+          → counted m (change_at k once_less l)
+          ≡ option_map_or (λ object. (object.item).count)
+          (cond (nat_eq k m) (option_map once_less (object_at m l)) (object_at m l)) 0
+          → counted m (change_at k once_less l) + cond (nat_eq m k) 1 0 ≡ counted m l
       go true same None is at =
           let k_is : k ≡ m = eqb-true k m same in
           let none = ap (λ (j : ℕ). counted j l) k_is ∙ ap (λ (v : Option (Placed B)). option_map_or (λ object. (object.item).count) v 0) is in
@@ -168,13 +191,15 @@ module _ {B : Type 0} where
           omega (arith, now, none)
 
   -- words of an object with a word written
-  words-written : (place : ℕ) (word before : Word) (body : Body B) → slice_get (words_of body) place ≡ Some before → words_of (with_word place word body) ≡ set (words_of body) place word
+  words-written : (place : ℕ) (word before : Word) (body : Body B) → slice_get (words_of body) place ≡ Some before
+      → words_of (with_word place word body) ≡ set (words_of body) place word
   words-written place word before (Script script) there = refl
   words-written place word before (Array array) there = refl
   words-written place word before (Host box) there = cc
 
   -- what one object holds is part of what all hold
-  pub one-le-sum : (g : Placed B → ℕ) (n : ℕ) (l : List (ℕ × Placed B)) (p : Placed B) → object_at n l ≡ Some p → g p ≤ sum_by g (values_of l)
+  pub one-le-sum : (g : Placed B → ℕ) (n : ℕ) (l : List (ℕ × Placed B)) (p : Placed B) → object_at n l ≡ Some p
+      → g p ≤ sum_by g (values_of l)
   one-le-sum g n [] p h = cc
   one-le-sum g n (e ∷ l) p h =
       go (nat_eq n e.0) refl (λ later. one-le-sum g n l p later)
@@ -182,7 +207,8 @@ module _ {B : Type 0} where
       both : sum_by g (values_of (e ∷ l)) ≡ g e.1 + sum_by g (values_of l)
       both = sum_by-cons g e.1 (values_of l)
 
-      go : (b : Bool) → nat_eq n e.0 ≡ b → (object_at n l ≡ Some p → g p ≤ sum_by g (values_of l)) → g p ≤ sum_by g (values_of (e ∷ l))
+      go : (b : Bool) → nat_eq n e.0 ≡ b → (object_at n l ≡ Some p → g p ≤ sum_by g (values_of l))
+          → g p ≤ sum_by g (values_of (e ∷ l))
       go true is later =
           let here : Some e.1 ≡ Some p = sym (ap (λ (b : Bool). cond b (Some e.1) (object_at n l)) is) ∙ h in
           let one : e.1 ≡ p = cc in
@@ -193,15 +219,19 @@ module _ {B : Type 0} where
           omega (arith, both, some)
 
   -- a change that leaves counts
-  pub counted_same : (n : ℕ) (f : Placed B → Placed B) → ((p : Placed B) → ((f p).item).count ≡ (p.item).count) → (m : ℕ) (l : List (ℕ × Placed B)) → counted m (change_at n f l) ≡ counted m l
+  pub counted_same : (n : ℕ) (f : Placed B → Placed B) → ((p : Placed B) → ((f p).item).count ≡ (p.item).count)
+      → (m : ℕ) (l : List (ℕ × Placed B)) → counted m (change_at n f l) ≡ counted m l
   counted_same n f keeps m l = counted-change n f m l ∙ go (nat_eq n m) (object_at m l)
     where
-      go : (b : Bool) (v : Option (Placed B)) → option_map_or (λ object. (object.item).count) (cond b (option_map f v) v) 0 ≡ option_map_or (λ object. (object.item).count) v 0
+      go : (b : Bool) (v : Option (Placed B))
+          → option_map_or (λ object. (object.item).count) (cond b (option_map f v) v) 0
+          ≡ option_map_or (λ object. (object.item).count) v 0
       go false v = refl
       go true None = refl
       go true (Some p) = keeps p
 
-  length-written : (place : ℕ) (word : Word) (body : Body B) → length (words_of (with_word place word body)) ≡ length (words_of body)
+  length-written : (place : ℕ) (word : Word) (body : Body B) → length (words_of (with_word place word body))
+      ≡ length (words_of body)
   length-written place word (Script script) = length-set script.fields place word
   length-written place word (Array array) = length-set array.elements place word
   length-written place word (Host box) = refl
@@ -215,16 +245,21 @@ module _ {B : Type 0} where
     after_write = change_at n (written place word) (change_handle once_more (handle word) l)
 
     abbrev pub after_all : List (ℕ × Placed B)
-    after_all = change_handle once_less (handle before) (change_at n (written place word) (change_handle once_more (handle word) l))
+    after_all =
+        change_handle once_less (handle before)
+        (change_at n (written place word) (change_handle once_more (handle word) l))
 
     faces_first : (m : ℕ) → face_at m counted_first ≡ face_at m l
     faces_first m = handle_face once_more (λ p. refl) (handle word) m l
 
     -- the object that is written
-    pub there_first : (p : Placed B) × (object_at n counted_first ≡ Some p) × (slice_get (words_of (p.item).body) place ≡ Some before)
+    pub there_first : (p : Placed B) × (object_at n counted_first ≡ Some p)
+        × (slice_get (words_of (p.item).body) place ≡ Some before)
     there_first = go (object_at n counted_first) refl (object_at n l) refl there
       where
-        go : (v : Option (Placed B)) → object_at n counted_first ≡ v → (u : Option (Placed B)) → object_at n l ≡ u → IsSomeAnd u (λ object. slice_get (words_of (object.item).body) place ≡ Some before) → (p : Placed B) × (object_at n counted_first ≡ Some p) × (slice_get (words_of (p.item).body) place ≡ Some before)
+        go : (v : Option (Placed B)) → object_at n counted_first ≡ v → (u : Option (Placed B)) → object_at n l ≡ u
+            → IsSomeAnd u (λ object. slice_get (words_of (object.item).body) place ≡ Some before) → (p : Placed B)
+            × (object_at n counted_first ≡ Some p) × (slice_get (words_of (p.item).body) place ≡ Some before)
         go v is None was h = absurd h
         go None is (Some q) was h =
             let none = sym (ap (λ (w : Option (Placed B)). option_map face w) is) ∙ faces_first n ∙ ap (λ (w : Option (Placed B)). option_map face w) was in
@@ -289,13 +324,16 @@ module _ {B : Type 0} where
         ∙ ap (λ (v : Option (Living B)). cond (nat_eq n m) (option_map (with_field place word) v) v) (faces_first m))
         (λ m. omega (arith, count_all m, fields_all m, s.covered m))
       where
-        each : (b : Bool) (v : Option (Placed B)) → option_map face (cond b (option_map (written place word) v) v) ≡ cond b (option_map (with_field place word) (option_map face v)) (option_map face v)
+        each : (b : Bool) (v : Option (Placed B)) → option_map face (cond b (option_map (written place word) v) v)
+            ≡ cond b (option_map (with_field place word) (option_map face v)) (option_map face v)
         each false v = refl
         each true None = refl
         each true (Some p) = refl
 
     length_all : length after_all ≡ length l
-    length_all = handle_length once_less (λ p. refl) (handle before) after_write ∙ length-change n (written place word) counted_first ∙ handle_length once_more (λ p. refl) (handle word) l
+    length_all =
+        handle_length once_less (λ p. refl) (handle before) after_write
+        ∙ length-change n (written place word) counted_first ∙ handle_length once_more (λ p. refl) (handle word) l
 
     Waits : Placed B → Type 0
     Waits p = (p.item).count ≡ 0 → p.waiting ≡ true
@@ -304,10 +342,14 @@ module _ {B : Type 0} where
     Short p = length (words_of (p.item).body) ≤ 4096
 
     waiting_first : (m : ℕ) → IfSome (object_at m counted_first) (λ p. (p.item).count ≡ 0 → p.waiting ≡ true)
-    waiting_first = handle_each once_more (λ p. refl) (λ p. (p.item).count ≡ 0 → p.waiting ≡ true) (handle word) l (λ p k h is was none. absurd (omega arith)) s.waiting
+    waiting_first =
+        handle_each once_more (λ p. refl) (λ p. (p.item).count ≡ 0 → p.waiting ≡ true) (handle word) l
+        (λ p k h is was none. absurd (omega arith)) s.waiting
 
     waiting_write : (m : ℕ) → IfSome (object_at m after_write) (λ p. (p.item).count ≡ 0 → p.waiting ≡ true)
-    waiting_write = each-change (λ p. (p.item).count ≡ 0 → p.waiting ≡ true) n (written place word) counted_first (λ p is was. was) waiting_first
+    waiting_write =
+        each-change (λ p. (p.item).count ≡ 0 → p.waiting ≡ true) n (written place word) counted_first
+        (λ p is was. was) waiting_first
 
     short_write : (m : ℕ) → IfSome (object_at m after_write) (λ p. length (words_of (p.item).body) ≤ 4096)
     short_write =
@@ -324,8 +366,12 @@ module _ {B : Type 0} where
     sound_field = record {
       covered = λ m. omega (arith, count_all m, fields_all m, s.covered m);
       bounded = λ m. omega (arith, count_all m, fields_all m, s.bounded m);
-      waiting = handle_each once_less (λ p. refl) (λ p. (p.item).count ≡ 0 → p.waiting ≡ true) (handle before) after_write (λ p k h is was. less_waits p (some p k h is)) waiting_write;
-      short = handle_each once_less (λ p. refl) (λ p. length (words_of (p.item).body) ≤ 4096) (handle before) after_write (λ p k h is was. was) short_write;
+      waiting =
+          handle_each once_less (λ p. refl) (λ p. (p.item).count ≡ 0 → p.waiting ≡ true) (handle before) after_write
+          (λ p k h is was. less_waits p (some p k h is)) waiting_write;
+      short =
+          handle_each once_less (λ p. refl) (λ p. length (words_of (p.item).body) ≤ 4096) (handle before) after_write
+          (λ p k h is was. was) short_write;
       few = omega (arith, length_all, s.few);
     }
       where
@@ -336,22 +382,30 @@ module _ {B : Type 0} where
             omega (arith, counts, mine)
 
   -- objects with one face are in one slot, and hold the same words
-  pub in_face : (n slot : ℕ) (a b : List (ℕ × Placed B)) → face_at n a ≡ face_at n b → IsSomeAnd (object_at n b) (λ object. object.slot ≡ slot) → IsSomeAnd (object_at n a) (λ object. object.slot ≡ slot)
+  pub in_face : (n slot : ℕ) (a b : List (ℕ × Placed B)) → face_at n a ≡ face_at n b
+      → IsSomeAnd (object_at n b) (λ object. object.slot ≡ slot)
+      → IsSomeAnd (object_at n a) (λ object. object.slot ≡ slot)
   in_face n slot a b same h = go (object_at n a) (object_at n b) same h
     where
-      go : (v u : Option (Placed B)) → option_map face v ≡ option_map face u → IsSomeAnd u (λ object. object.slot ≡ slot) → IsSomeAnd v (λ object. object.slot ≡ slot)
+      go : (v u : Option (Placed B)) → option_map face v ≡ option_map face u
+          → IsSomeAnd u (λ object. object.slot ≡ slot) → IsSomeAnd v (λ object. object.slot ≡ slot)
       go v None e h = absurd h
       go None (Some q) e h = absurd (cc)
       go (Some p) (Some q) e h = let one : face p ≡ face q = cc in ap (λ (x : Living B). x.slot) one ∙ h
 
-  pub words_face : (P : List Word → Type 0) (n : ℕ) (a b : List (ℕ × Placed B)) → face_at n a ≡ face_at n b → IsSomeAnd (object_at n b) (λ object. P (words_of (object.item).body)) → IsSomeAnd (object_at n a) (λ object. P (words_of (object.item).body))
+  pub words_face : (P : List Word → Type 0) (n : ℕ) (a b : List (ℕ × Placed B)) → face_at n a ≡ face_at n b
+      → IsSomeAnd (object_at n b) (λ object. P (words_of (object.item).body))
+      → IsSomeAnd (object_at n a) (λ object. P (words_of (object.item).body))
   words_face P n a b same h = go (object_at n a) (object_at n b) same h
     where
-      go : (v u : Option (Placed B)) → option_map face v ≡ option_map face u → IsSomeAnd u (λ object. P (words_of (object.item).body)) → IsSomeAnd v (λ object. P (words_of (object.item).body))
+      go : (v u : Option (Placed B)) → option_map face v ≡ option_map face u
+          → IsSomeAnd u (λ object. P (words_of (object.item).body))
+          → IsSomeAnd v (λ object. P (words_of (object.item).body))
       go v None e h = absurd h
       go None (Some q) e h = absurd (cc)
       go (Some p) (Some q) e h = let one : face p ≡ face q = cc in subst (λ (x : Living B). P (words_of x.body)) (sym one) h
 
   -- what counting a handle first leaves of an object
-  pub face_more : (h : Option ℕ) (m : ℕ) (l : List (ℕ × Placed B)) → face_at m (change_handle once_more h l) ≡ face_at m l
+  pub face_more : (h : Option ℕ) (m : ℕ) (l : List (ℕ × Placed B)) → face_at m (change_handle once_more h l)
+      ≡ face_at m l
   face_more h m l = handle_face once_more (λ p. refl) h m l

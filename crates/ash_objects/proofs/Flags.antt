@@ -32,12 +32,14 @@ last_or slots slot k apart h =
     ]
 
 -- a flag that was read and is set
-pub flag_read : (flags : List Bool) (slot : ℕ) (b : Bool) → slot < length flags → b ≡ get_or flags slot b → b ≡ true → get_or flags slot false ≡ true
+pub flag_read : (flags : List Bool) (slot : ℕ) (b : Bool) → slot < length flags → b ≡ get_or flags slot b → b ≡ true
+    → get_or flags slot false ≡ true
 flag_read flags slot true within is set = get_or_default flags slot false true within ∙ sym is
 flag_read flags slot false within is set = cc
 
 -- a slot that is listed
-pub flag_set : (flags : List Bool) (slots : List ℕ) (room slot : ℕ) → slot < length flags → get_or flags slot false ≡ false → AreFlagged flags slots room → AreFlagged (slice_set flags slot true) (slots ++ slot ∷ []) room
+pub flag_set : (flags : List Bool) (slots : List ℕ) (room slot : ℕ) → slot < length flags → get_or flags slot false
+    ≡ false → AreFlagged flags slots room → AreFlagged (slice_set flags slot true) (slots ++ slot ∷ []) room
 flag_set flags slots room slot within clear a =
     let many = length-set flags slot true in
     let sums = sum_by-set (λ (b : Bool). cond {A = ℕ} (not b) 1 0) flags slot true false within in
@@ -52,9 +54,12 @@ flag_set flags slots room slot within clear a =
       fits = omega (arith, many, fits);
     }
   where
-    each : (k : ℕ) (b : Bool) → nat_eq slot k ≡ b → get_or (slice_set flags slot true) k false ≡ true → Contains (slots ++ slot ∷ []) k
+    each : (k : ℕ) (b : Bool) → nat_eq slot k ≡ b → get_or (slice_set flags slot true) k false ≡ true
+        → Contains (slots ++ slot ∷ []) k
     each k true same is = subst (λ (j : ℕ). Contains (slots ++ slot ∷ []) j) (eqb-true slot k same) (last_in slots slot)
-    each k false same is = Contains-append_left slots (slot ∷ []) k (a.listed k (sym (get_or-set_other flags slot k true false (apart_from slot k same)) ∙ is))
+    each k false same is =
+        Contains-append_left slots (slot ∷ []) k
+        (a.listed k (sym (get_or-set_other flags slot k true false (apart_from slot k same)) ∙ is))
 
     in_both : (k : ℕ) → Contains (slots ++ slot ∷ []) k → k < length flags
     in_both k h =
@@ -64,7 +69,8 @@ flag_set flags slots room slot within clear a =
         ]
 
 -- a slot that is taken from the list
-pub flag_cleared : (flags : List Bool) (slots rest : List ℕ) (room slot : ℕ) → slots ≡ rest ++ slot ∷ [] → AreFlagged flags slots room → AreFlagged (slice_set flags slot false) rest room
+pub flag_cleared : (flags : List Bool) (slots rest : List ℕ) (room slot : ℕ) → slots ≡ rest ++ slot ∷ []
+    → AreFlagged flags slots room → AreFlagged (slice_set flags slot false) rest room
 flag_cleared flags slots rest room slot is a =
     let many = length-set flags slot false in
     let within = a.within slot here in
@@ -75,7 +81,9 @@ flag_cleared flags slots rest room slot is a =
     let fits = a.fits in
     record {
       listed = λ k set. each k within (nat_eq slot k) refl set;
-      within = λ k h. rw many (a.within k (subst (λ (l : List ℕ). Contains l k) (sym is) (Contains-append_left rest (slot ∷ []) k h)));
+      within =
+          λ k h. rw many (a.within k
+          (subst (λ (l : List ℕ). Contains l k) (sym is) (Contains-append_left rest (slot ∷ []) k h)));
       once = omega (arith, sums, longer, one, once, many);
       fits = omega (arith, many, fits);
     }
@@ -83,7 +91,8 @@ flag_cleared flags slots rest room slot is a =
     here : Contains slots slot
     here = subst (λ (l : List ℕ). Contains l slot) (sym is) (last_in rest slot)
 
-    each : (k : ℕ) → slot < length flags → (b : Bool) → nat_eq slot k ≡ b → get_or (slice_set flags slot false) k false ≡ true → Contains rest k
+    each : (k : ℕ) → slot < length flags → (b : Bool) → nat_eq slot k ≡ b
+        → get_or (slice_set flags slot false) k false ≡ true → Contains rest k
     each k within true same set =
         let slot_is : slot ≡ k = eqb-true slot k same in
         let clear : get_or (slice_set flags slot false) k false ≡ false = sym (ap (λ (j : ℕ). get_or (slice_set flags slot false) j false) slot_is) ∙ get_or-set_same flags slot false false within in
@@ -97,7 +106,8 @@ none_set (suc m) zero = refl
 none_set (suc m) (suc i) = none_set m i
 
 -- flags for more slots
-pub flags_more : (flags : List Bool) (m : ℕ) (slots : List ℕ) (small room : ℕ) → length flags + m ≤ room → AreFlagged flags slots small → AreFlagged (flags ++ replicate m false) slots room
+pub flags_more : (flags : List Bool) (m : ℕ) (slots : List ℕ) (small room : ℕ) → length flags + m ≤ room
+    → AreFlagged flags slots small → AreFlagged (flags ++ replicate m false) slots room
 flags_more flags m slots small room more a =
     let longer = length-append flags (replicate m false) in
     let many = length-replicate m false in
@@ -111,7 +121,8 @@ flags_more flags m slots small room more a =
       fits = omega (arith, longer, many, more);
     }
   where
-    each : (k : ℕ) (b : Bool) → nat_lt k (length flags) ≡ b → get_or (flags ++ replicate m false) k false ≡ true → get_or flags k false ≡ true
+    each : (k : ℕ) (b : Bool) → nat_lt k (length flags) ≡ b → get_or (flags ++ replicate m false) k false ≡ true
+        → get_or flags k false ≡ true
     each k true below set = sym (get_or_append_left flags (replicate m false) false k (grind (arith, nat_tests))) ∙ set
     each k false below set =
         let above : length flags ≤ k = grind (arith, nat_tests) in
@@ -119,7 +130,8 @@ flags_more flags m slots small room more a =
         absurd (cc)
 
 -- the same flags with more room
-pub flags_room : (flags : List Bool) (slots : List ℕ) (small room : ℕ) → small ≤ room → AreFlagged flags slots small → AreFlagged flags slots room
+pub flags_room : (flags : List Bool) (slots : List ℕ) (small room : ℕ) → small ≤ room → AreFlagged flags slots small
+    → AreFlagged flags slots room
 flags_room flags slots small room more a = let fits = a.fits in record {
   listed = a.listed;
   within = a.within;

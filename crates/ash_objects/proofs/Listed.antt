@@ -30,14 +30,18 @@ module _ {B : Type 0} where
 
   -- no objects
   pub listed_none : (l : List (ℕ × Placed B)) (marks : Marks) → l ≡ [] → AreListed l marks
-  listed_none l marks is n = subst (λ (k : List (ℕ × Placed B)). IfSome (object_at n k) (λ object. (object.slot < marks.room) × ((object.item).touched ≡ true → Contains marks.slots object.slot))) (sym is) tt
+  listed_none l marks is n =
+      subst (λ (k : List (ℕ × Placed B)). IfSome (object_at n k) (λ object. (object.slot < marks.room)
+      × ((object.item).touched ≡ true → Contains marks.slots object.slot))) (sym is) tt
 
   -- objects that are seen as they were but for their counts, some of which may have gone
-  pub listed_left : (new old : List (ℕ × Placed B)) (marks : Marks) → ((m : ℕ) → Lives new m → face_at m new ≡ face_at m old) → AreListed old marks → AreListed new marks
+  pub listed_left : (new old : List (ℕ × Placed B)) (marks : Marks)
+      → ((m : ℕ) → Lives new m → face_at m new ≡ face_at m old) → AreListed old marks → AreListed new marks
   unfolding IsAt
   listed_left new old marks same h n = go (object_at n new) refl (object_at n old) refl (h n)
     where
-      go : (v : Option (Placed B)) → object_at n new ≡ v → (u : Option (Placed B)) → object_at n old ≡ u → IfSome u (IsAt marks) → IfSome v (IsAt marks)
+      go : (v : Option (Placed B)) → object_at n new ≡ v → (u : Option (Placed B)) → object_at n old ≡ u
+          → IfSome u (IsAt marks) → IfSome v (IsAt marks)
       go None is u at h = tt
       go (Some p) is u at h =
           let lives : Lives new n = subst (λ (v : Option (Placed B)). IsSome v) (sym is) refl in
@@ -52,19 +56,25 @@ module _ {B : Type 0} where
               let within = h.0 in
               (omega (arith, slot, within), λ yes. subst (λ (k : ℕ). Contains marks.slots k) slot (h.1 (sym flag ∙ yes)))
 
-  pub listed_faces : (new old : List (ℕ × Placed B)) (marks : Marks) → ((m : ℕ) → face_at m new ≡ face_at m old) → AreListed old marks → AreListed new marks
+  pub listed_faces : (new old : List (ℕ × Placed B)) (marks : Marks) → ((m : ℕ) → face_at m new ≡ face_at m old)
+      → AreListed old marks → AreListed new marks
   listed_faces new old marks same h = listed_left new old marks (λ m lives. same m) h
 
   -- an object that was changed in a slot that is listed
-  pub listed_change : (n slot : ℕ) (f : Placed B → Placed B) (l : List (ℕ × Placed B)) (marks : Marks) → ((p : Placed B) → (f p).slot ≡ p.slot) → IsIn n slot l → Contains marks.slots slot → AreListed l marks → AreListed (change_at n f l) marks
+  pub listed_change : (n slot : ℕ) (f : Placed B → Placed B) (l : List (ℕ × Placed B)) (marks : Marks)
+      → ((p : Placed B) → (f p).slot ≡ p.slot) → IsIn n slot l → Contains marks.slots slot → AreListed l marks
+      → AreListed (change_at n f l) marks
   unfolding IsAt
   listed_change n slot f l marks keeps here listed h m =
       subst (λ (v : Option (Placed B)). IfSome v (IsAt marks)) (sym (object_at-change n f m l)) (go (nat_eq n m) refl (object_at m l) refl (h m))
     where
       own : nat_eq n m ≡ true → (p : Placed B) → object_at m l ≡ Some p → p.slot ≡ slot
-      own same p is = subst (λ (v : Option (Placed B)). IsSomeAnd v (λ object. object.slot ≡ slot)) (ap (λ (k : ℕ). object_at k l) (eqb-true n m same) ∙ is) here
+      own same p is =
+          subst (λ (v : Option (Placed B)). IsSomeAnd v (λ object. object.slot ≡ slot))
+          (ap (λ (k : ℕ). object_at k l) (eqb-true n m same) ∙ is) here
 
-      go : (b : Bool) → nat_eq n m ≡ b → (v : Option (Placed B)) → object_at m l ≡ v → IfSome v (IsAt marks) → IfSome (cond b (option_map f v) v) (IsAt marks)
+      go : (b : Bool) → nat_eq n m ≡ b → (v : Option (Placed B)) → object_at m l ≡ v → IfSome v (IsAt marks)
+          → IfSome (cond b (option_map f v) v) (IsAt marks)
       go false same v is h = h
       go true same None is h = tt
       go true same (Some p) is h =
@@ -74,7 +84,8 @@ module _ {B : Type 0} where
           (omega (arith, stays, within), λ yes. subst (λ (k : ℕ). Contains marks.slots k) (sym (stays ∙ slot_is)) listed)
 
   -- a new object
-  pub listed_new : (n : ℕ) (p : Placed B) (l : List (ℕ × Placed B)) (marks : Marks) → p.slot < marks.room → ((p.item).touched ≡ true → Contains marks.slots p.slot) → AreListed l marks → AreListed (with_at n p l) marks
+  pub listed_new : (n : ℕ) (p : Placed B) (l : List (ℕ × Placed B)) (marks : Marks) → p.slot < marks.room
+      → ((p.item).touched ≡ true → Contains marks.slots p.slot) → AreListed l marks → AreListed (with_at n p l) marks
   unfolding IsAt
   listed_new n p l marks within listed h m =
       subst (λ (v : Option (Placed B)). IfSome v (IsAt marks)) (sym (object_at-with_at n p m l)) (go (nat_eq m n) (object_at m l) (h m))
@@ -84,30 +95,39 @@ module _ {B : Type 0} where
       go false v h = h
 
   -- the slot of an object can be listed
-  pub slot_within : (n slot : ℕ) (l : List (ℕ × Placed B)) (marks : Marks) → IsIn n slot l → AreListed l marks → slot < marks.room
+  pub slot_within : (n slot : ℕ) (l : List (ℕ × Placed B)) (marks : Marks) → IsIn n slot l → AreListed l marks
+      → slot < marks.room
   slot_within n slot l marks here h = go (object_at n l) here (h n)
     where
-      go : (v : Option (Placed B)) → IsSomeAnd v (λ object. object.slot ≡ slot) → IfSome v (λ object. (object.slot < marks.room) × ((object.item).touched ≡ true → Contains marks.slots object.slot)) → slot < marks.room
+      go : (v : Option (Placed B)) → IsSomeAnd v (λ object. object.slot ≡ slot)
+          → IfSome v (λ object. (object.slot < marks.room)
+          × ((object.item).touched ≡ true → Contains marks.slots object.slot)) → slot < marks.room
       go None is h = absurd is
       go (Some p) is h = let within = h.0 in omega (arith, is, within)
 
   -- one mark that was cleared
-  pub listed_cleared : (n : ℕ) (l : List (ℕ × Placed B)) (marks : Marks) → AreListed l marks → AreListed (change_at n unmarked l) marks
+  pub listed_cleared : (n : ℕ) (l : List (ℕ × Placed B)) (marks : Marks) → AreListed l marks
+      → AreListed (change_at n unmarked l) marks
   unfolding IsAt
   listed_cleared n l marks h m =
       subst (λ (v : Option (Placed B)). IfSome v (IsAt marks)) (sym (object_at-change n unmarked m l)) (go (nat_eq n m) (object_at m l) (h m))
     where
-      go : (b : Bool) (v : Option (Placed B)) → IfSome v (IsAt marks) → IfSome (cond b (option_map unmarked v) v) (IsAt marks)
+      go : (b : Bool) (v : Option (Placed B)) → IfSome v (IsAt marks)
+          → IfSome (cond b (option_map unmarked v) v) (IsAt marks)
       go false v h = h
       go true None h = tt
       go true (Some p) h = (h.0, λ yes. absurd (cc))
 
   -- a slot that was taken from the list, once no object in it has a mark
-  pub listed_taken : (slot : ℕ) (l : List (ℕ × Placed B)) (a b : Marks) → a.slots ≡ b.slots ++ slot ∷ [] → b.room ≡ a.room → ((m : ℕ) → IfSome (object_at m l) (λ object. object.slot ≡ slot → (object.item).touched ≡ false)) → AreListed l a → AreListed l b
+  pub listed_taken : (slot : ℕ) (l : List (ℕ × Placed B)) (a b : Marks) → a.slots ≡ b.slots ++ slot ∷ []
+      → b.room ≡ a.room
+      → ((m : ℕ) → IfSome (object_at m l) (λ object. object.slot ≡ slot → (object.item).touched ≡ false))
+      → AreListed l a → AreListed l b
   unfolding IsAt
   listed_taken slot l a b is room clear h m = go (object_at m l) (clear m) (h m)
     where
-      go : (v : Option (Placed B)) → IfSome v (λ object. object.slot ≡ slot → (object.item).touched ≡ false) → IfSome v (IsAt a) → IfSome v (IsAt b)
+      go : (v : Option (Placed B)) → IfSome v (λ object. object.slot ≡ slot → (object.item).touched ≡ false)
+          → IfSome v (IsAt a) → IfSome v (IsAt b)
       go None clear h = tt
       go (Some p) clear h =
           let within = h.0 in

@@ -13,7 +13,7 @@ use Rattle.ash_host.proofs.Order.{object_at-with_at, in_order-with_at, same_in_o
 use Rattle.ash_slots.specs.Bodies.{words_of}
 use Rattle.ash_slots.specs.Store.{Placed, IsIn}
 use Rattle.ash_objects.specs.Table.{Living, Table, slot_of}
-use Rattle.ash_objects.specs.Making.{made, with_made, first_of_kind}
+use Rattle.ash_objects.specs.Making.{new_object, with_new_object, first_of_kind}
 use Rattle.std.specs.List.{remove}
 use Rattle.ash_host.specs.declared.host_object.HostObject.{Ghosts}
 use Rattle.ash_slots.specs.declared.body.Body.{Body}
@@ -30,7 +30,8 @@ length-with_at n v [] = omega arith
 length-with_at {A} n v (e ∷ l) =
     go (nat_cmp n e.0) (length-with_at n v l)
   where
-    go : (b : Ordering) → length (with_at n v l) ≤ length l + 1 → length (match_ordering b ((n, v) ∷ e ∷ l) ((e.0, v) ∷ l) (e ∷ with_at n v l)) ≤ suc (length l) + 1
+    go : (b : Ordering) → length (with_at n v l) ≤ length l + 1
+        → length (match_ordering b ((n, v) ∷ e ∷ l) ((e.0, v) ∷ l) (e ∷ with_at n v l)) ≤ suc (length l) + 1
     go Less later = omega arith
     go Equal later = omega arith
     go Greater later = omega (arith, later)
@@ -42,12 +43,16 @@ module _ {B : Type 0} (n : ℕ) (p : Placed B) (l : List (ℕ × Placed B)) (o :
 
   -- where it is
   pub words_new : words_at n (with_at n p l) ≡ words_of (p.item).body
-  words_new = ap (λ (v : Option (Placed B)). option_map_or (λ object. words_of (object.item).body) v []) (at_new n ∙ ap (λ (b : Bool). cond b (Some p) (object_at n l)) (eq-eqb n n refl))
+  words_new =
+      ap (λ (v : Option (Placed B)). option_map_or (λ object. words_of (object.item).body) v []) (at_new n
+      ∙ ap (λ (b : Bool). cond b (Some p) (object_at n l)) (eq-eqb n n refl))
 
   pub slot_new : IsIn n p.slot (with_at n p l)
-  slot_new = subst (λ (v : Option (Placed B)). IsSomeAnd v (λ object. object.slot ≡ p.slot)) (sym (at_new n ∙ ap (λ (b : Bool). cond b (Some p) (object_at n l)) (eq-eqb n n refl))) refl
+  slot_new =
+      subst (λ (v : Option (Placed B)). IsSomeAnd v (λ object. object.slot ≡ p.slot))
+      (sym (at_new n ∙ ap (λ (b : Bool). cond b (Some p) (object_at n l)) (eq-eqb n n refl))) refl
 
-  -- who lived lives
+  -- what lived lives
   alive_more : (h : Option ℕ) → IfSome h (Lives l) → IfSome h (Lives (with_at n p l))
   alive_more None h = tt
   alive_more (Some m) h = subst (λ (v : Option (Placed B)). IsSome v) (sym (at_new m)) (go (nat_eq m n) (object_at m l) h)
@@ -68,14 +73,16 @@ module _ {B : Type 0} (n : ℕ) (p : Placed B) (l : List (ℕ × Placed B)) (o :
   counted_new : (m : ℕ) → counted m (with_at n p l) ≡ counted m l
   counted_new m = ap (λ (v : Option (Placed B)). option_map_or (λ object. (object.item).count) v 0) (at_new m) ∙ go (nat_eq m n) refl
     where
-      go : (b : Bool) → nat_eq m n ≡ b → option_map_or (λ object. (object.item).count) (cond b (Some p) (object_at m l)) 0 ≡ counted m l
+      go : (b : Bool) → nat_eq m n ≡ b
+          → option_map_or (λ object. (object.item).count) (cond b (Some p) (object_at m l)) 0 ≡ counted m l
       go false is = refl
       go true is =
           let nothing : object_at m l ≡ None = ap (λ (k : ℕ). object_at k l) (eqb-true m n is) ∙ none in
           fresh ∙ sym (ap (λ (v : Option (Placed B)). option_map_or (λ object. (object.item).count) v 0) nothing)
 
   -- no count comes near what the code can hold
-  pub fits_new : (m : ℕ) → length (words_of (p.item).body) ≤ 4096 → counted m (with_at n p l) + length (words_at n (with_at n p l)) < 2 ^ 128
+  pub fits_new : (m : ℕ) → length (words_of (p.item).body) ≤ 4096
+      → counted m (with_at n p l) + length (words_at n (with_at n p l)) < 2 ^ 128
   fits_new m short =
       let words = ap length words_new in
       let small = counted_fits m l o s in
@@ -85,41 +92,48 @@ module _ {B : Type 0} (n : ℕ) (p : Placed B) (l : List (ℕ × Placed B)) (o :
   abbrev pub after_new : List (ℕ × Placed B)
   after_new = refer_all (words_of (p.item).body) (with_at n p l)
 
-  count_after : (m : ℕ) → counted m (refer_all (words_of (p.item).body) (with_at n p l)) ≡ counted m l + handles_to m (words_of (p.item).body)
+  count_after : (m : ℕ) → counted m (refer_all (words_of (p.item).body) (with_at n p l))
+      ≡ counted m l + handles_to m (words_of (p.item).body)
   count_after m = omega (arith, all_counted (words_of (p.item).body) m (with_at n p l) alive_new, counted_new m)
 
-  fields_after : (m : ℕ) → fields_in m (refer_all (words_of (p.item).body) (with_at n p l)) ≡ fields_in m l + handles_to m (words_of (p.item).body)
+  fields_after : (m : ℕ) → fields_in m (refer_all (words_of (p.item).body) (with_at n p l))
+      ≡ fields_in m l + handles_to m (words_of (p.item).body)
   fields_after m = omega (arith, all_fields (words_of (p.item).body) m (with_at n p l), fields_new m)
 
   -- what a contract sees: one object more, which nothing holds
-  pub view_new : (p.item).touched ≡ true → living_in (refer_all (words_of (p.item).body) (with_at n p l)) ≡ with_at n (made p.slot (p.item).body) (living_in l)
+  pub view_new : (p.item).touched ≡ true → living_in (refer_all (words_of (p.item).body) (with_at n p l))
+      ≡ with_at n (new_object p.slot (p.item).body) (living_in l)
   view_new touched =
-      same_in_order (living_in after_new) (with_at n (made p.slot (p.item).body) (living_in l)) (rw (numbers-living after_new after_new) (all_order (words_of (p.item).body) (with_at n p l) (in_order-with_at n p l o))) (in_order-with_at n (made p.slot (p.item).body) (living_in l) (rw (numbers-living l l) o))
+      same_in_order (living_in after_new) (with_at n (new_object p.slot (p.item).body) (living_in l)) (rw (numbers-living after_new after_new) (all_order (words_of (p.item).body) (with_at n p l) (in_order-with_at n p l o))) (in_order-with_at n (new_object p.slot (p.item).body) (living_in l) (rw (numbers-living l l) o))
       (λ m.
       object_at-living m after_new after_new
       ∙ living_face m after_new (fields_in m after_new)
       ∙ ap (λ (v : Option (Living B)). option_map (with_holds (counted m after_new - fields_in m after_new)) v) (all_face (words_of (p.item).body) m (with_at n p l) ∙ ap (λ (v : Option (Placed B)). option_map face v) (at_new m))
       ∙ ap (λ (k : ℕ). option_map (with_holds k) (option_map face (cond (nat_eq m n) (Some p) (object_at m l)))) (holds m)
       ∙ each m (nat_eq m n) refl
-      ∙ ap (λ (v : Option (Living B)). cond (nat_eq m n) (Some (made p.slot (p.item).body)) v) (sym (object_at-living m l l ∙ living_face m l (fields_in m l)))
-      ∙ sym (object_at-with_at n (made p.slot (p.item).body) m (living_in l)))
+      ∙ ap (λ (v : Option (Living B)). cond (nat_eq m n) (Some (new_object p.slot (p.item).body)) v) (sym (object_at-living m l l ∙ living_face m l (fields_in m l)))
+      ∙ sym (object_at-with_at n (new_object p.slot (p.item).body) m (living_in l)))
     where
       holds : (m : ℕ) → counted m after_new - fields_in m after_new ≡ counted m l - fields_in m l
       holds m = omega (arith, count_after m, fields_after m, s.covered m)
 
-      here : (k : ℕ) → k ≡ 0 → with_holds k (face p) ≡ made p.slot (p.item).body
+      here : (k : ℕ) → k ≡ 0 → with_holds k (face p) ≡ new_object p.slot (p.item).body
       here k is =
           ap (λ (h : ℕ). record { slot = p.slot; holds = h; touched = (p.item).touched; body = (p.item).body }) is
           ∙ ap (λ (t : Bool). record { slot = p.slot; holds = 0; touched = t; body = (p.item).body }) touched
 
-      each : (m : ℕ) (b : Bool) → nat_eq m n ≡ b → option_map (with_holds (counted m l - fields_in m l)) (option_map face (cond b (Some p) (object_at m l))) ≡ cond b (Some (made p.slot (p.item).body)) (option_map (with_holds (counted m l - fields_in m l)) (face_at m l))
+      each : (m : ℕ) (b : Bool) → nat_eq m n ≡ b
+          → option_map (with_holds (counted m l - fields_in m l)) (option_map face (cond b (Some p) (object_at m l)))
+          ≡ cond b (Some (new_object p.slot (p.item).body))
+          (option_map (with_holds (counted m l - fields_in m l)) (face_at m l))
       each m false is = refl
       each m true is =
           let nothing : object_at m l ≡ None = ap (λ (k : ℕ). object_at k l) (eqb-true m n is) ∙ none in
           let zero_count : counted m l ≡ 0 = ap (λ (v : Option (Placed B)). option_map_or (λ object. (object.item).count) v 0) nothing in
           ap Some (here (counted m l - fields_in m l) (omega (arith, zero_count)))
 
-  each_new : (P : Placed B → Type 0) → P p → ((m : ℕ) → IfSome (object_at m l) P) → (m : ℕ) → IfSome (object_at m (with_at n p l)) P
+  each_new : (P : Placed B → Type 0) → P p → ((m : ℕ) → IfSome (object_at m l) P) → (m : ℕ)
+      → IfSome (object_at m (with_at n p l)) P
   each_new P mine each m = subst (λ (v : Option (Placed B)). IfSome v P) (sym (at_new m)) (go (nat_eq m n) (each m))
     where
       go : (b : Bool) → IfSome (object_at m l) P → IfSome (cond b (Some p) (object_at m l)) P
@@ -134,14 +148,21 @@ module _ {B : Type 0} (n : ℕ) (p : Placed B) (l : List (ℕ × Placed B)) (o :
       go true is h = let same = eqb-true m n is in (omega (arith, same, later), omega (arith, same))
       go false is h = let g = given m h in (g.0, let g1 = g.1 in omega (arith, g1, later))
 
-  pub table_new : (last settled : ℕ) → AreGiven last l → settled ≤ last → p.waiting ≡ true → length (words_of (p.item).body) ≤ 4096 → length l < 4096 → last < n → IsTable (refer_all (words_of (p.item).body) (with_at n p l)) n settled
+  pub table_new : (last settled : ℕ) → AreGiven last l → settled ≤ last → p.waiting ≡ true
+      → length (words_of (p.item).body) ≤ 4096 → length l < 4096 → last < n
+      → IsTable (refer_all (words_of (p.item).body) (with_at n p l)) n settled
   table_new last settled given cleared waits short few later = record {
     in_order = all_order (words_of (p.item).body) (with_at n p l) (in_order-with_at n p l o);
     counted = record {
       covered = λ m. omega (arith, fields_after m, count_after m, s.covered m);
       bounded = λ m. omega (arith, fields_after m, count_after m, s.bounded m);
-      waiting = all_each (λ x. (x.item).count ≡ 0 → x.waiting ≡ true) (words_of (p.item).body) (with_at n p l) (λ x h zero. absurd (omega arith)) (each_new (λ x. (x.item).count ≡ 0 → x.waiting ≡ true) (λ zero. waits) s.waiting);
-      short = all_each (λ x. length (words_of (x.item).body) ≤ 4096) (words_of (p.item).body) (with_at n p l) (λ x h. h) (each_new (λ x. length (words_of (x.item).body) ≤ 4096) short s.short);
+      waiting =
+          all_each (λ x. (x.item).count ≡ 0 → x.waiting ≡ true) (words_of (p.item).body) (with_at n p l)
+          (λ x h zero. absurd (omega arith)) (each_new (λ x. (x.item).count ≡ 0 → x.waiting ≡ true)
+          (λ zero. waits) s.waiting);
+      short =
+          all_each (λ x. length (words_of (x.item).body) ≤ 4096) (words_of (p.item).body) (with_at n p l)
+          (λ x h. h) (each_new (λ x. length (words_of (x.item).body) ≤ 4096) short s.short);
       few = let longer = length-with_at n p l in omega (arith, all_length (words_of (p.item).body) (with_at n p l), longer, few);
     };
     given = all_given n (words_of (p.item).body) (with_at n p l) (given_new last given later);
@@ -168,34 +189,34 @@ got (y ∷ xs) zero x within is = ap Some (sym is)
 got (y ∷ xs) (suc i) x within is = got xs i x (omega arith) is
 
 -- what a box that is drawn leaves
-pub drawn_is : {B : Type 0} (G : Ghosts B) (kind : ℕ) (t : Table B) (n slot place : ℕ) (box : B) (objects : List (ℕ × Living B)) (pool : List B) → first_of_kind G kind t ≡ Some place → slice_get t.pool place ≡ Some box → n ≡ t.last + 1 → objects ≡ with_at n (made slot (Host box)) t.objects → pool ≡ remove t.pool place → IsSomeAnd (first_of_kind G kind t) (λ place. IsSomeAnd (slice_get t.pool place) (λ box. IsSomeAnd (slot_of n (record t { objects = objects; pool = pool; last = n })) (λ slot. record t { objects = objects; pool = pool; last = n } ≡ record (with_made slot (Host box) t) { pool = remove t.pool place })))
+pub drawn_is : {B : Type 0} (G : Ghosts B) (kind : ℕ) (t : Table B) (n slot place : ℕ) (box : B) (objects : List (ℕ × Living B)) (pool : List B) → first_of_kind G kind t ≡ Some place → slice_get t.pool place ≡ Some box → n ≡ t.last + 1 → objects ≡ with_at n (new_object slot (Host box)) t.objects → pool ≡ remove t.pool place → IsSomeAnd (first_of_kind G kind t) (λ place. IsSomeAnd (slice_get t.pool place) (λ box. IsSomeAnd (slot_of n (record t { objects = objects; pool = pool; last = n })) (λ slot. record t { objects = objects; pool = pool; last = n } ≡ record (with_new_object slot (Host box) t) { pool = remove t.pool place })))
 drawn_is {B} G kind t n slot place box objects pool first there number put taken =
     rw (first, there, slot_is) final
   where
     slot_is : slot_of n (record t { objects = objects; pool = pool; last = n }) ≡ Some slot
     slot_is =
         ap (λ (l : List (ℕ × Living B)). option_map (λ object. object.slot) (object_at n l)) put
-        ∙ ap (λ (v : Option (Living B)). option_map (λ object. object.slot) v) (object_at-with_at n (made slot (Host box)) n t.objects)
-        ∙ ap (λ (b : Bool). option_map (λ object. object.slot) (cond b (Some (made slot (Host box))) (object_at n t.objects))) (eq-eqb n n refl)
+        ∙ ap (λ (v : Option (Living B)). option_map (λ object. object.slot) v) (object_at-with_at n (new_object slot (Host box)) n t.objects)
+        ∙ ap (λ (b : Bool). option_map (λ object. object.slot) (cond b (Some (new_object slot (Host box))) (object_at n t.objects))) (eq-eqb n n refl)
 
-    final : record t { objects = objects; pool = pool; last = n } ≡ record (with_made slot (Host box) t) { pool = remove t.pool place }
+    final : record t { objects = objects; pool = pool; last = n } ≡ record (with_new_object slot (Host box) t) { pool = remove t.pool place }
     final =
         ap (λ (l : List (ℕ × Living B)). record t { objects = l; pool = pool; last = n }) put
-        ∙ ap (λ (p : List B). record t { objects = with_at n (made slot (Host box)) t.objects; pool = p; last = n }) taken
-        ∙ ap (λ (k : ℕ). record t { objects = with_at k (made slot (Host box)) t.objects; pool = remove t.pool place; last = k }) number
+        ∙ ap (λ (p : List B). record t { objects = with_at n (new_object slot (Host box)) t.objects; pool = p; last = n }) taken
+        ∙ ap (λ (k : ℕ). record t { objects = with_at k (new_object slot (Host box)) t.objects; pool = remove t.pool place; last = k }) number
 
 -- what an object that is made leaves
-pub made_is : {B : Type 0} (t : Table B) (n slot : ℕ) (body : Body B) (objects : List (ℕ × Living B)) → n ≡ t.last + 1 → objects ≡ with_at n (made slot body) t.objects → IsSomeAnd (slot_of n (record t { objects = objects; last = n })) (λ slot. record t { objects = objects; last = n } ≡ with_made slot body t)
+pub made_is : {B : Type 0} (t : Table B) (n slot : ℕ) (body : Body B) (objects : List (ℕ × Living B)) → n ≡ t.last + 1 → objects ≡ with_at n (new_object slot body) t.objects → IsSomeAnd (slot_of n (record t { objects = objects; last = n })) (λ slot. record t { objects = objects; last = n } ≡ with_new_object slot body t)
 made_is {B} t n slot body objects number put =
     rw slot_is final
   where
     slot_is : slot_of n (record t { objects = objects; last = n }) ≡ Some slot
     slot_is =
         ap (λ (l : List (ℕ × Living B)). option_map (λ object. object.slot) (object_at n l)) put
-        ∙ ap (λ (v : Option (Living B)). option_map (λ object. object.slot) v) (object_at-with_at n (made slot body) n t.objects)
-        ∙ ap (λ (b : Bool). option_map (λ object. object.slot) (cond b (Some (made slot body)) (object_at n t.objects))) (eq-eqb n n refl)
+        ∙ ap (λ (v : Option (Living B)). option_map (λ object. object.slot) v) (object_at-with_at n (new_object slot body) n t.objects)
+        ∙ ap (λ (b : Bool). option_map (λ object. object.slot) (cond b (Some (new_object slot body)) (object_at n t.objects))) (eq-eqb n n refl)
 
-    final : record t { objects = objects; last = n } ≡ with_made slot body t
+    final : record t { objects = objects; last = n } ≡ with_new_object slot body t
     final =
         ap (λ (l : List (ℕ × Living B)). record t { objects = l; last = n }) put
-        ∙ ap (λ (k : ℕ). record t { objects = with_at k (made slot body) t.objects; last = k }) number
+        ∙ ap (λ (k : ℕ). record t { objects = with_at k (new_object slot body) t.objects; last = k }) number

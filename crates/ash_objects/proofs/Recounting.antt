@@ -15,7 +15,7 @@ use Rattle.ash_objects.specs.Restoring.{refer_objects}
 use Rattle.ash_objects.proofs.Referring.{all_face, all_fields, all_order, all_length, all_each, all_counted, all_alive_face, words_at_face}
 
 module _ {A : Type 0} where
-  -- each of these entries stands among all
+  -- each of these entries is among all
   abbrev pub EachIn : List (ℕ × A) → List (ℕ × A) → Type 0
   EachIn [] all = Unit {0}
   EachIn (e ∷ l) all = (object_at e.0 all ≡ Some e.1) × EachIn l all
@@ -32,7 +32,8 @@ module _ {A : Type 0} where
   each_in (e ∷ l) o = (object_here e l, each_later e l l o (each_in l (in_order_after e l o)))
 
   -- what holds of each number that lives holds of all
-  all_numbers_in : (P : ℕ → Type 0) (s l : List (ℕ × A)) → EachIn s l → ((n : ℕ) → Lives l n → P n) → (k d : ℕ) → k < length (numbers s) → P (get_or (numbers s) k d)
+  all_numbers_in : (P : ℕ → Type 0) (s l : List (ℕ × A)) → EachIn s l → ((n : ℕ) → Lives l n → P n) → (k d : ℕ)
+      → k < length (numbers s) → P (get_or (numbers s) k d)
   all_numbers_in P [] l h each k d within = absurd (omega arith)
   all_numbers_in P (e ∷ s) l h each zero d within = each e.0 (subst (λ (v : Option A). IsSome v) (sym h.0) refl)
   all_numbers_in P (e ∷ s) l h each (suc k) d within = all_numbers_in P s l h.1 each k d (omega arith)
@@ -50,7 +51,8 @@ module _ {B : Type 0} where
   referred_face [] m l = refl
   referred_face (n ∷ ns) m l = referred_face ns m (refer_all (words_at n l) l) ∙ all_face (words_at n l) m l
 
-  pub referred_fields : (ns : List ℕ) (m : ℕ) (l : List (ℕ × Placed B)) → fields_in m (refer_objects ns l) ≡ fields_in m l
+  pub referred_fields : (ns : List ℕ) (m : ℕ) (l : List (ℕ × Placed B)) → fields_in m (refer_objects ns l)
+      ≡ fields_in m l
   referred_fields [] m l = refl
   referred_fields (n ∷ ns) m l = referred_fields ns m (refer_all (words_at n l) l) ∙ all_fields (words_at n l) m l
 
@@ -62,9 +64,13 @@ module _ {B : Type 0} where
   referred_length [] l = refl
   referred_length (n ∷ ns) l = referred_length ns (refer_all (words_at n l) l) ∙ all_length (words_at n l) l
 
-  pub referred_waits : (ns : List ℕ) (l : List (ℕ × Placed B)) → ((m : ℕ) → IfSome (object_at m l) (λ p. p.waiting ≡ true)) → (m : ℕ) → IfSome (object_at m (refer_objects ns l)) (λ p. p.waiting ≡ true)
+  pub referred_waits : (ns : List ℕ) (l : List (ℕ × Placed B))
+      → ((m : ℕ) → IfSome (object_at m l) (λ p. p.waiting ≡ true)) → (m : ℕ)
+      → IfSome (object_at m (refer_objects ns l)) (λ p. p.waiting ≡ true)
   referred_waits [] l each = each
-  referred_waits (n ∷ ns) l each = referred_waits ns (refer_all (words_at n l) l) (all_each (λ p. p.waiting ≡ true) (words_at n l) l (λ p h. h) each)
+  referred_waits (n ∷ ns) l each =
+      referred_waits ns (refer_all (words_at n l) l) (all_each (λ p. p.waiting ≡ true) (words_at n l) l
+      (λ p h. h) each)
 
   -- the words that are counted are those that are there, whatever was counted before
   pub words_after : (ws : List Word) (n : ℕ) (l : List (ℕ × Placed B)) → words_at n (refer_all ws l) ≡ words_at n l
@@ -74,7 +80,8 @@ module _ {B : Type 0} where
   live_after ws vs l alive = all_alive_face vs (refer_all ws l) l (λ k. all_face ws k l) alive
 
   -- each count rises by the handles of all
-  referred_counted : (ns : List ℕ) (m : ℕ) (l : List (ℕ × Placed B)) → ((n : ℕ) → AllLive l (words_at n l)) → counted m (refer_objects ns l) ≡ counted m l + sum_by (λ n. handles_to m (words_at n l)) ns
+  referred_counted : (ns : List ℕ) (m : ℕ) (l : List (ℕ × Placed B)) → ((n : ℕ) → AllLive l (words_at n l))
+      → counted m (refer_objects ns l) ≡ counted m l + sum_by (λ n. handles_to m (words_at n l)) ns
   referred_counted [] m l alive = omega arith
   referred_counted (n ∷ ns) m l alive =
       let first = all_counted (words_at n l) m l (alive n) in
@@ -83,7 +90,8 @@ module _ {B : Type 0} where
       let sums = sum_by-cons (λ k. handles_to m (words_at k l)) n ns in
       omega (arith, first, rest, same, sums)
 
-  sum_numbers : (m : ℕ) (s l : List (ℕ × Placed B)) → EachIn s l → sum_by (λ n. handles_to m (words_at n l)) (numbers s) ≡ sum_by (holding m) (values_of s)
+  sum_numbers : (m : ℕ) (s l : List (ℕ × Placed B)) → EachIn s l
+      → sum_by (λ n. handles_to m (words_at n l)) (numbers s) ≡ sum_by (holding m) (values_of s)
   sum_numbers m [] l h = refl
   sum_numbers m (e ∷ s) l h =
       let here = ap (λ (v : Option (Placed B)). handles_to m (option_map_or (λ object. words_of (object.item).body) v [])) h.0 in
@@ -92,11 +100,14 @@ module _ {B : Type 0} where
       omega (arith, here, one, two, sum_numbers m s l h.1)
 
   -- counts that were 0 are the handles in fields and elements
-  pub referred_all : (m : ℕ) (l : List (ℕ × Placed B)) → IsInOrder l → ((k : ℕ) → counted k l ≡ 0) → ((n : ℕ) → AllLive l (words_at n l)) → counted m (refer_objects (numbers l) l) ≡ fields_in m l
-  referred_all m l o none alive = omega (arith, referred_counted (numbers l) m l alive, none m, sum_numbers m l l (each_in l o))
+  pub referred_all : (m : ℕ) (l : List (ℕ × Placed B)) → IsInOrder l → ((k : ℕ) → counted k l ≡ 0)
+      → ((n : ℕ) → AllLive l (words_at n l)) → counted m (refer_objects (numbers l) l) ≡ fields_in m l
+  referred_all m l o none alive =
+      omega (arith, referred_counted (numbers l) m l alive, none m, sum_numbers m l l (each_in l o))
 
   -- the handles of one object raise a count by no more than it has words
-  pub raised : (m : ℕ) (ws : List Word) (l : List (ℕ × Placed B)) → AllLive l ws → counted m (refer_all ws l) ≤ counted m l + length ws
+  pub raised : (m : ℕ) (ws : List Word) (l : List (ℕ × Placed B)) → AllLive l ws
+      → counted m (refer_all ws l) ≤ counted m l + length ws
   raised m ws l alive =
       let few = count_by-le-length (is_handle_to m) ws in
       omega (arith, all_counted ws m l alive, few)
@@ -104,9 +115,13 @@ module _ {B : Type 0} where
   -- One object's turn, where counting so far left the faces of all.
   module _ (l cur : List (ℕ × Placed B)) (faces : (m : ℕ) → face_at m cur ≡ face_at m l) (n k : ℕ) (alive : AllLive l (words_at n l)) (short : length (words_at n l) ≤ 4096) (fits : (m : ℕ) → counted m cur ≤ 4096 * k) where
     alive_now : AllLive cur (words_at n cur)
-    alive_now = subst (λ (ws : List Word). AllLive cur ws) (sym (words_at_face n cur l (faces n))) (all_alive_face (words_at n l) cur l faces alive)
+    alive_now =
+        subst (λ (ws : List Word). AllLive cur ws) (sym (words_at_face n cur l (faces n)))
+        (all_alive_face (words_at n l) cur l faces alive)
 
-    pub turn_ready : (slot : ℕ) → IsIn n slot cur → k < 4096 → (number : ℕ) × IsIn number slot cur × AllLive cur (words_at number cur) × ((other : ℕ) → counted other cur + length (words_at number cur) < 2 ^ 128)
+    pub turn_ready : (slot : ℕ) → IsIn n slot cur → k < 4096 → (number : ℕ) × IsIn number slot cur
+        × AllLive cur (words_at number cur)
+        × ((other : ℕ) → counted other cur + length (words_at number cur) < 2 ^ 128)
     turn_ready slot is few = (
       n,
       is,
@@ -122,5 +137,6 @@ module _ {B : Type 0} where
     pub turn_faces : (m : ℕ) → face_at m (refer_all (words_at n cur) cur) ≡ face_at m l
     turn_faces m = all_face (words_at n cur) m cur ∙ faces m
 
-  pub turn_rest : (list : List ℕ) (n k : ℕ) (cur : List (ℕ × Placed B)) → drop k list ≡ n ∷ drop (k + 1) list → refer_objects (drop (k + 1) list) (refer_all (words_at n cur) cur) ≡ refer_objects (drop k list) cur
+  pub turn_rest : (list : List ℕ) (n k : ℕ) (cur : List (ℕ × Placed B)) → drop k list ≡ n ∷ drop (k + 1) list
+      → refer_objects (drop (k + 1) list) (refer_all (words_at n cur) cur) ≡ refer_objects (drop k list) cur
   turn_rest list n k cur is = sym (ap (λ (ns : List ℕ). refer_objects ns cur) is)

@@ -50,7 +50,8 @@ initial_none m (elements.Class _ _) = refl
 initial_none m (elements.Kind _) = refl
 
 -- the handles among elements that were added, and among those that stay and those that go
-handles_longer : (m many : ℕ) (array : arrays.Array) → handles_to m (lengthened many array) ≡ handles_to m array.elements
+handles_longer : (m many : ℕ) (array : arrays.Array) → handles_to m (lengthened many array)
+    ≡ handles_to m array.elements
 handles_longer m many array =
     let f : Word → ℕ = λ x. cond {A = ℕ} (is_handle_to m x) 1 0 in
     let k = many - length array.elements in
@@ -72,7 +73,8 @@ set_last [] first word = refl
 set_last (x ∷ ws) first word = ap (λ (l : List Word). x ∷ l) (set_last ws first word)
 
 -- one initial value more
-pub one_longer : (k : ℕ) (array : arrays.Array) → k ≡ length array.elements → lengthened (k + 1) array ≡ array.elements ++ initial_of array.element ∷ []
+pub one_longer : (k : ℕ) (array : arrays.Array) → k ≡ length array.elements → lengthened (k + 1) array
+    ≡ array.elements ++ initial_of array.element ∷ []
 one_longer k array is =
     let one : (k + 1) - length array.elements ≡ 1 = omega arith in
     ap (λ (j : ℕ). array.elements ++ replicate j (initial_of array.element)) one
@@ -83,56 +85,73 @@ module _ {B : Type 0} where
   words_array (Array own) array h = let same : own ≡ array = cc in ap (λ (y : arrays.Array). y.elements) same
   words_array (Host box) array h = cc
 
-  words_filled : (ws : List Word) (body : Body B) (array : arrays.Array) → array_of body ≡ Some array → words_of (with_words ws body) ≡ ws
+  words_filled : (ws : List Word) (body : Body B) (array : arrays.Array) → array_of body ≡ Some array
+      → words_of (with_words ws body) ≡ ws
   words_filled ws (Script script) array h = cc
   words_filled ws (Array own) array h = refl
   words_filled ws (Host box) array h = cc
 
-  pub words_twice : (ws others : List Word) (body : Body B) → with_words ws (with_words others body) ≡ with_words ws body
+  pub words_twice : (ws others : List Word) (body : Body B) → with_words ws (with_words others body)
+      ≡ with_words ws body
   words_twice ws others (Script script) = refl
   words_twice ws others (Array own) = refl
   words_twice ws others (Host box) = refl
 
-  short_filled : (ws : List Word) → length ws ≤ 4096 → (body : Body B) → length (words_of body) ≤ 4096 → length (words_of (with_words ws body)) ≤ 4096
+  short_filled : (ws : List Word) → length ws ≤ 4096 → (body : Body B) → length (words_of body) ≤ 4096
+      → length (words_of (with_words ws body)) ≤ 4096
   short_filled ws few (Script script) h = h
   short_filled ws few (Array own) h = few
   short_filled ws few (Host box) h = h
 
-  pub in_refilled : (n slot : ℕ) (ws : List Word) (l : List (ℕ × Placed B)) → IsIn n slot l → IsIn n slot (change_at n (refilled ws) l)
+  pub in_refilled : (n slot : ℕ) (ws : List Word) (l : List (ℕ × Placed B)) → IsIn n slot l
+      → IsIn n slot (change_at n (refilled ws) l)
   in_refilled n slot ws l h = subst (λ (v : Option (Placed B)). IsSomeAnd v (λ object. object.slot ≡ slot)) (sym (object_at-change n (refilled ws) n l)) (go (nat_eq n n) (object_at n l) h)
     where
-      go : (b : Bool) (v : Option (Placed B)) → IsSomeAnd v (λ object. object.slot ≡ slot) → IsSomeAnd (cond b (option_map (refilled ws) v) v) (λ object. object.slot ≡ slot)
+      go : (b : Bool) (v : Option (Placed B)) → IsSomeAnd v (λ object. object.slot ≡ slot)
+          → IsSomeAnd (cond b (option_map (refilled ws) v) v) (λ object. object.slot ≡ slot)
       go b None h = absurd h
       go true (Some p) h = h
       go false (Some p) h = h
 
   -- what a contract sees of an array is what is there
-  pub array_view : (n : ℕ) (l : List (ℕ × Placed B)) → option_and_then array_of (option_map (λ object. object.body) (object_at n (living_in l))) ≡ stored_array n l
+  pub array_view : (n : ℕ) (l : List (ℕ × Placed B))
+      → option_and_then array_of (option_map (λ object. object.body) (object_at n (living_in l))) ≡ stored_array n l
   array_view n l = ap (λ (v : Option (Body B)). option_and_then array_of v) (body_view n l) ∙ go (object_at n l)
     where
-      go : (v : Option (Placed B)) → option_and_then array_of (option_map (λ object. (object.item).body) v) ≡ option_and_then (λ object. array_of (object.item).body) v
+      go : (v : Option (Placed B)) → option_and_then array_of (option_map (λ object. (object.item).body) v)
+          ≡ option_and_then (λ object. array_of (object.item).body) v
       go None = refl
       go (Some p) = refl
 
   -- and so are its elements
-  pub elements_view : (n : ℕ) (l : List (ℕ × Placed B)) (it : Item B) → IsSomeAnd (object_at n l) (λ object. object.item ≡ it) → option_and_then elements_of (option_map (λ object. object.body) (object_at n (living_in l))) ≡ elements_of it.body
-  elements_view n l it mine = ap (λ (v : Option (Body B)). option_and_then elements_of v) (body_view n l ∙ body_item n l it mine)
+  pub elements_view : (n : ℕ) (l : List (ℕ × Placed B)) (it : Item B)
+      → IsSomeAnd (object_at n l) (λ object. object.item ≡ it)
+      → option_and_then elements_of (option_map (λ object. object.body) (object_at n (living_in l)))
+      ≡ elements_of it.body
+  elements_view n l it mine =
+      ap (λ (v : Option (Body B)). option_and_then elements_of v) (body_view n l ∙ body_item n l it mine)
 
-  pub found_array : (n : ℕ) (l : List (ℕ × Placed B)) → IsSome (option_and_then array_of (option_map (λ object. object.body) (object_at n (living_in l)))) → (array : arrays.Array) × (stored_array n l ≡ Some array)
+  pub found_array : (n : ℕ) (l : List (ℕ × Placed B))
+      → IsSome (option_and_then array_of (option_map (λ object. object.body) (object_at n (living_in l))))
+      → (array : arrays.Array) × (stored_array n l ≡ Some array)
   found_array n l h = some_of (stored_array n l) (subst (λ (v : Option arrays.Array). IsSome v) (array_view n l) h)
 
-  face_refilled : (n m : ℕ) (ws : List Word) (l : List (ℕ × Placed B)) → face_at m (change_at n (refilled ws) l) ≡ cond (nat_eq n m) (option_map (with_elements ws) (face_at m l)) (face_at m l)
+  face_refilled : (n m : ℕ) (ws : List Word) (l : List (ℕ × Placed B)) → face_at m (change_at n (refilled ws) l)
+      ≡ cond (nat_eq n m) (option_map (with_elements ws) (face_at m l)) (face_at m l)
   face_refilled n m ws l = ap (λ (v : Option (Placed B)). option_map face v) (object_at-change n (refilled ws) m l) ∙ each (nat_eq n m) (object_at m l)
     where
-      each : (b : Bool) (v : Option (Placed B)) → option_map face (cond b (option_map (refilled ws) v) v) ≡ cond b (option_map (with_elements ws) (option_map face v)) (option_map face v)
+      each : (b : Bool) (v : Option (Placed B)) → option_map face (cond b (option_map (refilled ws) v) v)
+          ≡ cond b (option_map (with_elements ws) (option_map face v)) (option_map face v)
       each false v = refl
       each true None = refl
       each true (Some p) = refl
 
-  array_face : (n : ℕ) (l : List (ℕ × Placed B)) → stored_array n l ≡ option_and_then (λ x. array_of x.body) (face_at n l)
+  array_face : (n : ℕ) (l : List (ℕ × Placed B))
+      → stored_array n l ≡ option_and_then (λ x. array_of x.body) (face_at n l)
   array_face n l = go (object_at n l)
     where
-      go : (v : Option (Placed B)) → option_and_then (λ object. array_of (object.item).body) v ≡ option_and_then (λ x. array_of x.body) (option_map face v)
+      go : (v : Option (Placed B)) → option_and_then (λ object. array_of (object.item).body) v
+          ≡ option_and_then (λ x. array_of x.body) (option_map face v)
       go None = refl
       go (Some p) = refl
 
@@ -150,7 +169,9 @@ module _ {B : Type 0} where
       go None h = cc
       go (Some p) h = body (p.item).body h
 
-  fields_refilled : (n m : ℕ) (ws : List Word) (l : List (ℕ × Placed B)) → IsInOrder l → (array : arrays.Array) → stored_array n l ≡ Some array → fields_in m (change_at n (refilled ws) l) + handles_to m array.elements ≡ fields_in m l + handles_to m ws
+  fields_refilled : (n m : ℕ) (ws : List Word) (l : List (ℕ × Placed B)) → IsInOrder l → (array : arrays.Array)
+      → stored_array n l ≡ Some array → fields_in m (change_at n (refilled ws) l) + handles_to m array.elements
+      ≡ fields_in m l + handles_to m ws
   fields_refilled n m ws l o array there =
       let sums = sum-change (holding m) n (refilled ws) l o in
       let at = go (object_at n l) there in
@@ -158,14 +179,17 @@ module _ {B : Type 0} where
       let now = at.1 in
       omega (arith, sums, was, now)
     where
-      go : (v : Option (Placed B)) → option_and_then (λ object. array_of (object.item).body) v ≡ Some array → (option_map_or (holding m) v 0 ≡ handles_to m array.elements) × (option_map_or (λ x. holding m (refilled ws x)) v 0 ≡ handles_to m ws)
+      go : (v : Option (Placed B)) → option_and_then (λ object. array_of (object.item).body) v ≡ Some array
+          → (option_map_or (holding m) v 0 ≡ handles_to m array.elements)
+          × (option_map_or (λ x. holding m (refilled ws x)) v 0 ≡ handles_to m ws)
       go None h = cc
       go (Some p) h = (
         ap (λ (k : List Word). handles_to m k) (words_array (p.item).body array h),
         ap (λ (k : List Word). handles_to m k) (words_filled ws (p.item).body array h),
       )
 
-  given_released : (last : ℕ) (ws : List Word) (l : List (ℕ × Placed B)) → AreGiven last l → AreGiven last (release_all ws l)
+  given_released : (last : ℕ) (ws : List Word) (l : List (ℕ × Placed B)) → AreGiven last l
+      → AreGiven last (release_all ws l)
   given_released last [] l given = given
   given_released last (w ∷ ws) l given = given_released last ws (change_handle once_less (handle w) l) (go (handle w))
     where
@@ -206,7 +230,8 @@ module _ {B : Type 0} where
         ∙ array_refilled n [] l array there
 
     pub in_released : (slot : ℕ) → IsIn n slot l → IsIn n slot (release_all cut emptied)
-    in_released slot h = in_face n slot (release_all cut emptied) emptied (released_face cut n emptied) (in_refilled n slot [] l h)
+    in_released slot h =
+        in_face n slot (release_all cut emptied) emptied (released_face cut n emptied) (in_refilled n slot [] l h)
 
     order_released : IsInOrder (release_all cut emptied)
     order_released = released_order cut emptied (in_order-change n (refilled []) l o)
@@ -226,7 +251,9 @@ module _ {B : Type 0} where
     order_after = in_order-change n (refilled ws) (release_all cut emptied) order_released
 
     length_after : length after_refill ≡ length l
-    length_after = length-change n (refilled ws) (release_all cut emptied) ∙ released_length cut emptied ∙ length-change n (refilled []) l
+    length_after =
+        length-change n (refilled ws) (release_all cut emptied) ∙ released_length cut emptied
+        ∙ length-change n (refilled []) l
 
     -- what a contract sees of the store after it
     pub view_refill : living_in after_refill ≡ change_at n (with_elements ws) (living_in l)
@@ -238,7 +265,9 @@ module _ {B : Type 0} where
         ∙ twice (nat_eq n m) (face_at m l))
         (λ m. omega (arith, count_after m, fields_after m, s.covered m))
       where
-        twice : (b : Bool) (v : Option (Living B)) → cond b (option_map (with_elements ws) (cond b (option_map (with_elements []) v) v)) (cond b (option_map (with_elements []) v) v) ≡ cond b (option_map (with_elements ws) v) v
+        twice : (b : Bool) (v : Option (Living B))
+            → cond b (option_map (with_elements ws) (cond b (option_map (with_elements []) v) v))
+            (cond b (option_map (with_elements []) v) v) ≡ cond b (option_map (with_elements ws) v) v
         twice false v = refl
         twice true None = refl
         twice true (Some x) = ap (λ (b : Body B). Some (record { slot = x.slot; holds = x.holds; touched = true; body = b })) (words_twice ws [] x.body)
@@ -266,15 +295,19 @@ module _ {B : Type 0} where
         short = short_after;
         few = omega (arith, length_after, s.few);
       };
-      given = given-change last n (refilled ws) (release_all cut emptied) (given_released last cut emptied (given-change last n (refilled []) l t.given));
+      given =
+          given-change last n (refilled ws) (release_all cut emptied)
+          (given_released last cut emptied (given-change last n (refilled []) l t.given));
       cleared = t.cleared;
     }
 
   -- an array is no longer than it may be
-  pub array_short : (n : ℕ) (l : List (ℕ × Placed B)) → AreCounted l → (array : arrays.Array) → stored_array n l ≡ Some array → length array.elements ≤ 4096
+  pub array_short : (n : ℕ) (l : List (ℕ × Placed B)) → AreCounted l → (array : arrays.Array)
+      → stored_array n l ≡ Some array → length array.elements ≤ 4096
   array_short n l s array there = go (object_at n l) (s.short n) there
     where
-      go : (v : Option (Placed B)) → IfSome v (λ object. length (words_of (object.item).body) ≤ 4096) → option_and_then (λ object. array_of (object.item).body) v ≡ Some array → length array.elements ≤ 4096
+      go : (v : Option (Placed B)) → IfSome v (λ object. length (words_of (object.item).body) ≤ 4096)
+          → option_and_then (λ object. array_of (object.item).body) v ≡ Some array → length array.elements ≤ 4096
       go None short h = cc
       go (Some p) short h = let same = ap length (words_array (p.item).body array h) in omega (arith, same, short)
 
@@ -284,19 +317,36 @@ module _ {B : Type 0} where
 
     -- elements were cut off
     pub covers_shorter : (m : ℕ) → handles_to m (drop len array.elements) ≤ counted m (change_at n (refilled []) l)
-    covers_shorter = covers_cut n array (drop len array.elements) (take len array.elements) (λ m. handles_split m len array.elements) short_cut l t.in_order t.counted there
+    covers_shorter =
+        covers_cut n array (drop len array.elements) (take len array.elements)
+        (λ m. handles_split m len array.elements) short_cut l t.in_order t.counted there
 
     pub array_shorter : IsSome (stored_array n (release_all (drop len array.elements) (change_at n (refilled []) l)))
-    array_shorter = subst (λ (v : Option arrays.Array). IsSome v) (sym (array_released n array (drop len array.elements) (take len array.elements) (λ m. handles_split m len array.elements) short_cut l t.in_order t.counted there)) refl
+    array_shorter =
+        subst (λ (v : Option arrays.Array). IsSome v)
+        (sym (array_released n array (drop len array.elements) (take len array.elements)
+        (λ m. handles_split m len array.elements) short_cut l t.in_order t.counted there)) refl
 
-    pub in_shorter : (slot : ℕ) → IsIn n slot l → IsIn n slot (release_all (drop len array.elements) (change_at n (refilled []) l))
-    in_shorter = in_released n array (drop len array.elements) (take len array.elements) (λ m. handles_split m len array.elements) short_cut l t.in_order t.counted there
+    pub in_shorter : (slot : ℕ) → IsIn n slot l
+        → IsIn n slot (release_all (drop len array.elements) (change_at n (refilled []) l))
+    in_shorter =
+        in_released n array (drop len array.elements) (take len array.elements)
+        (λ m. handles_split m len array.elements) short_cut l t.in_order t.counted there
 
-    pub view_shorter : living_in (change_at n (refilled (take len array.elements)) (release_all (drop len array.elements) (change_at n (refilled []) l))) ≡ change_at n (with_elements (take len array.elements)) (living_in l)
-    view_shorter = view_refill n array (drop len array.elements) (take len array.elements) (λ m. handles_split m len array.elements) short_cut l t.in_order t.counted there
+    pub view_shorter : living_in
+        (change_at n (refilled (take len array.elements))
+        (release_all (drop len array.elements) (change_at n (refilled []) l)))
+        ≡ change_at n (with_elements (take len array.elements)) (living_in l)
+    view_shorter =
+        view_refill n array (drop len array.elements) (take len array.elements)
+        (λ m. handles_split m len array.elements) short_cut l t.in_order t.counted there
 
-    pub table_shorter : IsTable (change_at n (refilled (take len array.elements)) (release_all (drop len array.elements) (change_at n (refilled []) l))) last settled
-    table_shorter = table_refill n array (drop len array.elements) (take len array.elements) (λ m. handles_split m len array.elements) short_cut l t.in_order t.counted there last settled t
+    pub table_shorter : IsTable
+        (change_at n (refilled (take len array.elements))
+        (release_all (drop len array.elements) (change_at n (refilled []) l))) last settled
+    table_shorter =
+        table_refill n array (drop len array.elements) (take len array.elements)
+        (λ m. handles_split m len array.elements) short_cut l t.in_order t.counted there last settled t
 
     -- initial values were added
     module _ (few : len ≤ 4096) where
@@ -311,14 +361,21 @@ module _ {B : Type 0} where
           let none : handles_to m [] ≡ 0 = refl in
           omega (arith, handles_longer m len array, none)
 
-      at_once : change_at n (refilled (lengthened len array)) (change_at n (refilled []) l) ≡ change_at n (refilled (lengthened len array)) l
+      at_once : change_at n (refilled (lengthened len array)) (change_at n (refilled []) l)
+          ≡ change_at n (refilled (lengthened len array)) l
       at_once = change_over n (refilled (lengthened len array)) (refilled []) (refilled (lengthened len array)) (λ p. ap (λ (b : Body B). with_item (record { count = (p.item).count; touched = true; body = b }) p) (words_twice (lengthened len array) [] (p.item).body)) l
 
-      pub view_longer : living_in (change_at n (refilled (lengthened len array)) l) ≡ change_at n (with_elements (lengthened len array)) (living_in l)
-      view_longer = ap living_in (sym at_once) ∙ view_refill n array [] (lengthened len array) split_longer short_longer l t.in_order t.counted there
+      pub view_longer : living_in (change_at n (refilled (lengthened len array)) l)
+          ≡ change_at n (with_elements (lengthened len array)) (living_in l)
+      view_longer =
+          ap living_in (sym at_once)
+          ∙ view_refill n array [] (lengthened len array) split_longer short_longer l t.in_order t.counted there
 
       pub table_longer : IsTable (change_at n (refilled (lengthened len array)) l) last settled
-      table_longer = subst (λ (k : List (ℕ × Placed B)). IsTable k last settled) at_once (table_refill n array [] (lengthened len array) split_longer short_longer l t.in_order t.counted there last settled t)
+      table_longer =
+          subst (λ (k : List (ℕ × Placed B)). IsTable k last settled) at_once
+          (table_refill n array [] (lengthened len array) split_longer short_longer l t.in_order t.counted there
+          last settled t)
 
   -- an element was appended, and then written
   module _ (n : ℕ) (t : Table B) (o : IsInOrder t.objects) (array : arrays.Array) (there : array_at n t ≡ Some array) (word first : Word) where
@@ -326,22 +383,36 @@ module _ {B : Type 0} where
     with_first = with_object n (with_elements (array.elements ++ first ∷ [])) t
 
     it_is : (x : Living B) → object_at n t.objects ≡ Some x → array_of x.body ≡ Some array
-    it_is x is = sym (ap (λ (v : Option (Living B)). option_and_then array_of (option_map (λ object. object.body) v)) is) ∙ there
+    it_is x is =
+        sym (ap (λ (v : Option (Living B)). option_and_then array_of (option_map (λ object. object.body) v)) is)
+        ∙ there
 
-    at_first : object_at n with_first.objects ≡ option_map (with_elements (array.elements ++ first ∷ [])) (object_at n t.objects)
-    at_first = object_at-change n (with_elements (array.elements ++ first ∷ [])) n t.objects ∙ ap (λ (b : Bool). cond b (option_map (with_elements (array.elements ++ first ∷ [])) (object_at n t.objects)) (object_at n t.objects)) (eq-eqb n n refl)
+    at_first : object_at n with_first.objects
+        ≡ option_map (with_elements (array.elements ++ first ∷ [])) (object_at n t.objects)
+    at_first =
+        object_at-change n (with_elements (array.elements ++ first ∷ [])) n t.objects
+        ∙ ap (λ (b : Bool). cond b
+        (option_map (with_elements (array.elements ++ first ∷ [])) (object_at n t.objects))
+        (object_at n t.objects)) (eq-eqb n n refl)
 
     pub field_there : IsSome (field_of n (length array.elements) with_first)
     field_there = subst (λ (v : Option (Living B)). IsSome (option_and_then (λ object. slice_get (words_of object.body) (length array.elements)) v)) (sym at_first) (go (object_at n t.objects) refl)
       where
-        go : (v : Option (Living B)) → object_at n t.objects ≡ v → IsSome (option_and_then (λ object. slice_get (words_of object.body) (length array.elements)) (option_map (with_elements (array.elements ++ first ∷ [])) v))
+        go : (v : Option (Living B)) → object_at n t.objects ≡ v
+            → IsSome (option_and_then (λ object. slice_get (words_of object.body) (length array.elements))
+            (option_map (with_elements (array.elements ++ first ∷ [])) v))
         go None is = let none = sym (ap (λ (v : Option (Living B)). option_and_then array_of (option_map (λ object. object.body) v)) is) ∙ there in absurd (cc)
-        go (Some x) is = subst (λ (ws : List Word). IsSome (slice_get ws (length array.elements))) (sym (words_filled (array.elements ++ first ∷ []) x.body array (it_is x is))) (got_last array.elements first)
+        go (Some x) is =
+            subst (λ (ws : List Word). IsSome (slice_get ws (length array.elements)))
+            (sym (words_filled (array.elements ++ first ∷ []) x.body array (it_is x is)))
+            (got_last array.elements first)
 
     pub slot_there : slot_of n with_first ≡ slot_of n t
     slot_there = ap (λ (v : Option (Living B)). option_map (λ object. object.slot) v) at_first ∙ go (object_at n t.objects)
       where
-        go : (v : Option (Living B)) → option_map (λ object. object.slot) (option_map (with_elements (array.elements ++ first ∷ [])) v) ≡ option_map (λ object. object.slot) v
+        go : (v : Option (Living B))
+            → option_map (λ object. object.slot) (option_map (with_elements (array.elements ++ first ∷ [])) v)
+            ≡ option_map (λ object. object.slot) v
         go None = refl
         go (Some x) = refl
 
@@ -349,26 +420,33 @@ module _ {B : Type 0} where
     alive_there None h = tt
     alive_there (Some m) h = subst (λ (v : Option (Living B)). IsSome v) (sym (object_at-change n (with_elements (array.elements ++ first ∷ [])) m t.objects)) (go (nat_eq n m) (object_at m t.objects) h)
       where
-        go : (b : Bool) (v : Option (Living B)) → IsSome v → IsSome (cond b (option_map (with_elements (array.elements ++ first ∷ [])) v) v)
+        go : (b : Bool) (v : Option (Living B)) → IsSome v
+            → IsSome (cond b (option_map (with_elements (array.elements ++ first ∷ [])) v) v)
         go true None h = h
         go true (Some x) h = refl
         go false v h = h
 
-    pub written_there : with_object n (with_field (length array.elements) word) with_first ≡ with_object n (with_elements (array.elements ++ word ∷ [])) t
+    pub written_there : with_object n (with_field (length array.elements) word) with_first
+        ≡ with_object n (with_elements (array.elements ++ word ∷ [])) t
     written_there =
         ap (λ (l : List (ℕ × Living B)). record t { objects = l })
         (change_over n (with_field (length array.elements) word) (with_elements (array.elements ++ first ∷ [])) (λ x. with_field (length array.elements) word (with_elements (array.elements ++ first ∷ []) x)) (λ x. refl) t.objects
         ∙ change_same n (λ x. with_field (length array.elements) word (with_elements (array.elements ++ first ∷ []) x)) (with_elements (array.elements ++ word ∷ [])) t.objects o (λ x is. ap (λ (b : Body B). record { slot = x.slot; holds = x.holds; touched = true; body = b }) (body x.body (it_is x is))))
       where
-        body : (b : Body B) → array_of b ≡ Some array → with_word (length array.elements) word (with_words (array.elements ++ first ∷ []) b) ≡ with_words (array.elements ++ word ∷ []) b
+        body : (b : Body B) → array_of b ≡ Some array
+            → with_word (length array.elements) word (with_words (array.elements ++ first ∷ []) b)
+            ≡ with_words (array.elements ++ word ∷ []) b
         body (Script script) h = cc
-        body (Array own) h = ap (λ (ws : List Word). Array (record own { elements = ws })) (set_last array.elements first word)
+        body (Array own) h =
+            ap (λ (ws : List Word). Array (record own { elements = ws })) (set_last array.elements first word)
         body (Host box) h = cc
 
-  pub elements_array : (n : ℕ) (t : Table B) (array : arrays.Array) → array_at n t ≡ Some array → elements_at n t ≡ Some array.elements
+  pub elements_array : (n : ℕ) (t : Table B) (array : arrays.Array) → array_at n t ≡ Some array
+      → elements_at n t ≡ Some array.elements
   elements_array n t array there = go (body_of n t) there
     where
-      go : (v : Option (Body B)) → option_and_then array_of v ≡ Some array → option_and_then elements_of v ≡ Some array.elements
+      go : (v : Option (Body B)) → option_and_then array_of v ≡ Some array → option_and_then elements_of v
+          ≡ Some array.elements
       go None h = cc
       go (Some (Script script)) h = cc
       go (Some (Array own)) h = let same : own ≡ array = cc in ap (λ (a : arrays.Array). Some a.elements) same

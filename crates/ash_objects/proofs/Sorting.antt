@@ -98,7 +98,8 @@ not_below_later j [] r k le = tt
 not_below_later j (e ∷ l) r k le = let here : j ≤ e.0 = r.0 in (omega arith, r.1)
 
 -- marks that do not fall are others that ascend where the same is summed over both
-sums_same : (a b : List (ℕ × Bool)) → NotBelow 0 a → Ascends b → ((measure : ℕ × Bool → ℕ) → sum_by measure a ≡ sum_by measure b) → a ≡ b
+sums_same : (a b : List (ℕ × Bool)) → NotBelow 0 a → Ascends b
+    → ((measure : ℕ × Bool → ℕ) → sum_by measure a ≡ sum_by measure b) → a ≡ b
 unfolding NotBelow AllAbove Ascends
 sums_same [] [] ra rb same = refl
 sums_same [] (f ∷ b) ra rb same = let all = same (λ e. 1) in absurd (omega (arith, all, sum_by-cons (λ (e : ℕ × Bool). 1) f b))
@@ -160,22 +161,32 @@ ascend [] o = tt
 ascend (e ∷ l) o = (in_order_above e l o, ascend l (in_order_after e l o))
 
 -- marks that do not fall by index
-not_below : (j : ℕ) (l : List (ℕ × Bool)) → IsNonDecreasingBy (λ e. e.0) l → ((d : ℕ × Bool) → 0 < length l → j ≤ (get_or l 0 d).0) → NotBelow j l
+not_below : (j : ℕ) (l : List (ℕ × Bool)) → IsNonDecreasingBy (λ e. e.0) l
+    → ((d : ℕ × Bool) → 0 < length l → j ≤ (get_or l 0 d).0) → NotBelow j l
 unfolding NotBelow
 not_below j [] n first = tt
 not_below j (e ∷ l) n first =
     (first e (omega arith), not_below e.0 l (λ i k d le within. n (suc i) (suc k) d (omega arith) (omega arith)) (λ d some. n 0 1 d (omega arith) (omega arith)))
 
 -- sorted marks are those in order over which the same is summed
-pub sorted_same : (a b : List (ℕ × Bool)) → IsNonDecreasingBy (λ e. e.0) a → IsInOrder b → ((measure : ℕ × Bool → ℕ) → sum_by measure a ≡ sum_by measure b) → a ≡ b
+pub sorted_same : (a b : List (ℕ × Bool)) → IsNonDecreasingBy (λ e. e.0) a → IsInOrder b
+    → ((measure : ℕ × Bool → ℕ) → sum_by measure a ≡ sum_by measure b) → a ≡ b
 sorted_same a b n o same = sums_same a b (not_below 0 a n (λ d some. omega arith)) (ascend b o) same
 
 flagged : ℕ → ℕ × Bool
 flagged n = (n, false)
 
-sum-flagged : (measure : ℕ × Bool → ℕ) (ns : List ℕ) → sum_by measure (map flagged ns) ≡ sum_by (λ n. measure (flagged n)) ns
+sum-flagged : (measure : ℕ × Bool → ℕ) (ns : List ℕ) → sum_by measure (map flagged ns)
+    ≡ sum_by (λ n. measure (flagged n)) ns
 sum-flagged measure [] = refl
-sum-flagged measure (n ∷ ns) = omega (arith, sum_by-cons measure (flagged n) (map flagged ns), sum_by-cons (λ k. measure (flagged k)) n ns, sum-flagged measure ns)
+sum-flagged measure (n ∷ ns) =
+    omega (
+      arith,
+      sum_by-cons measure (flagged n) (map flagged ns),
+      sum_by-cons
+          (λ k. measure (flagged k)) n ns,
+      sum-flagged measure ns,
+    )
 
 numbers-flagged : (ns : List ℕ) → numbers (map flagged ns) ≡ ns
 unfolding flagged
@@ -201,7 +212,8 @@ rising-flagged ns n = λ i j d le within.
     omega (arith, first, second, rises)
 
 -- sorted numbers are those that rise over which the same is summed
-pub sorted_numbers : (a b : List ℕ) → IsNonDecreasingBy (λ n. n) a → IsStrictlyIncreasing b → ((measure : ℕ → ℕ) → sum_by measure a ≡ sum_by measure b) → a ≡ b
+pub sorted_numbers : (a b : List ℕ) → IsNonDecreasingBy (λ n. n) a → IsStrictlyIncreasing b
+    → ((measure : ℕ → ℕ) → sum_by measure a ≡ sum_by measure b) → a ≡ b
 sorted_numbers a b n o same =
     let all = sorted_same (map flagged a) (map flagged b) (rising-flagged a n) (subst (λ (ns : List ℕ). IsStrictlyIncreasing ns) (sym (numbers-flagged b)) o) (λ measure. omega (arith, sum-flagged measure a, sum-flagged measure b, same (λ k. measure (flagged k)))) in
     sym (numbers-flagged a) ∙ ap (λ (l : List (ℕ × Bool)). numbers l) all ∙ numbers-flagged b

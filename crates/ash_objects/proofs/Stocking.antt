@@ -25,13 +25,15 @@ module _ {B : Type 0} where
   -- All objects of a state, put into slots.
   module _ (objects : List Stored) (boxes : List (Option B)) (l : List (ℕ × Placed B)) (last : ℕ) (put : ArePut objects boxes l) (numbered : AreNumbered last (stored_in objects)) (few : length objects ≤ 4096) (short : (m : ℕ) → IfSome (object_at m (stored_in objects)) (λ body. length (words_of body) ≤ 4096)) (alive : (m : ℕ) → IfSome (object_at m (stored_in objects)) (λ body. All (λ word. IfSome (handle word) (Lives (stored_in objects))) (words_of body))) where
     pub stock_order : IsInOrder l
-    stock_order = subst (λ (ns : List ℕ). IsStrictlyIncreasing ns) (sym (put_numbers objects boxes l put)) numbered.in_order
+    stock_order =
+        subst (λ (ns : List ℕ). IsStrictlyIncreasing ns) (sym (put_numbers objects boxes l put)) numbered.in_order
 
-    -- who lives there is stored, and the other way round
+    -- what lives there is stored, and the other way round
     lives_there : (m : ℕ) → Lives (stored_in objects) m → Lives l m
     lives_there m h = go (object_at m l) (object_at m (stored_in objects)) (put_words m objects boxes l put) h
       where
-        go : (v : Option (Placed B)) (u : Option (Body Saved)) → option_map (λ p. words_of (p.item).body) v ≡ option_map (λ body. words_of body) u → IsSome u → IsSome v
+        go : (v : Option (Placed B)) (u : Option (Body Saved)) → option_map (λ p. words_of (p.item).body) v
+            ≡ option_map (λ body. words_of body) u → IsSome u → IsSome v
         go v None same h = absurd (cc)
         go None (Some body) same h = absurd (cc)
         go (Some p) (Some body) same h = refl
@@ -39,16 +41,20 @@ module _ {B : Type 0} where
     lives_here : (m : ℕ) → Lives l m → Lives (stored_in objects) m
     lives_here m h = go (object_at m l) (object_at m (stored_in objects)) (put_words m objects boxes l put) h
       where
-        go : (v : Option (Placed B)) (u : Option (Body Saved)) → option_map (λ p. words_of (p.item).body) v ≡ option_map (λ body. words_of body) u → IsSome v → IsSome u
+        go : (v : Option (Placed B)) (u : Option (Body Saved)) → option_map (λ p. words_of (p.item).body) v
+            ≡ option_map (λ body. words_of body) u → IsSome v → IsSome u
         go None u same h = absurd (cc)
         go (Some p) None same h = absurd (cc)
         go (Some p) (Some body) same h = refl
 
     -- what holds of the words that were stored holds of those that are there
-    words_hold : (P : List Word → Type 0) → P [] → (m : ℕ) → IfSome (object_at m (stored_in objects)) (λ body. P (words_of body)) → P (words_at m l)
+    words_hold : (P : List Word → Type 0) → P [] → (m : ℕ)
+        → IfSome (object_at m (stored_in objects)) (λ body. P (words_of body)) → P (words_at m l)
     words_hold P none m h = go (object_at m l) (object_at m (stored_in objects)) (put_words m objects boxes l put) h
       where
-        go : (v : Option (Placed B)) (u : Option (Body Saved)) → option_map (λ p. words_of (p.item).body) v ≡ option_map (λ body. words_of body) u → IfSome u (λ body. P (words_of body)) → P (option_map_or (λ object. words_of (object.item).body) v [])
+        go : (v : Option (Placed B)) (u : Option (Body Saved)) → option_map (λ p. words_of (p.item).body) v
+            ≡ option_map (λ body. words_of body) u → IfSome u (λ body. P (words_of body))
+            → P (option_map_or (λ object. words_of (object.item).body) v [])
         go None u same h = none
         go (Some p) None same h = absurd (cc)
         go (Some p) (Some body) same h = let ws : words_of (p.item).body ≡ words_of body = cc in subst P (sym ws) h
@@ -73,14 +79,18 @@ module _ {B : Type 0} where
         go (Some p) h = h.uncounted
 
     -- what is asked of the numbers to count the handles of all
-    pub stock_there : All (λ number. Lives l number × AllLive l (words_at number l) × (length (words_at number l) ≤ 4096)) (numbers l)
-    stock_there = all_numbers (λ number. Lives l number × AllLive l (words_at number l) × (length (words_at number l) ≤ 4096)) l stock_order (λ n h. (h, stock_alive n, stock_short n))
+    pub stock_there : All (λ number. Lives l number × AllLive l (words_at number l)
+        × (length (words_at number l) ≤ 4096)) (numbers l)
+    stock_there =
+        all_numbers (λ number. Lives l number × AllLive l (words_at number l)
+        × (length (words_at number l) ≤ 4096)) l stock_order (λ n h. (h, stock_alive n, stock_short n))
 
     abbrev pub stocked : List (ℕ × Placed B)
     stocked = refer_objects (numbers l) l
 
     stocked_counted : (m : ℕ) → counted m stocked ≡ fields_in m stocked
-    stocked_counted m = omega (arith, referred_all m l stock_order stock_uncounted stock_alive, referred_fields (numbers l) m l)
+    stocked_counted m =
+        omega (arith, referred_all m l stock_order stock_uncounted stock_alive, referred_fields (numbers l) m l)
 
     stocked_waits : (m : ℕ) → IfSome (object_at m stocked) (λ p. p.waiting ≡ true)
     stocked_waits = referred_waits (numbers l) l (λ m. go (object_at m l) (put_fresh m objects boxes l put))
@@ -133,7 +143,8 @@ module _ {B : Type 0} where
       cleared = omega arith;
     }
       where
-        waits : (v : Option (Placed B)) → IfSome v (λ p. p.waiting ≡ true) → IfSome v (λ p. (p.item).count ≡ 0 → p.waiting ≡ true)
+        waits : (v : Option (Placed B)) → IfSome v (λ p. p.waiting ≡ true)
+            → IfSome v (λ p. (p.item).count ≡ 0 → p.waiting ≡ true)
         waits None h = tt
         waits (Some p) h = λ none. h
 
@@ -149,11 +160,13 @@ module _ {B : Type 0} where
         ∙ outer (object_at m l)
         ∙ sym (object_at-mapped (λ p. (p.item).body) m l))
       where
-        inner : (k : ℕ) (v : Option (Placed B)) → option_map (λ (x : Living B). x.body) (option_map (living k) v) ≡ option_map (λ (x : Living B). x.body) (option_map face v)
+        inner : (k : ℕ) (v : Option (Placed B)) → option_map (λ (x : Living B). x.body) (option_map (living k) v)
+            ≡ option_map (λ (x : Living B). x.body) (option_map face v)
         inner k None = refl
         inner k (Some p) = refl
 
-        outer : (v : Option (Placed B)) → option_map (λ (x : Living B). x.body) (option_map face v) ≡ option_map (λ (p : Placed B). (p.item).body) v
+        outer : (v : Option (Placed B)) → option_map (λ (x : Living B). x.body) (option_map face v)
+            ≡ option_map (λ (p : Placed B). (p.item).body) v
         outer None = refl
         outer (Some p) = refl
 
@@ -162,7 +175,8 @@ module _ {B : Type 0} where
         ap (λ (v : Option (Living B)). option_map_or (λ object. object.holds) v 0) (object_at-living m stocked stocked)
         ∙ go (object_at m stocked) refl
       where
-        go : (v : Option (Placed B)) → object_at m stocked ≡ v → option_map_or (λ object. object.holds) (option_map (living (fields_in m stocked)) v) 0 ≡ 0
+        go : (v : Option (Placed B)) → object_at m stocked ≡ v
+            → option_map_or (λ object. object.holds) (option_map (living (fields_in m stocked)) v) 0 ≡ 0
         go None is = refl
         go (Some p) is =
             let mine = ap (λ (v : Option (Placed B)). option_map_or (λ object. (object.item).count) v 0) is in
@@ -172,6 +186,7 @@ module _ {B : Type 0} where
     stock_unmarked m =
         subst (λ (v : Option (Living B)). IfSome v (λ object. object.touched ≡ false)) (sym (object_at-living m stocked stocked)) (go (object_at m stocked) (seen (λ object. object.touched ≡ false) (λ p h. h.unmarked) m))
       where
-        go : (v : Option (Placed B)) → IfSome (option_map face v) (λ object. object.touched ≡ false) → IfSome (option_map (living (fields_in m stocked)) v) (λ object. object.touched ≡ false)
+        go : (v : Option (Placed B)) → IfSome (option_map face v) (λ object. object.touched ≡ false)
+            → IfSome (option_map (living (fields_in m stocked)) v) (λ object. object.touched ≡ false)
         go None h = tt
         go (Some p) h = h

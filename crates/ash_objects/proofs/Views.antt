@@ -21,36 +21,45 @@ some_within (w ∷ ws) zero h = omega arith
 some_within (w ∷ ws) (suc i) h = let later = some_within ws i h in omega (arith, later)
 
 module _ {B : Type 0} where
-  slot_view : (n : ℕ) (l : List (ℕ × Placed B)) → option_map (λ object. object.slot) (object_at n (living_in l)) ≡ option_map (λ object. object.slot) (object_at n l)
+  slot_view : (n : ℕ) (l : List (ℕ × Placed B)) → option_map (λ object. object.slot) (object_at n (living_in l))
+      ≡ option_map (λ object. object.slot) (object_at n l)
   slot_view n l = ap (λ (v : Option (Living B)). option_map (λ object. object.slot) v) (object_at-living n l l) ∙ go (object_at n l)
     where
-      go : (v : Option (Placed B)) → option_map (λ object. object.slot) (option_map (living (fields_in n l)) v) ≡ option_map (λ object. object.slot) v
+      go : (v : Option (Placed B)) → option_map (λ object. object.slot) (option_map (living (fields_in n l)) v)
+          ≡ option_map (λ object. object.slot) v
       go None = refl
       go (Some p) = refl
 
   -- what an object is
-  pub body_view : (n : ℕ) (l : List (ℕ × Placed B)) → option_map (λ object. object.body) (object_at n (living_in l)) ≡ option_map (λ object. (object.item).body) (object_at n l)
+  pub body_view : (n : ℕ) (l : List (ℕ × Placed B)) → option_map (λ object. object.body) (object_at n (living_in l))
+      ≡ option_map (λ object. (object.item).body) (object_at n l)
   body_view n l = ap (λ (v : Option (Living B)). option_map (λ object. object.body) v) (object_at-living n l l) ∙ go (object_at n l)
     where
-      go : (v : Option (Placed B)) → option_map (λ object. object.body) (option_map (living (fields_in n l)) v) ≡ option_map (λ object. (object.item).body) v
+      go : (v : Option (Placed B)) → option_map (λ object. object.body) (option_map (living (fields_in n l)) v)
+          ≡ option_map (λ object. (object.item).body) v
       go None = refl
       go (Some p) = refl
 
-  pub body_item : (n : ℕ) (l : List (ℕ × Placed B)) (it : Item B) → IsSomeAnd (object_at n l) (λ object. object.item ≡ it) → option_map (λ object. (object.item).body) (object_at n l) ≡ Some it.body
+  pub body_item : (n : ℕ) (l : List (ℕ × Placed B)) (it : Item B)
+      → IsSomeAnd (object_at n l) (λ object. object.item ≡ it)
+      → option_map (λ object. (object.item).body) (object_at n l) ≡ Some it.body
   body_item n l it h = go (object_at n l) h
     where
-      go : (v : Option (Placed B)) → IsSomeAnd v (λ object. object.item ≡ it) → option_map (λ object. (object.item).body) v ≡ Some it.body
+      go : (v : Option (Placed B)) → IsSomeAnd v (λ object. object.item ≡ it)
+          → option_map (λ object. (object.item).body) v ≡ Some it.body
       go None h = absurd h
       go (Some p) h = ap (λ (i : Item B). Some i.body) h
 
   -- the slot that a contract sees is the one
-  pub slot_seen : (n : ℕ) (l : List (ℕ × Placed B)) → option_map (λ object. object.slot) (object_at n l) ≡ option_map (λ object. object.slot) (object_at n (living_in l))
+  pub slot_seen : (n : ℕ) (l : List (ℕ × Placed B)) → option_map (λ object. object.slot) (object_at n l)
+      ≡ option_map (λ object. object.slot) (object_at n (living_in l))
   slot_seen n l = sym (slot_view n l)
 
-  pub in_view : (n slot : ℕ) (l : List (ℕ × Placed B)) → option_map (λ object. object.slot) (object_at n (living_in l)) ≡ Some slot → IsIn n slot l
+  pub in_view : (n slot : ℕ) (l : List (ℕ × Placed B))
+      → option_map (λ object. object.slot) (object_at n (living_in l)) ≡ Some slot → IsIn n slot l
   in_view n slot l h = is_in_from n slot l (sym (slot_view n l) ∙ h)
 
-  -- who lives for a contract lives
+  -- what lives for a contract lives
   pub lives_view : (n : ℕ) (l : List (ℕ × Placed B)) → Lives (living_in l) n → Lives l n
   lives_view n l h = go (object_at n l) (subst (λ (v : Option (Living B)). IsSome v) (object_at-living n l l) h)
     where
@@ -63,33 +72,47 @@ module _ {B : Type 0} where
   alive_view (Some n) l h = lives_view n l h
 
   -- holds are what a count has beside fields
-  pub holds_view : (n : ℕ) (l : List (ℕ × Placed B)) → 0 < option_map_or (λ object. object.holds) (object_at n (living_in l)) 0 → fields_in n l < counted n l
+  pub holds_view : (n : ℕ) (l : List (ℕ × Placed B))
+      → 0 < option_map_or (λ object. object.holds) (object_at n (living_in l)) 0 → fields_in n l < counted n l
   holds_view n l h = go (object_at n l) (subst (λ (v : Option (Living B)). 0 < option_map_or (λ object. object.holds) v 0) (object_at-living n l l) h)
     where
-      go : (v : Option (Placed B)) → 0 < option_map_or (λ object. object.holds) (option_map (living (fields_in n l)) v) 0 → fields_in n l < option_map_or (λ object. (object.item).count) v 0
+      go : (v : Option (Placed B))
+          → 0 < option_map_or (λ object. object.holds) (option_map (living (fields_in n l)) v) 0
+          → fields_in n l < option_map_or (λ object. (object.item).count) v 0
       go None h = absurd (omega arith)
       go (Some p) h = omega arith
 
-  field_view : (n place : ℕ) (l : List (ℕ × Placed B)) → option_and_then (λ object. slice_get (words_of object.body) place) (object_at n (living_in l)) ≡ option_and_then (λ object. slice_get (words_of (object.item).body) place) (object_at n l)
+  field_view : (n place : ℕ) (l : List (ℕ × Placed B))
+      → option_and_then (λ object. slice_get (words_of object.body) place) (object_at n (living_in l))
+      ≡ option_and_then (λ object. slice_get (words_of (object.item).body) place) (object_at n l)
   field_view n place l = ap (λ (v : Option (Living B)). option_and_then (λ object. slice_get (words_of object.body) place) v) (object_at-living n l l) ∙ go (object_at n l)
     where
-      go : (v : Option (Placed B)) → option_and_then (λ object. slice_get (words_of object.body) place) (option_map (living (fields_in n l)) v) ≡ option_and_then (λ object. slice_get (words_of (object.item).body) place) v
+      go : (v : Option (Placed B))
+          → option_and_then (λ object. slice_get (words_of object.body) place) (option_map (living (fields_in n l)) v)
+          ≡ option_and_then (λ object. slice_get (words_of (object.item).body) place) v
       go None = refl
       go (Some p) = refl
 
   -- a place that a contract sees is one of the object
-  pub place_view : (n place : ℕ) (l : List (ℕ × Placed B)) → IsSome (option_and_then (λ object. slice_get (words_of object.body) place) (object_at n (living_in l))) → IsSomeAnd (object_at n l) (λ object. place < length (words_of (object.item).body))
+  pub place_view : (n place : ℕ) (l : List (ℕ × Placed B))
+      → IsSome (option_and_then (λ object. slice_get (words_of object.body) place) (object_at n (living_in l)))
+      → IsSomeAnd (object_at n l) (λ object. place < length (words_of (object.item).body))
   place_view n place l h = go (object_at n l) (subst (λ (v : Option Word). IsSome v) (field_view n place l) h)
     where
-      go : (v : Option (Placed B)) → IsSome (option_and_then (λ object. slice_get (words_of (object.item).body) place) v) → IsSomeAnd v (λ object. place < length (words_of (object.item).body))
+      go : (v : Option (Placed B))
+          → IsSome (option_and_then (λ object. slice_get (words_of (object.item).body) place) v)
+          → IsSomeAnd v (λ object. place < length (words_of (object.item).body))
       go None h = cc
       go (Some p) h = some_within (words_of (p.item).body) place h
 
   -- and its word is the one that is there
-  pub word_view : (n place : ℕ) (l : List (ℕ × Placed B)) (word : Word) → IsSomeAnd (object_at n l) (λ object. slice_get (words_of (object.item).body) place ≡ Some word) → option_and_then (λ object. slice_get (words_of object.body) place) (object_at n (living_in l)) ≡ Some word
+  pub word_view : (n place : ℕ) (l : List (ℕ × Placed B)) (word : Word)
+      → IsSomeAnd (object_at n l) (λ object. slice_get (words_of (object.item).body) place ≡ Some word)
+      → option_and_then (λ object. slice_get (words_of object.body) place) (object_at n (living_in l)) ≡ Some word
   word_view n place l word h = field_view n place l ∙ go (object_at n l) h
     where
-      go : (v : Option (Placed B)) → IsSomeAnd v (λ object. slice_get (words_of (object.item).body) place ≡ Some word) → option_and_then (λ object. slice_get (words_of (object.item).body) place) v ≡ Some word
+      go : (v : Option (Placed B)) → IsSomeAnd v (λ object. slice_get (words_of (object.item).body) place ≡ Some word)
+          → option_and_then (λ object. slice_get (words_of (object.item).body) place) v ≡ Some word
       go None h = absurd h
       go (Some p) h = h
 
@@ -98,7 +121,8 @@ module _ {B : Type 0} where
     pub fits_view : (n : ℕ) → counted n l < 2 ^ 128 - 1
     fits_view n = let small = counted_fits n l t.in_order t.counted in omega (arith, small)
 
-    pub few_view : (n : ℕ) → option_map_or (λ object. object.holds) (object_at n (living_in l)) 0 + fields_holding n (living_in l) < 2 ^ 127 → counted n l < 2 ^ 127
+    pub few_view : (n : ℕ) → option_map_or (λ object. object.holds) (object_at n (living_in l)) 0
+        + fields_holding n (living_in l) < 2 ^ 127 → counted n l < 2 ^ 127
     few_view n h = let same = count_is n l t.counted in omega (arith, same, h)
 
     pub table_more : (n : ℕ) → counted n l < 2 ^ 127 → IsTable (change_at n once_more l) last settled
@@ -117,14 +141,21 @@ module _ {B : Type 0} where
       cleared = t.cleared;
     }
 
-    given_handle : (f : Placed B → Placed B) (h : Option ℕ) (k : List (ℕ × Placed B)) → AreGiven last k → AreGiven last (change_handle f h k)
+    given_handle : (f : Placed B → Placed B) (h : Option ℕ) (k : List (ℕ × Placed B)) → AreGiven last k
+        → AreGiven last (change_handle f h k)
     given_handle f None k g = g
     given_handle f (Some n) k g = given-change last n f k g
 
-    pub table_field : (n place : ℕ) (word before : Word) (alive : IfSome (handle word) (Lives l)) (there : IsSomeAnd (object_at n l) (λ object. slice_get (words_of (object.item).body) place ≡ Some before)) → IsTable (after_all n place word before l t.in_order t.counted alive there) last settled
+    pub table_field : (n place : ℕ) (word before : Word) (alive : IfSome (handle word) (Lives l))
+        (there : IsSomeAnd (object_at n l) (λ object. slice_get (words_of (object.item).body) place ≡ Some before))
+        → IsTable (after_all n place word before l t.in_order t.counted alive there) last settled
     table_field n place word before alive there = record {
-      in_order = handle_order once_less (λ p. refl) (handle before) _ (order_write n place word before l t.in_order t.counted alive there);
+      in_order =
+          handle_order once_less
+          (λ p. refl) (handle before) _ (order_write n place word before l t.in_order t.counted alive there);
       counted = sound_field n place word before l t.in_order t.counted alive there;
-      given = given_handle once_less (handle before) _ (given-change last n (written place word) _ (given_handle once_more (handle word) l t.given));
+      given =
+          given_handle once_less (handle before) _
+          (given-change last n (written place word) _ (given_handle once_more (handle word) l t.given));
       cleared = t.cleared;
     }

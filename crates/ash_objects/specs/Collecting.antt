@@ -23,11 +23,15 @@ module _ {B : Type 0} where
   pub record HaveGone (old now : List (ℕ × Placed B)) (taken : List (Entry B)) : Type 0 where
     pub in_order : IsInOrder now
     pub covered : (number : ℕ) → fields_in number now ≤ counted number now
-    pub balance : (number : ℕ) → Lives now number → counted number now + fields_in number old ≡ counted number old + fields_in number now
-    pub waiting : (number : ℕ) → IfSome (object_at number now) (λ object. (object.item).count ≡ 0 → object.waiting ≡ true)
+    pub balance : (number : ℕ) → Lives now number → counted number now + fields_in number old
+        ≡ counted number old + fields_in number now
+    pub waiting : (number : ℕ)
+        → IfSome (object_at number now) (λ object. (object.item).count ≡ 0 → object.waiting ≡ true)
     pub stay : (number : ℕ) → Lives now number → face_at number now ≡ face_at number old
     pub go : (number : ℕ) → object_at number now ≡ None → counted number old ≤ fields_in number old
-    pub whole : (measure : ℕ × Bool → ℕ) → sum_by (λ entry. measure (entry_mark entry)) taken + sum_by (λ e. measure (mark_of e)) now ≡ sum_by (λ e. measure (mark_of e)) old
+    pub whole : (measure : ℕ × Bool → ℕ)
+        → sum_by (λ entry. measure (entry_mark entry)) taken + sum_by (λ e. measure (mark_of e)) now
+        ≡ sum_by (λ e. measure (mark_of e)) old
     pub many : length taken + length now ≡ length old
 
 -- the numbers among these that had been given when the marks were cleared

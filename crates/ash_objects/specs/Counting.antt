@@ -1,4 +1,4 @@
--- How the table counts: what it keeps beside each object, and what a contract sees of it.
+-- How the table counts: what it stores of each object, and what a contract sees of it.
 use Rattle.std.specs.Prelude.{◌≡◌, ℕ, ◌+◌, ◌-◌, ◌<◌, ◌≤◌, ◌^◌, true, List, [], ◌∷◌, length, All, Option, IfSome, sum_by}
 use Rattle.std.specs.Option.{option_map, option_map_or}
 use Rattle.std.specs.Map.{values_of}
@@ -7,7 +7,7 @@ use Rattle.ash_host.specs.Objects.{object_at, Lives, IsInOrder, handle, handles_
 use Rattle.ash_slots.specs.Bodies.{words_of}
 use Rattle.ash_slots.specs.Store.{Placed}
 use Rattle.ash_slots.specs.Counting.{counted, change_handle, once_more, once_less}
-use Rattle.ash_objects.specs.Table.{Living}
+use Rattle.ash_objects.specs.Table.{Living, max_objects, max_elements}
 
 module _ {B : Type 0} where
   -- how many handles to an object another one holds
@@ -20,7 +20,12 @@ module _ {B : Type 0} where
 
   -- what a contract sees of an object to which there are so many handles in fields
   abbrev pub living : ℕ → Placed B → Living B
-  living handles object = record { slot = object.slot; holds = (object.item).count - handles; touched = (object.item).touched; body = (object.item).body }
+  living handles object = record {
+    slot = object.slot;
+    holds = (object.item).count - handles;
+    touched = (object.item).touched;
+    body = (object.item).body;
+  }
 
   -- what a contract sees of an object but its holds
   abbrev pub face : Placed B → Living B
@@ -43,9 +48,11 @@ module _ {B : Type 0} where
   pub record AreCounted (objects : List (ℕ × Placed B)) : Type 0 where
     pub covered : (number : ℕ) → fields_in number objects ≤ counted number objects
     pub bounded : (number : ℕ) → counted number objects ≤ fields_in number objects + 2 ^ 127
-    pub waiting : (number : ℕ) → IfSome (object_at number objects) (λ object. (object.item).count ≡ 0 → object.waiting ≡ true)
-    pub short : (number : ℕ) → IfSome (object_at number objects) (λ object. length (words_of (object.item).body) ≤ 4096)
-    pub few : length objects ≤ 4096
+    pub waiting : (number : ℕ)
+        → IfSome (object_at number objects) (λ object. (object.item).count ≡ 0 → object.waiting ≡ true)
+    pub short : (number : ℕ)
+        → IfSome (object_at number objects) (λ object. length (words_of (object.item).body) ≤ max_elements)
+    pub few : length objects ≤ max_objects
 
   -- every number was given: none is 0 or above the last
   abbrev pub AreGiven : ℕ → List (ℕ × Placed B) → Type 0

@@ -4,20 +4,21 @@ use Rattle.std.specs.List.{position}
 use Rattle.ash_host.specs.declared.host_object.HostObject.{Ghosts}
 use Rattle.ash_host.specs.Objects.{with_at}
 use Rattle.ash_slots.specs.declared.body.Body.{Body}
-use Rattle.ash_objects.specs.Table.{Living, Table}
+use Rattle.ash_objects.specs.Table.{Living, Table, max_objects}
 
 module _ {B : Type 0} where
   -- a new object, which nothing holds
-  abbrev pub made : ℕ → Body B → Living B
-  made slot body = record { slot = slot; holds = 0; touched = true; body = body }
+  abbrev pub new_object : ℕ → Body B → Living B
+  new_object slot body = record { slot = slot; holds = 0; touched = true; body = body }
 
   -- the table with a new object in a slot, which takes the next number
-  abbrev pub with_made : ℕ → Body B → Table B → Table B
-  with_made slot body table = record table { objects = with_at (table.last + 1) (made slot body) table.objects; last = table.last + 1 }
+  abbrev pub with_new_object : ℕ → Body B → Table B → Table B
+  with_new_object slot body table =
+      record table { objects = with_at (table.last + 1) (new_object slot body) table.objects; last = table.last + 1 }
 
   -- as many objects live as may
   abbrev pub IsFull : Table B → Type 0
-  IsFull table = 4096 ≤ length table.objects
+  IsFull table = max_objects ≤ length table.objects
 
   -- every number was given
   abbrev pub IsSpent : Table B → Type 0

@@ -16,7 +16,11 @@ module _ {B : Type 0} where
 
   -- the table once the marks were cleared
   abbrev pub without_marks : Table B → Table B
-  without_marks table = record table { objects = map (λ e. (e.0, settled_object e.1)) table.objects; settled = table.last; gone = [] }
+  without_marks table = record table {
+    objects = map (λ e. (e.0, settled_object e.1)) table.objects;
+    settled = table.last;
+    gone = [];
+  }
 
   -- the numbers of those that have a mark, by ascending number
   abbrev pub marked_in : List (ℕ × Placed B) → List ℕ

@@ -23,7 +23,8 @@ module _ {B : Type 0} where
   with_box box object = record object { touched = true; body = Host box }
 
   -- The host object of a number answers a call, and nothing else changes.
-  pub record Answers (G : Ghosts B) (number : ℕ) (call : HostCall) (answer : HostAnswer) (old new : Table B) : Type 0 where
+  pub record Answers (G : Ghosts B) (number : ℕ) (call : HostCall) (answer : HostAnswer)
+      (old new : Table B) : Type 0 where
     pub before : B
     pub after : B
     pub was : box_at number old ≡ Some before
@@ -31,7 +32,8 @@ module _ {B : Type 0} where
     pub becomes : new ≡ with_object number (with_box after) old
 
   -- The service at a place answers a call, and nothing else changes.
-  pub record ServiceAnswers (G : Ghosts B) (place : ℕ) (call : HostCall) (answer : HostAnswer) (old new : Table B) : Type 0 where
+  pub record ServiceAnswers (G : Ghosts B) (place : ℕ) (call : HostCall) (answer : HostAnswer)
+      (old new : Table B) : Type 0 where
     pub before : B
     pub after : B
     pub was : slice_get old.services place ≡ Some before

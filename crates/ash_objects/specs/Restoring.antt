@@ -1,11 +1,12 @@
 -- A table from what a state holds.
-use Rattle.std.specs.Prelude.{◌≡◌, ℕ, ◌≤◌, true, false, List, [], ◌∷◌, length, map, Option, None, Some, IsSome, IfSome, slice_get, nat_eq, take}
+use Rattle.std.specs.Prelude.{◌≡◌, ℕ, ◌≤◌, true, false, List, [], ◌∷◌, length}
+use Rattle.std.specs.Prelude.{map, Option, None, Some, IsSome, IfSome, slice_get, nat_eq, take}
 use Rattle.std.specs.Option.{option_map, option_and_then}
 use Rattle.std.specs.List.{remove, position}
 use Rattle.std.specs.declared.vec.Vec.{Vec}
 use Rattle.std.specs.declared.alloc.Global.{Global}
 use Rattle.ash_host.specs.declared.host_object.HostObject.{Ghosts}
-use Rattle.ash_host.specs.Calls.{SameRelation}
+use Rattle.ash_host.specs.Calls.{SameRelation, max_state}
 use Rattle.ash_host.specs.Objects.{object_at}
 use Rattle.ash_slots.specs.declared.body.Body.{Body}
 use Rattle.ash_slots.specs.declared.body.Body.TheVariants.{Script, Array, Host}
@@ -42,7 +43,9 @@ pub data Drawn (B : Type 0) : Type 0 where
 module _ {B : Type 0} where
   -- the first box of a kind, and the others in order
   abbrev pub draw_box : Ghosts B → ℕ → List B → Option (B × List B)
-  draw_box G kind pool = option_and_then (λ place. option_map (λ box. (box, remove pool place)) (slice_get pool place)) (position (λ box. nat_eq (G.kind_of box) kind) pool)
+  draw_box G kind pool =
+      option_and_then (λ place. option_map (λ box. (box, remove pool place)) (slice_get pool place))
+      (position (λ box. nat_eq (G.kind_of box) kind) pool)
 
   -- with what one object took before the others
   abbrev pub with_box_first : Option B → Drawn B → Drawn B
@@ -64,30 +67,32 @@ module _ {B : Type 0} where
   draw_boxes G [] pool = Enough [] pool
   draw_boxes G (object ∷ objects) pool = draw_then G (kind_wanted object) pool (λ left. draw_boxes G objects left)
 
-  -- A host object took a state: it has it now, and keeps its kind and its relation.
-  pub record BroughtBack (G : Ghosts B) (before : B) (bytes : List ℕ) (after : B) : Type 0 where
+  -- A host object took a state: it has this state now, and its kind and its relation are as before.
+  pub record RestoresState (G : Ghosts B) (before : B) (bytes : List ℕ) (after : B) : Type 0 where
     pub has : G.state after ≡ bytes
     pub same_kind : G.kind_of after ≡ G.kind_of before
     pub same_relation : SameRelation (G.allows before) (G.allows after)
-    pub bounded : length (G.state after) ≤ 1024
+    pub bounded : length (G.state after) ≤ max_state
 
-  -- what an object was stored as is what it is in a table, with what became of its box in place of its kind and state
+  -- An object of a state is in a table what it was, with its box, which has its state, in place of its kind and state.
   abbrev pub IsBody : Ghosts B → Body Saved → Option B → Body B → Type 0
   IsBody G (Script script) box body = body ≡ Script script
   IsBody G (Array array) box body = body ≡ Array array
   IsBody G (Host saved) None body = ⊥
-  IsBody G (Host saved) (Some before) body = (after : B) × (body ≡ Host after) × BroughtBack G before saved.state.items after
+  IsBody G (Host saved) (Some before) body = (after : B) × (body ≡ Host after)
+      × RestoresState G before saved.state.items after
 
   -- the same of all, in order
   abbrev pub AreBodies : Ghosts B → List Stored → List (Option B) → List (ℕ × Body B) → Type 0
   AreBodies G [] [] [] = Unit {0}
-  AreBodies G (object ∷ objects) (box ∷ boxes) (e ∷ entries) = (e.0 ≡ object.number) × IsBody G object.body box e.1 × AreBodies G objects boxes entries
+  AreBodies G (object ∷ objects) (box ∷ boxes) (e ∷ entries) = (e.0 ≡ object.number) × IsBody G object.body box e.1
+      × AreBodies G objects boxes entries
   AreBodies G [] [] (e ∷ entries) = ⊥
   AreBodies G [] (box ∷ boxes) entries = ⊥
   AreBodies G (object ∷ objects) [] entries = ⊥
   AreBodies G (object ∷ objects) (box ∷ boxes) [] = ⊥
 
-  -- the objects of a table by their numbers, without what the table keeps of them
+  -- what the objects of a table are, by their numbers
   abbrev pub bodies_of : List (ℕ × Living B) → List (ℕ × Body B)
   bodies_of objects = map (λ e. (e.0, (e.1).body)) objects
 
@@ -100,20 +105,22 @@ module _ {B : Type 0} where
     pub not_held : (number : ℕ) → holds_of number table ≡ 0
     pub unmarked : (number : ℕ) → IfSome (object_at number table.objects) (λ object. object.touched ≡ false)
 
-  -- services, each with the state that it had
-  pub record AreBack (G : Ghosts B) (before : List B) (states : List (List ℕ)) (after : List B) : Type 0 where
+  -- Each service took the state that it had.
+  pub record RestoresServices (G : Ghosts B) (before : List B) (states : List (List ℕ)) (after : List B) : Type 0 where
     pub many : length after ≡ length before
-    pub each : (place : ℕ) (one other : B) (bytes : List ℕ) → slice_get before place ≡ Some one → slice_get after place ≡ Some other → slice_get states place ≡ Some bytes → BroughtBack G one bytes other
+    pub each : (place : ℕ) (one other : B) (bytes : List ℕ) → slice_get before place ≡ Some one
+        → slice_get after place ≡ Some other → slice_get states place ≡ Some bytes → RestoresState G one bytes other
 
-  -- what became of what an object took
-  abbrev pub IsBack : Ghosts B → Body Saved → Option B → Option B → Type 0
-  IsBack G body None after = after ≡ None
-  IsBack G body (Some before) after = (box : B) × (after ≡ Some box) × BroughtBack G before (bytes_of body) box
+  -- The box that an object took, if it took one, has the object's state.
+  abbrev pub RestoresBox : Ghosts B → Body Saved → Option B → Option B → Type 0
+  RestoresBox G body None after = after ≡ None
+  RestoresBox G body (Some before) after = (box : B) × (after ≡ Some box) × RestoresState G before (bytes_of body) box
 
-  -- what objects took, each box with the state that its object had
-  pub record AreBoxesBack (G : Ghosts B) (objects : List Stored) (before after : List (Option B)) : Type 0 where
+  -- The boxes that objects took have the states of their objects.
+  pub record RestoresBoxes (G : Ghosts B) (objects : List Stored) (before after : List (Option B)) : Type 0 where
     pub many : length after ≡ length before
-    pub each : (place : ℕ) (object : Stored) (one other : Option B) → slice_get objects place ≡ Some object → slice_get before place ≡ Some one → slice_get after place ≡ Some other → IsBack G object.body one other
+    pub each : (place : ℕ) (object : Stored) (one other : Option B) → slice_get objects place ≡ Some object
+        → slice_get before place ≡ Some one → slice_get after place ≡ Some other → RestoresBox G object.body one other
 
   -- The service at a place refused its state, and those before it took theirs.
   pub record ServiceRefused (G : Ghosts B) (services : List B) (states : List (List ℕ)) : Type 0 where
@@ -123,7 +130,7 @@ module _ {B : Type 0} where
     pub back : List B
     pub there : slice_get services place ≡ Some service
     pub state : slice_get states place ≡ Some bytes
-    pub before : AreBack G (take place services) states back
+    pub before : RestoresServices G (take place services) states back
     pub refused : G.refuses service bytes
 
   -- The box that the object of a number took refused the object's state, and those before it took theirs.
@@ -135,28 +142,33 @@ module _ {B : Type 0} where
     pub there : slice_get objects place ≡ Some object
     pub named : object.number ≡ number
     pub took : slice_get boxes place ≡ Some (Some box)
-    pub before : AreBoxesBack G objects (take place boxes) back
+    pub before : RestoresBoxes G objects (take place boxes) back
     pub refused : G.refuses box (bytes_of object.body)
 
-  -- What was refused, once the pool was long enough: the state of the first service that refused; or, where all services
-  -- took theirs, the state of the first host object, by number, whose box refused.
-  pub data IsRefused (G : Ghosts B) (objects : List Stored) (states : List (List ℕ)) (pool services : List B) : ℕ → Type 0 where
-    Service : (boxes : List (Option B)) (left : List B) → draw_boxes G objects pool ≡ Enough boxes left → ServiceRefused G services states → IsRefused G objects states pool services 0
-    Object : (number : ℕ) (boxes : List (Option B)) (left back : List B) → draw_boxes G objects pool ≡ Enough boxes left → AreBack G services states back → BoxRefused G objects boxes number → IsRefused G objects states pool services number
+  -- What was refused, once the pool was long enough: the state of the first service that refused; or, where all
+  -- services took theirs, the state of the first host object, by number, whose box refused.
+  pub data IsRefused (G : Ghosts B) (objects : List Stored) (states : List (List ℕ))
+      (pool services : List B) : ℕ → Type 0 where
+    Service : (boxes : List (Option B)) (left : List B) → draw_boxes G objects pool ≡ Enough boxes left
+        → ServiceRefused G services states → IsRefused G objects states pool services 0
+    Object : (number : ℕ) (boxes : List (Option B)) (left back : List B)
+        → draw_boxes G objects pool ≡ Enough boxes left → RestoresServices G services states back
+        → BoxRefused G objects boxes number → IsRefused G objects states pool services number
 
-  -- an object with what it took in place of its kind and state; nothing where it took nothing and had to
-  abbrev pub with_taken : Body Saved → Option B → Option (Body B)
-  with_taken (Script script) box = Some (Script script)
-  with_taken (Array array) box = Some (Array array)
-  with_taken (Host saved) None = None
-  with_taken (Host saved) (Some box) = Some (Host box)
+  -- what an object is, with the box that it took in place of its kind and state; nothing where it needed one and took
+  -- none
+  abbrev pub with_drawn : Body Saved → Option B → Option (Body B)
+  with_drawn (Script script) box = Some (Script script)
+  with_drawn (Array array) box = Some (Array array)
+  with_drawn (Host saved) None = None
+  with_drawn (Host saved) (Some box) = Some (Host box)
 
-  -- each host object took something
+  -- each host object took a box
   abbrev pub AreFit : List Stored → List (Option B) → Type 0
   AreFit [] [] = Unit {0}
   AreFit [] (box ∷ boxes) = ⊥
   AreFit (object ∷ objects) [] = ⊥
-  AreFit (object ∷ objects) (box ∷ boxes) = IsSome (with_taken object.body box) × AreFit objects boxes
+  AreFit (object ∷ objects) (box ∷ boxes) = IsSome (with_drawn object.body box) × AreFit objects boxes
 
   -- an object as it is put into its slot
   pub record IsFresh (object : Placed B) : Type 0 where
@@ -164,10 +176,11 @@ module _ {B : Type 0} where
     pub waits : object.waiting ≡ true
     pub unmarked : (object.item).touched ≡ false
 
-  -- objects as they are put into their slots, with what they took
+  -- objects as they are put into their slots, with the boxes that they took
   abbrev pub ArePut : List Stored → List (Option B) → List (ℕ × Placed B) → Type 0
   ArePut [] [] [] = Unit {0}
-  ArePut (object ∷ objects) (box ∷ boxes) (e ∷ entries) = (e.0 ≡ object.number) × (with_taken object.body box ≡ Some ((e.1).item).body) × IsFresh e.1 × ArePut objects boxes entries
+  ArePut (object ∷ objects) (box ∷ boxes) (e ∷ entries) = (e.0 ≡ object.number)
+      × (with_drawn object.body box ≡ Some ((e.1).item).body) × IsFresh e.1 × ArePut objects boxes entries
   ArePut [] [] (e ∷ entries) = ⊥
   ArePut [] (box ∷ boxes) entries = ⊥
   ArePut (object ∷ objects) [] entries = ⊥

@@ -12,7 +12,8 @@ use Rattle.ash_objects.specs.Table.{Living, Table, holds_of, count_of}
 module _ {B : Type 0} where
   -- a word of one object is a handle to another
   abbrev pub RefersTo : List (ℕ × Living B) → ℕ → ℕ → Type 0
-  RefersTo objects one other = IsSomeAnd (object_at one objects) (λ object. Contains (handles (words_of object.body)) other)
+  RefersTo objects one other = IsSomeAnd (object_at one objects)
+      (λ object. Contains (handles (words_of object.body)) other)
 
   -- an object is held, or an object that is reachable refers to it
   abbrev pub IsReachable : Table B → ℕ → Type 0
@@ -34,10 +35,15 @@ module _ {B : Type 0} where
   -- to it; the table keeps the numbers that went, and all else is as it was.
   pub record Collects (old new : Table B) : Type 0 where
     pub counted : (number : ℕ) → Lives new.objects number → 0 < count_of number new
-    pub unchanged : (number : ℕ) → Lives new.objects number → object_at number new.objects ≡ object_at number old.objects
+    pub unchanged : (number : ℕ) → Lives new.objects number → object_at number new.objects
+        ≡ object_at number old.objects
     pub not_held : (number : ℕ) → object_at number new.objects ≡ None → holds_of number old ≡ 0
-    pub not_referred : (one other : ℕ) → object_at other new.objects ≡ None → Lives new.objects one → ¬ RefersTo old.objects one other
-    pub others : new ≡ record old { objects = new.objects; gone = old.gone ++ gone_since old.settled (gone_from old.objects new.objects) }
+    pub not_referred : (one other : ℕ) → object_at other new.objects ≡ None → Lives new.objects one
+        → ¬ RefersTo old.objects one other
+    pub others : new ≡ record old {
+      objects = new.objects;
+      gone = old.gone ++ gone_since old.settled (gone_from old.objects new.objects);
+    }
 
   -- ranks below a bound that fall from each object to those that it refers to
   pub record RanksFall (rank : ℕ → ℕ) (top : ℕ) (table : Table B) : Type 0 where

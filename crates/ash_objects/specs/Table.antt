@@ -1,4 +1,4 @@
--- The table: objects by their numbers, and what else the host keeps of objects.
+-- The table: objects by their numbers, and what else a host has of objects.
 use Rattle.std.specs.Prelude.{◌≡◌, ℕ, ◌+◌, ◌-◌, Bool, true, List, Option, Some, IfSome, sum_by, slice_get}
 use Rattle.std.specs.Option.{option_map, option_map_or, option_and_then}
 use Rattle.std.specs.Map.{values_of}
@@ -25,6 +25,14 @@ pub record Table (B : Type 0) : Type 0 where
   pub last : ℕ
   pub settled : ℕ
   pub gone : List ℕ
+
+-- how many objects may live at once
+abbrev pub max_objects : ℕ
+max_objects = 4096
+
+-- how many words an object may hold, and how many elements an array may have
+abbrev pub max_elements : ℕ
+max_elements = 4096
 
 module _ {B : Type 0} where
   -- how many fields of these objects hold an object
@@ -53,7 +61,8 @@ module _ {B : Type 0} where
 
   -- the word at a place of an object
   abbrev pub field_of : ℕ → ℕ → Table B → Option Word
-  field_of number place table = option_and_then (λ object. slice_get (words_of object.body) place) (object_at number table.objects)
+  field_of number place table = option_and_then (λ object. slice_get (words_of object.body) place)
+      (object_at number table.objects)
 
   -- the object that a word is a handle to lives, if it is one
   abbrev pub IsAlive : Word → Table B → Type 0

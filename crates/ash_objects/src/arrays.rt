@@ -1,8 +1,9 @@
 //! Calls of arrays.
-ghost use Rattle.std.specs.Prelude.{◌≡◌, ◌<◌, ◌≤◌, ◌-◌, ◌++◌, ◌∷◌, ◌↔◌, ℕ, [], take, length, slice_get, Some, IsSome, IfSome, OnOk, OnErr, IsErrOf};
+ghost use Rattle.std.specs.Prelude.{◌≡◌, ◌<◌, ◌≤◌, ◌-◌, ◌++◌, ◌∷◌, ◌↔◌, ℕ, []};
+ghost use Rattle.std.specs.Prelude.{take, length, slice_get, Some, IsSome, IfSome, OnOk, OnErr, IsErrOf};
 ghost use Rattle.ash_objects.specs.declared.arrays.LengthFault.{LengthFault};
 ghost use Rattle.ash_host.specs.Objects.{IsInOrder};
-ghost use Rattle.ash_objects.specs.Table.{slot_of, IsAlive, with_object, with_field};
+ghost use Rattle.ash_objects.specs.Table.{slot_of, IsAlive, with_object, with_field, max_elements};
 ghost use Rattle.ash_objects.specs.Arrays.{elements_at, array_at, with_elements};
 ghost use Rattle.ash_slots.specs.Arrays.{lengthened};
 
@@ -28,8 +29,10 @@ pub enum LengthFault {
 impl<B> Objects<B> {
     // The elements of the array in a slot, in order.
     fn elements(&self, slot: usize) -> &[Word]
-        requires { (number : ℕ) × (slot_of number self.now ≡ Some slot) × IsSome (elements_at number self.now) }
-        ensures { (number : ℕ) → slot_of number self.now ≡ Some slot → elements_at number self.now ≡ Some result.now }
+        requires { (number : ℕ) × (slot_of number self.now ≡ Some slot)
+            × IsSome (elements_at number self.now) }
+        ensures { (number : ℕ) → slot_of number self.now ≡ Some slot → elements_at number self.now
+            ≡ Some result.now }
     {
         match &self.store.item(slot).body {
             Body::Array(array) => array.elements.as_slice(),
@@ -40,7 +43,8 @@ impl<B> Objects<B> {
 
     /// How many elements the array in a slot has. It takes no memory.
     pub fn length_at(&self, slot: usize) -> usize
-        requires { (number : ℕ) × (slot_of number self.now ≡ Some slot) × IsSome (elements_at number self.now) }
+        requires { (number : ℕ) × (slot_of number self.now ≡ Some slot)
+            × IsSome (elements_at number self.now) }
         ensures { (number : ℕ) → slot_of number self.now ≡ Some slot
             → IfSome (elements_at number self.now) (λ elements. result ≡ length elements) }
     {
@@ -60,7 +64,8 @@ impl<B> Objects<B> {
 
     /// The element of the array in a slot at an index, if there is one. It takes no memory.
     pub fn element_at(&self, slot: usize, index: usize) -> Option<Word>
-        requires { (number : ℕ) × (slot_of number self.now ≡ Some slot) × IsSome (elements_at number self.now) }
+        requires { (number : ℕ) × (slot_of number self.now ≡ Some slot)
+            × IsSome (elements_at number self.now) }
         ensures { (number : ℕ) → slot_of number self.now ≡ Some slot
             → IfSome (elements_at number self.now) (λ elements. result ≡ slice_get elements index) }
     {
@@ -70,7 +75,8 @@ impl<B> Objects<B> {
     /// The element of an array at an index, if there is one. It takes no memory.
     pub fn element(&self, number: u64, index: usize) -> Option<Word>
         requires { IsSome (elements_at number self.now) }
-        ensures { IfSome (elements_at number self.now) (λ elements. result ≡ slice_get elements index) }
+        ensures { IfSome (elements_at number self.now)
+            (λ elements. result ≡ slice_get elements index) }
     {
         let Some(slot) = self.slot(number) else {
             unreachable!()
@@ -85,7 +91,8 @@ impl<B> Objects<B> {
         index: usize,
         word: Word,
     ) -> Result<(), IndexOutOfBounds>
-        requires array { (number : ℕ) × (slot_of number self.old ≡ Some slot) × IsSome (elements_at number self.old) }
+        requires array { (number : ℕ) × (slot_of number self.old ≡ Some slot)
+            × IsSome (elements_at number self.old) }
         requires alive { IsAlive word self.old }
         ensures within { OnOk result ((number : ℕ) → slot_of number self.old ≡ Some slot
             → IfSome (elements_at number self.old) (λ elements. index < length elements)) }
@@ -111,9 +118,12 @@ impl<B> Objects<B> {
     ) -> Result<(), IndexOutOfBounds>
         requires array { IsSome (elements_at number self.old) }
         requires alive { IsAlive word self.old }
-        ensures within { OnOk result (IfSome (elements_at number self.old) (λ elements. index < length elements)) }
-        ensures outside { OnErr result (IfSome (elements_at number self.old) (λ elements. length elements ≤ index)) }
-        ensures written { OnOk result (self.new ≡ with_object number (with_field index word) self.old) }
+        ensures within { OnOk result (IfSome (elements_at number self.old)
+            (λ elements. index < length elements)) }
+        ensures outside { OnErr result (IfSome (elements_at number self.old)
+            (λ elements. length elements ≤ index)) }
+        ensures written { OnOk result
+            (self.new ≡ with_object number (with_field index word) self.old) }
         ensures unchanged { OnErr result (self.new ≡ self.old) }
     {
         let Some(slot) = self.slot(number) else {
@@ -124,8 +134,9 @@ impl<B> Objects<B> {
 
     // Appends the initial value of its elements to the array in a slot until there are so many.
     fn lengthen(&mut self, slot: usize, len: usize) -> Result<(), NoMemory>
-        requires array { (number : ℕ) × (slot_of number self.old ≡ Some slot) × IsSome (array_at number self.old) }
-        requires short { len ≤ 4096 }
+        requires array { (number : ℕ) × (slot_of number self.old ≡ Some slot)
+            × IsSome (array_at number self.old) }
+        requires short { len ≤ max_elements }
         ensures lengthened { OnOk result ((number : ℕ) → slot_of number self.old ≡ Some slot
             → IfSome (array_at number self.old) (λ array. self.new
             ≡ with_object number (with_elements (lengthened len array)) self.old)) }
@@ -139,13 +150,14 @@ impl<B> Objects<B> {
 
     // Cuts the elements of the array in a slot off from a length on, and gives up what they hold.
     fn shorten(&mut self, slot: usize, len: usize)
-        requires { (number : ℕ) × (slot_of number self.old ≡ Some slot) × IsSome (array_at number self.old) }
+        requires { (number : ℕ) × (slot_of number self.old ≡ Some slot)
+            × IsSome (array_at number self.old) }
         ensures { (number : ℕ) → slot_of number self.old ≡ Some slot
             → IfSome (array_at number self.old) (λ array. self.new
             ≡ with_object number (with_elements (take len array.elements)) self.old) }
     {
         let mut words = take_elements(&mut self.store, slot);
-        release_words(&mut self.store, words.after(len));
+        release_words(&mut self.store, words.suffix(len));
         words.truncate(len);
         put_elements(&mut self.store, slot, words);
         self.marks.mark(slot);
@@ -154,16 +166,18 @@ impl<B> Objects<B> {
     /// Gives the array in a slot a length: what is beyond it goes, and what it holds is counted once less for each
     /// element that held it; what is added is zero or null. It takes memory only where the array has fewer elements.
     pub fn resize_at(&mut self, slot: usize, len: usize) -> Result<(), LengthFault>
-        requires { (number : ℕ) × (slot_of number self.old ≡ Some slot) × IsSome (array_at number self.old) }
-        ensures long { IsErrOf result LengthFault.TooLong ↔ (4096 < len) }
+        requires { (number : ℕ) × (slot_of number self.old ≡ Some slot)
+            × IsSome (array_at number self.old) }
+        ensures long { IsErrOf result LengthFault.TooLong ↔ (max_elements < len) }
         ensures shorter { OnOk result ((number : ℕ) → slot_of number self.old ≡ Some slot
             → IfSome (array_at number self.old) (λ array. len ≤ length array.elements
             → self.new ≡ with_object number (with_elements (take len array.elements)) self.old)) }
         ensures longer { OnOk result ((number : ℕ) → slot_of number self.old ≡ Some slot
             → IfSome (array_at number self.old) (λ array. length array.elements < len
             → self.new ≡ with_object number (with_elements (lengthened len array)) self.old)) }
-        ensures memory { IsErrOf result LengthFault.NoMemory → (number : ℕ) → slot_of number self.old ≡ Some slot
-            → IfSome (array_at number self.old) (λ array. length array.elements < len) }
+        ensures memory { IsErrOf result LengthFault.NoMemory → (number : ℕ)
+            → slot_of number self.old ≡ Some slot → IfSome (array_at number self.old)
+            (λ array. length array.elements < len) }
         ensures unchanged { OnErr result (self.new ≡ self.old) }
     {
         if len > MAX_ELEMENTS {
@@ -183,10 +197,12 @@ impl<B> Objects<B> {
     /// held it; what is added is zero or null. It takes memory only where the array has fewer elements.
     pub fn resize(&mut self, number: u64, len: usize) -> Result<(), LengthFault>
         requires { IsSome (array_at number self.old) }
-        ensures long { IsErrOf result LengthFault.TooLong ↔ (4096 < len) }
-        ensures shorter { OnOk result (IfSome (array_at number self.old) (λ array. len ≤ length array.elements
+        ensures long { IsErrOf result LengthFault.TooLong ↔ (max_elements < len) }
+        ensures shorter { OnOk result (IfSome (array_at number self.old)
+            (λ array. len ≤ length array.elements
             → self.new ≡ with_object number (with_elements (take len array.elements)) self.old)) }
-        ensures longer { OnOk result (IfSome (array_at number self.old) (λ array. length array.elements < len
+        ensures longer { OnOk result (IfSome (array_at number self.old)
+            (λ array. length array.elements < len
             → self.new ≡ with_object number (with_elements (lengthened len array)) self.old)) }
         ensures memory { IsErrOf result LengthFault.NoMemory
             → IfSome (array_at number self.old) (λ array. length array.elements < len) }
@@ -200,10 +216,12 @@ impl<B> Objects<B> {
 
     /// Appends an element to the array in a slot. What it is a handle to is counted once more.
     pub fn insert_last_at(&mut self, slot: usize, word: Word) -> Result<(), LengthFault>
-        requires array { (number : ℕ) × (slot_of number self.old ≡ Some slot) × IsSome (array_at number self.old) }
+        requires array { (number : ℕ) × (slot_of number self.old ≡ Some slot)
+            × IsSome (array_at number self.old) }
         requires alive { IsAlive word self.old }
-        ensures long { (number : ℕ) → slot_of number self.old ≡ Some slot → IfSome (array_at number self.old)
-            (λ array. IsErrOf result LengthFault.TooLong ↔ (4096 ≤ length array.elements)) }
+        ensures long { (number : ℕ) → slot_of number self.old ≡ Some slot
+            → IfSome (array_at number self.old) (λ array. IsErrOf result LengthFault.TooLong
+            ↔ (max_elements ≤ length array.elements)) }
         ensures inserted { OnOk result ((number : ℕ) → slot_of number self.old ≡ Some slot
             → IfSome (array_at number self.old) (λ array. self.new
             ≡ with_object number (with_elements (array.elements ++ word ∷ [])) self.old)) }
@@ -225,7 +243,7 @@ impl<B> Objects<B> {
         requires array { IsSome (array_at number self.old) }
         requires alive { IsAlive word self.old }
         ensures long { IsErrOf result LengthFault.TooLong
-            ↔ IfSome (array_at number self.old) (λ array. 4096 ≤ length array.elements) }
+            ↔ IfSome (array_at number self.old) (λ array. max_elements ≤ length array.elements) }
         ensures inserted { OnOk result (IfSome (array_at number self.old) (λ array. self.new
             ≡ with_object number (with_elements (array.elements ++ word ∷ [])) self.old)) }
         ensures unchanged { OnErr result (self.new ≡ self.old) }
@@ -238,14 +256,16 @@ impl<B> Objects<B> {
 
     /// Takes the last element of the array in a slot away. What it held is counted once less. It takes no memory.
     pub fn remove_last_at(&mut self, slot: usize) -> Result<(), IndexOutOfBounds>
-        requires { (number : ℕ) × (slot_of number self.old ≡ Some slot) × IsSome (array_at number self.old) }
+        requires { (number : ℕ) × (slot_of number self.old ≡ Some slot)
+            × IsSome (array_at number self.old) }
         ensures empty { OnErr result ((number : ℕ) → slot_of number self.old ≡ Some slot
             → IfSome (array_at number self.old) (λ array. length array.elements ≡ 0)) }
         ensures some { OnOk result ((number : ℕ) → slot_of number self.old ≡ Some slot
             → IfSome (array_at number self.old) (λ array. 0 < length array.elements)) }
         ensures removed { OnOk result ((number : ℕ) → slot_of number self.old ≡ Some slot
-            → IfSome (array_at number self.old) (λ array. self.new
-            ≡ with_object number (with_elements (take (length array.elements - 1) array.elements)) self.old)) }
+            → IfSome (array_at number self.old)
+            (λ array. self.new ≡ with_object number
+            (with_elements (take (length array.elements - 1) array.elements)) self.old)) }
         ensures unchanged { OnErr result (self.new ≡ self.old) }
     {
         let Some(last) = self.length_at(slot).checked_sub(1) else {
@@ -258,10 +278,13 @@ impl<B> Objects<B> {
     /// Takes the last element of an array away. What it held is counted once less. It takes no memory.
     pub fn remove_last(&mut self, number: u64) -> Result<(), IndexOutOfBounds>
         requires { IsSome (array_at number self.old) }
-        ensures empty { OnErr result (IfSome (array_at number self.old) (λ array. length array.elements ≡ 0)) }
-        ensures some { OnOk result (IfSome (array_at number self.old) (λ array. 0 < length array.elements)) }
-        ensures removed { OnOk result (IfSome (array_at number self.old) (λ array. self.new
-            ≡ with_object number (with_elements (take (length array.elements - 1) array.elements)) self.old)) }
+        ensures empty { OnErr result (IfSome (array_at number self.old)
+            (λ array. length array.elements ≡ 0)) }
+        ensures some { OnOk result (IfSome (array_at number self.old)
+            (λ array. 0 < length array.elements)) }
+        ensures removed { OnOk result (IfSome (array_at number self.old)
+            (λ array. self.new ≡ with_object number
+            (with_elements (take (length array.elements - 1) array.elements)) self.old)) }
         ensures unchanged { OnErr result (self.new ≡ self.old) }
     {
         let Some(slot) = self.slot(number) else {

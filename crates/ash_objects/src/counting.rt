@@ -12,7 +12,8 @@ use ash_slots::{Store, read_word, refer, release};
 pub(crate) fn refer_words<B>(store: &mut Store<B>, slot: usize)
     requires { (number : ℕ) × IsIn number slot store.old.objects
         × AllLive store.old.objects (words_at number store.old.objects)
-        × ((other : ℕ) → counted other store.old.objects + length (words_at number store.old.objects) < 2 ^ 128) }
+        × ((other : ℕ) → counted other store.old.objects + length
+        (words_at number store.old.objects) < 2 ^ 128) }
     ensures { (number : ℕ) → IsIn number slot store.old.objects
         → store.new.objects ≡ refer_all (words_at number store.old.objects) store.old.objects }
 {

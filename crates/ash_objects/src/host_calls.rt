@@ -1,5 +1,6 @@
 //! Calls of host objects and services.
-ghost use Rattle.std.specs.Prelude.{◌≡◌, ◌<◌, ◌≤◌, ◌++◌, ℕ, length, Some, IsSome, IsSomeAnd, IfOk, OnErr, vec_len, vec_capacity};
+ghost use Rattle.std.specs.Prelude.{◌≡◌, ◌<◌, ◌≤◌, ◌++◌, ℕ, length, Some};
+ghost use Rattle.std.specs.Prelude.{IsSome, IsSomeAnd, IfOk, OnErr, vec_len, vec_capacity};
 ghost use Rattle.ash_host.specs.declared.answer.HostAnswer.{HostAnswer};
 ghost use Rattle.ash_host.specs.declared.event.Target.{Target};
 ghost use Rattle.ash_host.specs.Calls.{Start, Invoke, Get, Set};
@@ -23,7 +24,8 @@ impl<B: HostObject> Objects<B> {
     }
 
     fn start_at(&mut self, slot: usize, args: &[Word]) -> HostAnswer
-        requires { (number : ℕ) × (slot_of number self.old ≡ Some slot) × IsSome (box_at number self.old) }
+        requires { (number : ℕ) × (slot_of number self.old ≡ Some slot)
+            × IsSome (box_at number self.old) }
         ensures { (number : ℕ) → slot_of number self.old ≡ Some slot
             → Answers B.HostObject number (Start args.now) result self.old self.new }
     {
@@ -33,9 +35,11 @@ impl<B: HostObject> Objects<B> {
 
     /// The value of a property of the host object in a slot. It takes no memory.
     pub fn get_prop_at(&self, slot: usize, prop: u16) -> Word
-        requires { (number : ℕ) × (slot_of number self.now ≡ Some slot) × IsSome (box_at number self.now) }
+        requires { (number : ℕ) × (slot_of number self.now ≡ Some slot)
+            × IsSome (box_at number self.now) }
         ensures { (number : ℕ) → slot_of number self.now ≡ Some slot
-            → IsSomeAnd (box_at number self.now) (λ box. B.allows box (Get prop) (B.state box) (HostAnswer.Value result) (B.state box)) }
+            → IsSomeAnd (box_at number self.now)
+            (λ box. B.allows box (Get prop) (B.state box) (HostAnswer.Value result) (B.state box)) }
     {
         box_in(&self.store, slot).get(prop)
     }
@@ -43,7 +47,8 @@ impl<B: HostObject> Objects<B> {
     /// The value of a property of a host object. It takes no memory.
     pub fn get_prop(&self, number: u64, prop: u16) -> Word
         requires { IsSome (box_at number self.now) }
-        ensures { IsSomeAnd (box_at number self.now) (λ box. B.allows box (Get prop) (B.state box) (HostAnswer.Value result) (B.state box)) }
+        ensures { IsSomeAnd (box_at number self.now)
+            (λ box. B.allows box (Get prop) (B.state box) (HostAnswer.Value result) (B.state box)) }
     {
         let Some(slot) = self.slot(number) else {
             unreachable!()
@@ -53,7 +58,8 @@ impl<B: HostObject> Objects<B> {
 
     /// Writes a property of the host object in a slot. It takes no memory.
     pub fn set_prop_at(&mut self, slot: usize, prop: u16, value: Word)
-        requires { (number : ℕ) × (slot_of number self.old ≡ Some slot) × IsSome (box_at number self.old) }
+        requires { (number : ℕ) × (slot_of number self.old ≡ Some slot)
+            × IsSome (box_at number self.old) }
         ensures { (number : ℕ) → slot_of number self.old ≡ Some slot
             → Answers B.HostObject number (Set prop value) HostAnswer.Nothing self.old self.new }
     {
@@ -64,7 +70,8 @@ impl<B: HostObject> Objects<B> {
     /// Writes a property of a host object. It takes no memory.
     pub fn set_prop(&mut self, number: u64, prop: u16, value: Word)
         requires { IsSome (box_at number self.old) }
-        ensures { Answers B.HostObject number (Set prop value) HostAnswer.Nothing self.old self.new }
+        ensures { Answers B.HostObject number (Set prop value) HostAnswer.Nothing self.old
+            self.new }
     {
         let Some(slot) = self.slot(number) else {
             unreachable!()
@@ -81,7 +88,8 @@ impl<B: HostObject> Objects<B> {
         args: &[Word],
         events: &mut Vec<Event>,
     ) -> Result<HostAnswer, NoMemory>
-        requires { (number : ℕ) × (slot_of number self.old ≡ Some slot) × IsSome (box_at number self.old) }
+        requires { (number : ℕ) × (slot_of number self.old ≡ Some slot)
+            × IsSome (box_at number self.old) }
         ensures answered { IfOk result (λ answer. (number : ℕ) → slot_of number self.old ≡ Some slot
             → Answers B.HostObject number (Invoke method args.now) answer self.old self.new) }
         ensures called { IfOk result (λ answer. (number : ℕ) → slot_of number self.old ≡ Some slot
@@ -113,8 +121,12 @@ impl<B: HostObject> Objects<B> {
         events: &mut Vec<Event>,
     ) -> Result<HostAnswer, NoMemory>
         requires { IsSome (box_at number self.old) }
-        ensures answered { IfOk result (λ answer. Answers B.HostObject number (Invoke method args.now) answer self.old self.new) }
-        ensures called { IfOk result (λ answer. events.new.items ≡ events.old.items ++ called (Target.Object number) method answer) }
+        ensures answered { IfOk result
+            (λ answer. Answers B.HostObject number (Invoke method args.now) answer self.old
+            self.new) }
+        ensures called { IfOk result
+            (λ answer. events.new.items ≡ events.old.items
+            ++ called (Target.Object number) method answer) }
         ensures unchanged { OnErr result (self.new ≡ self.old) }
         ensures no_event { OnErr result (events.new.items ≡ events.old.items) }
         ensures no_room { OnErr result (vec_capacity events.old ≤ vec_len events.old) }
@@ -135,8 +147,12 @@ impl<B: HostObject> Objects<B> {
         events: &mut Vec<Event>,
     ) -> Result<HostAnswer, NoMemory>
         requires { service < length self.old.services }
-        ensures answered { IfOk result (λ answer. ServiceAnswers B.HostObject service (Invoke function args.now) answer self.old self.new) }
-        ensures called { IfOk result (λ answer. events.new.items ≡ events.old.items ++ called (Target.Service service) function answer) }
+        ensures answered { IfOk result
+            (λ answer. ServiceAnswers B.HostObject service
+            (Invoke function args.now) answer self.old self.new) }
+        ensures called { IfOk result
+            (λ answer. events.new.items ≡ events.old.items
+            ++ called (Target.Service service) function answer) }
         ensures unchanged { OnErr result (self.new ≡ self.old) }
         ensures no_event { OnErr result (events.new.items ≡ events.old.items) }
         ensures no_room { OnErr result (vec_capacity events.old ≤ vec_len events.old) }

@@ -1,13 +1,13 @@
 //! The objects of a host: those that live, by their numbers and with their counts; the boxes of the embedding program
-//! that are free; its services. It stands on `ash_slots`, where each object has a slot while it lives, and on `ash_host`.
-//! It promises that a table is a map from numbers to objects, in which a count is the number of fields that hold the
-//! object and one for each hold that was not undone, and that a sweep takes away what no hold and no object that stays
-//! leads to.
+//! that are free; its services. It stands on `ash_slots`, where each object has a slot while it lives, and on
+//! `ash_host`. It promises that a table is a map from numbers to objects, in which a count is the number of fields that
+//! hold the object and one for each hold that was not undone, and that a sweep takes away what no hold and no object
+//! that stays leads to.
 //!
 //! In reading order: `objects` (the table, and its calls on fields and holds), `making` (new objects), `arrays` (calls
 //! of arrays), `host_calls` (calls of host objects and services), `sweeping` (the sweep), `marking` (what was made,
-//! changed or taken away), `marked_slots` (the slots of what was made or changed), `restoring` (a table from what a state
-//! holds), `counting` (the counts of what an object's words are handles to).
+//! changed or taken away), `marked_slots` (the slots of what was made or changed), `restoring` (a table from what a
+//! state holds), `counting` (the counts of what an object's words are handles to).
 #![tactic(auto)]
 
 mod arrays;
@@ -25,4 +25,4 @@ pub use ash_slots::{Array, Body, Element, Script, Words};
 pub use making::{MAX_ELEMENTS, MAX_OBJECTS, MakeFault};
 pub use marking::Touched;
 pub use objects::Objects;
-pub use restoring::{Saved, Stored, TableFault};
+pub use restoring::{Saved, Stored, StoredObjects, TableFault};

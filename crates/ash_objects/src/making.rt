@@ -1,12 +1,14 @@
 //! The making of objects.
-ghost use Rattle.std.specs.Prelude.{All, ◌≡◌, ◌≢◌, ◌<◌, ◌≤◌, ◌+◌, ◌↔◌, ◌++◌, ◌∷◌, [], ℕ, length, Some, None, IsSomeAnd, IfOk, OnOk, OnErr, IsErrOf, slice_get, nat_eq, replicate};
+ghost use Rattle.std.specs.Prelude.{All, ◌≡◌, ◌≢◌, ◌<◌, ◌≤◌, ◌+◌, ◌↔◌, ◌++◌};
+ghost use Rattle.std.specs.Prelude.{◌∷◌, [], ℕ, length, Some, None, IsSomeAnd, IfOk};
+ghost use Rattle.std.specs.Prelude.{OnOk, OnErr, IsErrOf, slice_get, nat_eq, replicate};
 ghost use Rattle.std.specs.List.{remove, position};
 ghost use Rattle.ash_host.specs.declared.event.Event.{Event};
 ghost use Rattle.ash_objects.specs.declared.making.MakeFault.{MakeFault};
 ghost use Rattle.ash_slots.specs.declared.body.Body.{Body};
 ghost use Rattle.ash_slots.specs.Bodies.{words_of, initial_of};
-ghost use Rattle.ash_objects.specs.Table.{slot_of, IsAlive};
-ghost use Rattle.ash_objects.specs.Making.{IsFull, IsSpent, first_of_kind, with_made};
+ghost use Rattle.ash_objects.specs.Table.{slot_of, IsAlive, max_objects, max_elements};
+ghost use Rattle.ash_objects.specs.Making.{IsFull, IsSpent, first_of_kind, with_new_object};
 
 use crate::counting::refer_words;
 use crate::objects::Objects;
@@ -45,9 +47,10 @@ impl<B> Objects<B> {
     // The number of the next object.
     fn next_number(&self) -> Result<u64, MakeFault>
         ensures number { IfOk result (λ number. number ≡ self.now.last + 1) }
-        ensures room { OnOk result (length self.now.objects < 4096) }
+        ensures room { OnOk result (length self.now.objects < max_objects) }
         ensures full { IsErrOf result MakeFault.ObjectLimit ↔ IsFull self.now }
-        ensures spent { IsErrOf result MakeFault.NumbersSpent ↔ ((IsFull self.now → ⊥) × IsSpent self.now) }
+        ensures spent { IsErrOf result MakeFault.NumbersSpent
+            ↔ ((IsFull self.now → ⊥) × IsSpent self.now) }
         ensures pool { IsErrOf result MakeFault.PoolEmpty → ⊥ }
         ensures long { IsErrOf result MakeFault.ArrayLimit → ⊥ }
         ensures memory { IsErrOf result MakeFault.NoMemory → ⊥ }
@@ -66,11 +69,12 @@ impl<B: HostObject> Objects<B> {
     // Puts a new object into the table under the next number.
     fn make(&mut self, next: u64, body: Body<B>) -> Result<(), NoMemory>
         requires next { next ≡ self.old.last + 1 }
-        requires room { length self.old.objects < 4096 }
-        requires short { length (words_of body) ≤ 4096 }
+        requires room { length self.old.objects < max_objects }
+        requires short { length (words_of body) ≤ max_elements }
         requires alive { All (λ word. IsAlive word self.old) (words_of body) }
         ensures unchanged { OnErr result (self.new ≡ self.old) }
-        ensures made { OnOk result (IsSomeAnd (slot_of next self.new) (λ slot. self.new ≡ with_made slot body self.old)) }
+        ensures made { OnOk result (IsSomeAnd (slot_of next self.new)
+            (λ slot. self.new ≡ with_new_object slot body self.old)) }
     {
         self.marks.reserve(self.store.vacant())?;
         let item = Item {
@@ -87,20 +91,23 @@ impl<B: HostObject> Objects<B> {
         Ok(())
     }
 
-    /// Makes an object of the class at a place in the source of its owner, the module in a slot, with its fields in order of declaration, and
-    /// gives it the next number. The objects that its fields are handles to are counted once more for each; nothing
-    /// holds the new one yet.
+    /// Makes an object of the class at a place in the source of its owner, the module in a slot, with its fields in
+    /// order of declaration, and gives it the next number. The objects that its fields are handles to are counted once
+    /// more for each; nothing holds the new one yet.
     pub fn new_script(&mut self, owner: u8, class: u16, fields: Words) -> Result<u64, MakeFault>
-        requires short { length fields ≤ 4096 }
+        requires short { length fields ≤ max_elements }
         requires alive { All (λ word. IsAlive word self.old) fields }
         ensures full { IsErrOf result MakeFault.ObjectLimit ↔ IsFull self.old }
-        ensures spent { IsErrOf result MakeFault.NumbersSpent ↔ ((IsFull self.old → ⊥) × IsSpent self.old) }
+        ensures spent { IsErrOf result MakeFault.NumbersSpent
+            ↔ ((IsFull self.old → ⊥) × IsSpent self.old) }
         ensures pool { IsErrOf result MakeFault.PoolEmpty → ⊥ }
         ensures long { IsErrOf result MakeFault.ArrayLimit → ⊥ }
         ensures unchanged { OnErr result (self.new ≡ self.old) }
         ensures number { IfOk result (λ number. number ≡ self.old.last + 1) }
-        ensures made { IfOk result (λ number. IsSomeAnd (slot_of number self.new) (λ slot. self.new
-            ≡ with_made slot (Body.Script (record { «module» = owner; class = class; fields = fields })) self.old)) }
+        ensures made { IfOk result
+            (λ number. IsSomeAnd (slot_of number self.new)
+            (λ slot. self.new ≡ with_new_object slot
+            (Body.Script (record { «module» = owner; class = class; fields = fields })) self.old)) }
     {
         let number = self.next_number()?;
         let script = Script {
@@ -117,15 +124,21 @@ impl<B: HostObject> Objects<B> {
     /// Makes an array of so many elements, each zero or null, and gives it the next number. Nothing holds it yet.
     pub fn new_array(&mut self, element: Element, length: usize) -> Result<u64, MakeFault>
         ensures full { IsErrOf result MakeFault.ObjectLimit ↔ IsFull self.old }
-        ensures spent { IsErrOf result MakeFault.NumbersSpent ↔ ((IsFull self.old → ⊥) × IsSpent self.old) }
+        ensures spent { IsErrOf result MakeFault.NumbersSpent
+            ↔ ((IsFull self.old → ⊥) × IsSpent self.old) }
         ensures long { IsErrOf result MakeFault.ArrayLimit
-            ↔ ((IsFull self.old → ⊥) × (IsSpent self.old → ⊥) × (4096 < length)) }
+            ↔ ((IsFull self.old → ⊥) × (IsSpent self.old → ⊥) × (max_elements < length)) }
         ensures pool { IsErrOf result MakeFault.PoolEmpty → ⊥ }
         ensures unchanged { OnErr result (self.new ≡ self.old) }
         ensures number { IfOk result (λ number. number ≡ self.old.last + 1) }
-        ensures made { IfOk result (λ number. IsSomeAnd (slot_of number self.new) (λ slot. self.new
-            ≡ with_made slot (Body.Array (record { element = element; elements = replicate length (initial_of element) }))
-            self.old)) }
+        ensures made { IfOk result
+            (λ number. IsSomeAnd (slot_of number self.new)
+            (λ slot. self.new ≡ with_new_object slot
+            (Body.Array (record {
+              element = element;
+              elements = replicate length
+                  (initial_of element);
+            })) self.old)) }
     {
         let number = self.next_number()?;
         if length > MAX_ELEMENTS {
@@ -148,17 +161,22 @@ impl<B: HostObject> Objects<B> {
     /// Takes the first free box of a kind from the pool and gives it the next number. Nothing holds it yet.
     pub fn draw(&mut self, kind: u16, events: &mut Vec<Event>) -> Result<u64, MakeFault>
         ensures full { IsErrOf result MakeFault.ObjectLimit ↔ IsFull self.old }
-        ensures spent { IsErrOf result MakeFault.NumbersSpent ↔ ((IsFull self.old → ⊥) × IsSpent self.old) }
+        ensures spent { IsErrOf result MakeFault.NumbersSpent
+            ↔ ((IsFull self.old → ⊥) × IsSpent self.old) }
         ensures pool { IsErrOf result MakeFault.PoolEmpty
-            ↔ ((IsFull self.old → ⊥) × (IsSpent self.old → ⊥) × (first_of_kind B.HostObject kind self.old ≡ None)) }
+            ↔ ((IsFull self.old → ⊥) × (IsSpent self.old → ⊥)
+            × (first_of_kind B.HostObject kind self.old ≡ None)) }
         ensures long { IsErrOf result MakeFault.ArrayLimit → ⊥ }
         ensures unchanged { OnErr result (self.new ≡ self.old) }
         ensures no_event { OnErr result (events.new.items ≡ events.old.items) }
         ensures number { IfOk result (λ number. number ≡ self.old.last + 1) }
-        ensures event { IfOk result (λ number. events.new.items ≡ events.old.items ++ Event.Drew number ∷ []) }
+        ensures event { IfOk result
+            (λ number. events.new.items ≡ events.old.items ++ Event.Drew number ∷ []) }
         ensures drawn { IfOk result (λ number. IsSomeAnd (first_of_kind B.HostObject kind self.old)
-            (λ place. IsSomeAnd (slice_get self.old.pool place) (λ box. IsSomeAnd (slot_of number self.new)
-            (λ slot. self.new ≡ record (with_made slot (Body.Host box) self.old) { pool = remove self.old.pool place })))) }
+            (λ place. IsSomeAnd (slice_get self.old.pool place)
+            (λ box. IsSomeAnd (slot_of number self.new)
+            (λ slot. self.new ≡ record (with_new_object slot (Body.Host box) self.old)
+            { pool = remove self.old.pool place })))) }
     {
         let number = self.next_number()?;
         let Some(place) = place_of_kind(&self.pool, kind) else {

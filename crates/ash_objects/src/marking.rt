@@ -1,5 +1,6 @@
 //! The marks of objects that were made, changed or taken away.
-ghost use Rattle.std.specs.Prelude.{◌≡◌, ◌≤◌, ◌+◌, ℕ, true, false, List, [], length, IfSome, IfNone, IsSomeAnd, IfOk, OnOk, OnErr, sum_by, vec_len, vec_capacity};
+ghost use Rattle.std.specs.Prelude.{◌≡◌, ◌≤◌, ◌+◌, ℕ, true, false, List, [], length};
+ghost use Rattle.std.specs.Prelude.{IfSome, IfNone, IsSomeAnd, IfOk, OnOk, OnErr, sum_by, vec_len, vec_capacity};
 ghost use Rattle.std.specs.List.Sorted.{IsStrictlyIncreasing};
 ghost use Rattle.ash_host.specs.Objects.{object_at, IsInOrder};
 ghost use Rattle.ash_slots.specs.Store.{change_at};
@@ -23,7 +24,8 @@ pub struct Touched {
 
 // Clears the mark of the object in a slot, if it has one, and returns its number. The slot may be empty.
 fn unmark<B>(store: &mut Store<B>, slot: usize) -> Option<u64>
-    ensures unmarked { IfSome result (λ number. store.new.objects ≡ change_at number unmarked store.old.objects) }
+    ensures unmarked { IfSome result
+        (λ number. store.new.objects ≡ change_at number unmarked store.old.objects) }
     ensures marked { IfSome result (λ number. IsSomeAnd (object_at number store.old.objects)
         (λ object. (object.item).touched ≡ true)) }
     ensures same { IfNone result (store.new.objects ≡ store.old.objects) }
@@ -48,8 +50,10 @@ fn unmark_listed<B>(store: &mut Store<B>, marks: &mut MarkedSlots, numbers: &mut
     requires listed { AreListed store.old.objects marks.old }
     requires empty { numbers.old.items ≡ [] }
     requires room { length marks.old.slots ≤ vec_capacity numbers.old }
-    ensures unmarked { store.new.objects ≡ unmark_all (marked_in store.old.objects) store.old.objects }
-    ensures numbers { (measure : ℕ → ℕ) → sum_by measure numbers.new.items ≡ sum_by measure (marked_in store.old.objects) }
+    ensures unmarked { store.new.objects
+        ≡ unmark_all (marked_in store.old.objects) store.old.objects }
+    ensures numbers { (measure : ℕ → ℕ) → sum_by measure numbers.new.items
+        ≡ sum_by measure (marked_in store.old.objects) }
     ensures listed { AreListed store.new.objects marks.new }
     ensures taken { marks.new.slots ≡ [] }
 {
@@ -62,7 +66,8 @@ fn unmark_listed<B>(store: &mut Store<B>, marks: &mut MarkedSlots, numbers: &mut
 
 // Sorts numbers, each of which is there once.
 fn sort_numbers(numbers: &mut Vec<u64>)
-    ensures { (list : List ℕ) → IsStrictlyIncreasing list → ((measure : ℕ → ℕ) → sum_by measure numbers.old.items ≡ sum_by measure list)
+    ensures { (list : List ℕ) → IsStrictlyIncreasing list
+        → ((measure : ℕ → ℕ) → sum_by measure numbers.old.items ≡ sum_by measure list)
         → numbers.new.items ≡ list }
 {
     numbers.sort_unstable_by_key(|number| *number);

@@ -2,7 +2,8 @@
 ghost use Rattle.std.specs.Prelude.{◌≡◌, ◌<◌, ◌≤◌, ◌+◌, ◌^◌, ℕ, [], Some, IsSome, IfSome};
 ghost use Rattle.std.specs.Option.{option_copied};
 ghost use Rattle.ash_host.specs.Objects.{Lives};
-ghost use Rattle.ash_objects.specs.Table.{slot_of, body_of, count_of, holds_of, field_of, IsInUse, IsAlive, held, unheld, with_object, with_field};
+ghost use Rattle.ash_objects.specs.Table.{slot_of, body_of, count_of, holds_of, field_of, IsInUse};
+ghost use Rattle.ash_objects.specs.Table.{IsAlive, held, unheld, with_object, with_field};
 
 use crate::marked_slots::MarkedSlots;
 use ash_host::{HostObject, Word};
@@ -104,8 +105,10 @@ impl<B> Objects<B> {
 
     /// Holds the object in a slot once more. It takes no memory.
     pub fn hold_at(&mut self, slot: usize)
-        requires { (number : ℕ) × (slot_of number self.old ≡ Some slot) × (count_of number self.old < 2 ^ 127) }
-        ensures { (number : ℕ) → slot_of number self.old ≡ Some slot → self.new ≡ with_object number held self.old }
+        requires { (number : ℕ) × (slot_of number self.old ≡ Some slot)
+            × (count_of number self.old < 2 ^ 127) }
+        ensures { (number : ℕ) → slot_of number self.old ≡ Some slot
+            → self.new ≡ with_object number held self.old }
     {
         count_more(&mut self.store, slot);
     }
@@ -124,8 +127,10 @@ impl<B> Objects<B> {
 
     /// Undoes a hold of the object in a slot. It takes no memory.
     pub fn unhold_at(&mut self, slot: usize)
-        requires { (number : ℕ) × (slot_of number self.old ≡ Some slot) × (0 < holds_of number self.old) }
-        ensures { (number : ℕ) → slot_of number self.old ≡ Some slot → self.new ≡ with_object number unheld self.old }
+        requires { (number : ℕ) × (slot_of number self.old ≡ Some slot)
+            × (0 < holds_of number self.old) }
+        ensures { (number : ℕ) → slot_of number self.old ≡ Some slot
+            → self.new ≡ with_object number unheld self.old }
     {
         count_less(&mut self.store, slot);
     }
@@ -143,8 +148,10 @@ impl<B> Objects<B> {
 
     /// The word at a place of the object in a slot. It takes no memory.
     pub fn field_at(&self, slot: usize, place: usize) -> Word
-        requires { (number : ℕ) × (slot_of number self.now ≡ Some slot) × IsSome (field_of number place self.now) }
-        ensures { (number : ℕ) → slot_of number self.now ≡ Some slot → field_of number place self.now ≡ Some result }
+        requires { (number : ℕ) × (slot_of number self.now ≡ Some slot)
+            × IsSome (field_of number place self.now) }
+        ensures { (number : ℕ) → slot_of number self.now ≡ Some slot
+            → field_of number place self.now ≡ Some result }
     {
         read_word(&self.store, slot, place)
     }
@@ -162,7 +169,8 @@ impl<B> Objects<B> {
 
     /// Writes a word at a place of the object in a slot. It takes no memory.
     pub fn set_field_at(&mut self, slot: usize, place: usize, word: Word)
-        requires there { (number : ℕ) × (slot_of number self.old ≡ Some slot) × IsSome (field_of number place self.old) }
+        requires there { (number : ℕ) × (slot_of number self.old ≡ Some slot)
+            × IsSome (field_of number place self.old) }
         requires alive { IsAlive word self.old }
         ensures { (number : ℕ) → slot_of number self.old ≡ Some slot
             → self.new ≡ with_object number (with_field place word) self.old }

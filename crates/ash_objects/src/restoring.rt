@@ -1,13 +1,20 @@
 //! A table from what a state holds.
-ghost use Rattle.std.specs.Prelude.{◌≡◌, ◌≤◌, ℕ, List, Option, Some, [], All, length, slice_get, IsSome, IfSome, IfOk, OnOk, IsErrOf, vec_len};
+ghost use Rattle.std.specs.Prelude.{◌≡◌, ◌≤◌, ℕ, List, Option, Some, [], All};
+ghost use Rattle.std.specs.Prelude.{length, slice_get, IsSome, IfSome, IfOk, OnOk, IsErrOf, vec_len};
 ghost use Rattle.ash_host.specs.Objects.{object_at, numbers, Lives, IsInOrder, AreNumbered, handle};
 ghost use Rattle.ash_slots.specs.Bodies.{words_of};
 ghost use Rattle.ash_slots.specs.Counting.{counted};
 ghost use Rattle.ash_objects.specs.declared.restoring.TableFault.{TableFault};
 ghost use Rattle.ash_objects.specs.declared.restoring.Stored.{Stored};
 ghost use Rattle.ash_objects.specs.Counting.{words_at, AllLive};
+ghost use Rattle.ash_objects.specs.Table.{max_objects, max_elements};
 ghost use Rattle.ash_objects.specs.Listing.{AreListed};
-ghost use Rattle.ash_objects.specs.Restoring.{stored_in, states_in, kind_wanted, bytes_of, Drawn, Enough, Short, draw_then, draw_boxes, with_box_first, BroughtBack, IsBack, AreBack, AreBoxesBack, ServiceRefused, BoxRefused, IsRefused, IsRestored, with_taken, AreFit, ArePut, refer_objects};
+ghost use Rattle.ash_objects.specs.Restoring.{stored_in, states_in, kind_wanted, bytes_of, Drawn};
+ghost use Rattle.ash_objects.specs.Restoring.{Enough, Short, draw_then, draw_boxes, with_box_first};
+ghost use Rattle.ash_objects.specs.Restoring.{RestoresState, RestoresBox, RestoresServices};
+ghost use Rattle.ash_objects.specs.Restoring.{RestoresBoxes, ServiceRefused};
+ghost use Rattle.ash_objects.specs.Restoring.{BoxRefused, IsRefused, IsRestored, with_drawn, AreFit};
+ghost use Rattle.ash_objects.specs.Restoring.{ArePut, refer_objects};
 
 use crate::counting::refer_words;
 use crate::making::place_of_kind;
@@ -33,7 +40,15 @@ pub struct Stored {
     pub body: Body<Saved>,
 }
 
-/// Why a table is not made.
+/// The objects of a state, and the last number that was given to one.
+#[derive(Drop)]
+pub struct StoredObjects {
+    /// By ascending number.
+    pub objects: Vec<Stored>,
+    pub last: u64,
+}
+
+/// Why no table is made.
 #[derive(Clone, Copy, Debug, PartialEq, Eq)]
 pub enum TableFault {
     /// There are too few free boxes of a kind.
@@ -59,8 +74,10 @@ impl Stored {
 // Takes the first box of an object's kind from the pool, if it is a host object.
 fn take_box<B: HostObject>(pool: &mut Vec<B>, object: &Stored) -> Result<Option<B>, TableFault>
     ensures taken { IfOk result (λ taken. (others : List B → Drawn B)
-        → draw_then B.HostObject (kind_wanted object.now) pool.old.items others ≡ with_box_first taken (others pool.new.items)) }
-    ensures short { (kind : ℕ) → IsErrOf result (TableFault.PoolShort kind) → (others : List B → Drawn B)
+        → draw_then B.HostObject (kind_wanted object.now) pool.old.items others
+        ≡ with_box_first taken (others pool.new.items)) }
+    ensures short { (kind : ℕ) → IsErrOf result (TableFault.PoolShort kind)
+        → (others : List B → Drawn B)
         → draw_then B.HostObject (kind_wanted object.now) pool.old.items others ≡ Short kind }
     ensures not_refused { (number : ℕ) → IsErrOf result (TableFault.RestoreRefused number) → ⊥ }
     ensures memory { IsErrOf result TableFault.NoMemory → ⊥ }
@@ -81,7 +98,8 @@ fn take_boxes<B: HostObject>(
     objects: &[Stored],
     pool: &mut Vec<B>,
 ) -> Result<Vec<Option<B>>, TableFault>
-    ensures enough { IfOk result (λ boxes. draw_boxes B.HostObject objects.now pool.old.items ≡ Enough boxes.items pool.new.items) }
+    ensures enough { IfOk result (λ boxes. draw_boxes B.HostObject objects.now pool.old.items
+        ≡ Enough boxes.items pool.new.items) }
     ensures short { (kind : ℕ) → IsErrOf result (TableFault.PoolShort kind)
         → draw_boxes B.HostObject objects.now pool.old.items ≡ Short kind }
     ensures not_refused { (number : ℕ) → IsErrOf result (TableFault.RestoreRefused number) → ⊥ }
@@ -96,9 +114,9 @@ fn take_boxes<B: HostObject>(
     Ok(boxes)
 }
 
-// Gives a host object the state that it had under a number.
-fn bring_back<B: HostObject>(object: &mut B, number: u64, bytes: &[u8]) -> Result<(), TableFault>
-    ensures back { OnOk result (BroughtBack B.HostObject object.old bytes.now object.new) }
+// Restores a host object, which had this number, from its state.
+fn restore_state<B: HostObject>(object: &mut B, number: u64, bytes: &[u8]) -> Result<(), TableFault>
+    ensures restored { OnOk result (RestoresState B.HostObject object.old bytes.now object.new) }
     ensures refused { (other : ℕ) → IsErrOf result (TableFault.RestoreRefused other)
         → (other ≡ number) × B.refuses object.old bytes.now }
     ensures enough { (kind : ℕ) → IsErrOf result (TableFault.PoolShort kind) → ⊥ }
@@ -110,43 +128,47 @@ fn bring_back<B: HostObject>(object: &mut B, number: u64, bytes: &[u8]) -> Resul
     }
 }
 
-// Gives services the states that they had, in order.
+// Restores services from the states that they had, in order.
 fn restore_services<B: HostObject>(
     services: &mut Vec<B>,
     states: &[Vec<u8>],
 ) -> Result<(), TableFault>
     requires { length states.now ≡ vec_len services.old }
-    ensures back { OnOk result (AreBack B.HostObject services.old.items (states_in states.now) services.new.items) }
-    ensures refused { (number : ℕ) → IsErrOf result (TableFault.RestoreRefused number) → (number ≡ 0)
-        × ServiceRefused B.HostObject services.old.items (states_in states.now) }
+    ensures restored { OnOk result
+        (RestoresServices B.HostObject services.old.items
+        (states_in states.now) services.new.items) }
+    ensures refused { (number : ℕ) → IsErrOf result (TableFault.RestoreRefused number)
+        → (number ≡ 0) × ServiceRefused B.HostObject services.old.items (states_in states.now) }
     ensures enough { (kind : ℕ) → IsErrOf result (TableFault.PoolShort kind) → ⊥ }
 {
     for place in 0..states.len() {
-        bring_back(&mut services[place], 0, states[place].as_slice())?;
+        restore_state(&mut services[place], 0, states[place].as_slice())?;
     }
     Ok(())
 }
 
-// Gives what an object took the object's state.
+// Restores the box that an object took, if it took one, from the object's state.
 fn restore_box<B: HostObject>(object: &Stored, taken: &mut Option<B>) -> Result<(), TableFault>
-    ensures back { OnOk result (IsBack B.HostObject object.now.body taken.old taken.new) }
-    ensures refused { (number : ℕ) → IsErrOf result (TableFault.RestoreRefused number) → (number ≡ object.now.number)
+    ensures restored { OnOk result (RestoresBox B.HostObject object.now.body taken.old taken.new) }
+    ensures refused { (number : ℕ) → IsErrOf result (TableFault.RestoreRefused number)
+        → (number ≡ object.now.number)
         × ((box : B) × (taken.old ≡ Some box) × B.refuses box (bytes_of object.now.body)) }
     ensures enough { (kind : ℕ) → IsErrOf result (TableFault.PoolShort kind) → ⊥ }
 {
     match taken {
-        Some(host) => bring_back(host, object.number, object.bytes()),
+        Some(host) => restore_state(host, object.number, object.bytes()),
         None => Ok(()),
     }
 }
 
-// Gives what each object took the object's state, in order.
+// Restores the box that each object took from the object's state, in order.
 fn restore_boxes<B: HostObject>(
     objects: &[Stored],
     boxes: &mut Vec<Option<B>>,
 ) -> Result<(), TableFault>
     requires { length objects.now ≡ vec_len boxes.old }
-    ensures back { OnOk result (AreBoxesBack B.HostObject objects.now boxes.old.items boxes.new.items) }
+    ensures restored { OnOk result
+        (RestoresBoxes B.HostObject objects.now boxes.old.items boxes.new.items) }
     ensures refused { (number : ℕ) → IsErrOf result (TableFault.RestoreRefused number)
         → BoxRefused B.HostObject objects.now boxes.old.items number }
     ensures enough { (kind : ℕ) → IsErrOf result (TableFault.PoolShort kind) → ⊥ }
@@ -157,10 +179,10 @@ fn restore_boxes<B: HostObject>(
     Ok(())
 }
 
-// An object with what it took in place of its kind and state.
+// What an object is, with the box that it took in place of its kind and state.
 fn join<B: HostObject>(body: Body<Saved>, taken: Option<B>) -> Body<B>
-    requires { IsSome (with_taken body taken) }
-    ensures { with_taken body taken ≡ Some result }
+    requires { IsSome (with_drawn body taken) }
+    ensures { with_drawn body taken ≡ Some result }
 {
     match body {
         Body::Script(script) => Body::Script(script),
@@ -172,7 +194,8 @@ fn join<B: HostObject>(body: Body<Saved>, taken: Option<B>) -> Body<B>
     }
 }
 
-// Puts these objects into slots, each with what it took, the last first. Nothing is counted, and nothing is listed.
+// Puts these objects into slots, each with the box that it took, the last first. Nothing is counted, and nothing is
+// listed.
 fn put_objects<B: HostObject>(
     store: &mut Store<B>,
     marks: &mut MarkedSlots,
@@ -222,9 +245,10 @@ fn numbers_of(alloc: Global, objects: &[Stored]) -> Result<Vec<u64>, TableFault>
 
 // Counts each object once more for each word of the objects of these numbers that is a handle to it.
 fn refer_from<B>(store: &mut Store<B>, list: &[u64])
-    requires there { All (λ number. Lives store.old.objects number × AllLive store.old.objects (words_at number store.old.objects)
-        × (length (words_at number store.old.objects) ≤ 4096)) list.now }
-    requires few { length list.now ≤ 4096 }
+    requires there { All (λ number. Lives store.old.objects number
+        × AllLive store.old.objects (words_at number store.old.objects)
+        × (length (words_at number store.old.objects) ≤ max_elements)) list.now }
+    requires few { length list.now ≤ max_objects }
     requires uncounted { (number : ℕ) → counted number store.old.objects ≡ 0 }
     ensures { store.new.objects ≡ refer_objects list.now store.old.objects }
 {
@@ -237,34 +261,40 @@ fn refer_from<B>(store: &mut Store<B>, list: &[u64])
 }
 
 impl<B: HostObject> Objects<B> {
-    /// A table with the objects of a state, of which this is the last number that was given and these are the states of
-    /// services, over a pool and the services. Each host object takes the first box of its kind that is left, by
-    /// ascending number; then the services take their states, and then the boxes. Nothing is held but by fields and
-    /// elements, and nothing is marked. Where it is refused the boxes are given up.
+    /// A table with the objects of a state, over a pool and services, of which these are the states. Each host object
+    /// takes the first box of its kind that is left, by ascending number; then the services take their states, and then
+    /// the boxes. Nothing is held but by fields and elements, and nothing is marked. Where it is refused the boxes are
+    /// given up.
     pub fn restored(
         alloc: Global,
-        objects: Vec<Stored>,
-        last: u64,
+        stored: StoredObjects,
         states: &[Vec<u8>],
         mut pool: Vec<B>,
         mut services: Vec<B>,
     ) -> Result<Objects<B>, TableFault>
-        requires numbered { AreNumbered last (stored_in objects.items) }
-        requires few { vec_len objects ≤ 4096 }
-        requires short { (number : ℕ) → IfSome (object_at number (stored_in objects.items)) (λ body. length (words_of body) ≤ 4096) }
-        requires alive { (number : ℕ) → IfSome (object_at number (stored_in objects.items))
-            (λ body. All (λ word. IfSome (handle word) (Lives (stored_in objects.items))) (words_of body)) }
+        requires numbered { AreNumbered stored.last (stored_in stored.objects.items) }
+        requires few { vec_len stored.objects ≤ max_objects }
+        requires short { (number : ℕ) → IfSome (object_at number (stored_in stored.objects.items))
+            (λ body. length (words_of body) ≤ max_elements) }
+        requires alive { (number : ℕ) → IfSome (object_at number (stored_in stored.objects.items))
+            (λ body. All (λ word. IfSome (handle word) (Lives (stored_in stored.objects.items)))
+            (words_of body)) }
         requires as_many { length states.now ≡ vec_len services }
-        ensures objects { IfOk result (λ table. IsRestored B.HostObject objects.items pool.items table) }
-        ensures services { IfOk result (λ table. AreBack B.HostObject services.items (states_in states.now) table.services) }
-        ensures last { IfOk result (λ table. table.last ≡ last) }
-        ensures settled { IfOk result (λ table. table.settled ≡ last) }
+        ensures objects { IfOk result
+            (λ table. IsRestored B.HostObject stored.objects.items pool.items table) }
+        ensures services { IfOk result
+            (λ table. RestoresServices B.HostObject services.items
+            (states_in states.now) table.services) }
+        ensures last { IfOk result (λ table. table.last ≡ stored.last) }
+        ensures settled { IfOk result (λ table. table.settled ≡ stored.last) }
         ensures gone { IfOk result (λ table. table.gone ≡ []) }
         ensures short { (kind : ℕ) → IsErrOf result (TableFault.PoolShort kind)
-            → draw_boxes B.HostObject objects.items pool.items ≡ Short kind }
+            → draw_boxes B.HostObject stored.objects.items pool.items ≡ Short kind }
         ensures refused { (number : ℕ) → IsErrOf result (TableFault.RestoreRefused number)
-            → IsRefused B.HostObject objects.items (states_in states.now) pool.items services.items number }
+            → IsRefused B.HostObject stored.objects.items
+            (states_in states.now) pool.items services.items number }
     {
+        let StoredObjects { objects, last } = stored;
         let mut boxes = take_boxes(alloc, &objects, &mut pool)?;
         restore_services(&mut services, states)?;
         restore_boxes(&objects, &mut boxes)?;

@@ -1,5 +1,6 @@
 //! The sweep: what no hold and no object that stays leads to goes.
-ghost use Rattle.std.specs.Prelude.{◌≡◌, ◌<◌, ◌≤◌, ◌+◌, ◌++◌, ℕ, Bool, List, [], length, map, nat_eq, IsSomeAnd, OnOk, OnErr, vec_len, vec_capacity};
+ghost use Rattle.std.specs.Prelude.{◌≡◌, ◌<◌, ◌≤◌, ◌+◌, ◌++◌, ℕ, Bool, List, []};
+ghost use Rattle.std.specs.Prelude.{length, map, nat_eq, IsSomeAnd, OnOk, OnErr, vec_len, vec_capacity};
 ghost use Rattle.std.specs.Map.{remove_entry};
 ghost use Rattle.ash_host.specs.Objects.{object_at, IsInOrder};
 ghost use Rattle.ash_slots.specs.Bodies.{words_of};
@@ -18,11 +19,13 @@ use ash_slots::{Entry, Store};
 fn take_idle<B>(store: &mut Store<B>, slot: usize) -> Entry<B>
     requires idle { IsIdle slot store.old.objects }
     requires stored { AreStored store.old.objects }
-    requires covered { (number : ℕ) → fields_in number store.old.objects ≤ counted number store.old.objects }
+    requires covered { (number : ℕ) → fields_in number store.old.objects
+        ≤ counted number store.old.objects }
     ensures number { IsIn result.number slot store.old.objects }
-    ensures item { IsSomeAnd (object_at result.number store.old.objects) (λ object. object.item ≡ result.item) }
-    ensures objects { store.new.objects
-        ≡ release_all (words_of (result.item).body) (remove_entry (nat_eq result.number) store.old.objects) }
+    ensures item { IsSomeAnd (object_at result.number store.old.objects)
+        (λ object. object.item ≡ result.item) }
+    ensures objects { store.new.objects ≡ release_all (words_of (result.item).body)
+        (remove_entry (nat_eq result.number) store.old.objects) }
     ensures stays_in_order { IsInOrder (remove_entry (nat_eq result.number) store.old.objects) }
     ensures room { store.new.room ≡ store.old.room }
 {
@@ -50,7 +53,8 @@ fn collect<B>(store: &mut Store<B>, taken: &mut Vec<Entry<B>>)
 // Sorts what was taken out by ascending number.
 fn sort_taken<B>(taken: &mut Vec<Entry<B>>)
     ensures len { vec_len taken.new ≡ vec_len taken.old }
-    ensures order { (went : List (ℕ × Bool)) → AreInOrder taken.old.items went → map entry_mark taken.new.items ≡ went }
+    ensures order { (went : List (ℕ × Bool)) → AreInOrder taken.old.items went
+        → map entry_mark taken.new.items ≡ went }
 {
     taken.sort_unstable_by_key(|entry| entry.number);
 }
@@ -59,8 +63,10 @@ fn sort_taken<B>(taken: &mut Vec<Entry<B>>)
 fn report<B>(taken: &[Entry<B>], settled: u64, gone: &mut Vec<u64>, events: &mut Vec<Event>)
     requires numbers_fit { vec_len gone.old + length taken.now ≤ vec_capacity gone.old }
     requires events_fit { vec_len events.old + length taken.now ≤ vec_capacity events.old }
-    ensures gone { gone.new.items ≡ gone.old.items ++ marked_since settled (map entry_mark taken.now) }
-    ensures events { events.new.items ≡ events.old.items ++ marked_drops (map entry_mark taken.now) }
+    ensures gone { gone.new.items ≡ gone.old.items ++ marked_since settled
+        (map entry_mark taken.now) }
+    ensures events { events.new.items ≡ events.old.items
+        ++ marked_drops (map entry_mark taken.now) }
 {
     for entry in taken {
         if entry.number <= settled {
@@ -73,17 +79,19 @@ fn report<B>(taken: &[Entry<B>], settled: u64, gone: &mut Vec<u64>, events: &mut
 }
 
 impl<B: HostObject> Objects<B> {
-    /// Takes away what no hold and no object that stays leads to: gives its boxes up, and appends `Dropped` for each, by
-    /// ascending number. It looks at what was made and at what lost its last count since the last sweep, and at what goes;
-    /// at nothing else of the table. Where there is none of these it costs one test and takes no memory.
+    /// Takes away what no hold and no object that stays leads to: gives its boxes up, and appends `Dropped` for each,
+    /// by ascending number. It looks at what was made and at what lost its last count since the last sweep, and at what
+    /// goes; at nothing else of the table. Where there is none of these it costs one test and takes no memory.
     ///
-    /// Before it takes anything away it has room made for as many events, numbers that went and entries as objects live.
-    /// The room for entries it gives up at its end; the other two lists keep theirs. Where memory is refused nothing is
-    /// taken away.
+    /// Before it takes anything away it has room made for as many events, numbers that went and entries as objects
+    /// live. The room for entries it gives up at its end; the other two lists keep theirs. Where memory is refused
+    /// nothing is taken away.
     pub fn sweep(&mut self, events: &mut Vec<Event>) -> Result<(), NoMemory>
         ensures collected { OnOk result (Collects self.old self.new) }
-        ensures dropped { OnOk result (events.new.items ≡ events.old.items ++ drops (gone_from self.old.objects self.new.objects)) }
-        ensures reachable { OnOk result ((rank : ℕ → ℕ) (top : ℕ) → RanksFall rank top self.old → LeavesReachable self.old self.new) }
+        ensures dropped { OnOk result (events.new.items ≡ events.old.items
+            ++ drops (gone_from self.old.objects self.new.objects)) }
+        ensures reachable { OnOk result ((rank : ℕ → ℕ) (top : ℕ) → RanksFall rank top self.old
+            → LeavesReachable self.old self.new) }
         ensures unchanged { OnErr result (self.new ≡ self.old) }
         ensures no_event { OnErr result (events.new.items ≡ events.old.items) }
     {
@@ -96,8 +104,10 @@ impl<B: HostObject> Objects<B> {
     // The sweep, where objects may wait for it.
     fn sweep_waiting(&mut self, events: &mut Vec<Event>) -> Result<(), NoMemory>
         ensures collected { OnOk result (Collects self.old self.new) }
-        ensures dropped { OnOk result (events.new.items ≡ events.old.items ++ drops (gone_from self.old.objects self.new.objects)) }
-        ensures reachable { OnOk result ((rank : ℕ → ℕ) (top : ℕ) → RanksFall rank top self.old → LeavesReachable self.old self.new) }
+        ensures dropped { OnOk result (events.new.items ≡ events.old.items
+            ++ drops (gone_from self.old.objects self.new.objects)) }
+        ensures reachable { OnOk result ((rank : ℕ → ℕ) (top : ℕ) → RanksFall rank top self.old
+            → LeavesReachable self.old self.new) }
         ensures unchanged { OnErr result (self.new ≡ self.old) }
         ensures no_event { OnErr result (events.new.items ≡ events.old.items) }
     {

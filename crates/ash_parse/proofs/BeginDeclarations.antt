@@ -1,4 +1,4 @@
--- What stands before the place where the reading of a registered declaration stops begins one.
+-- What is before the place where the reading of a registered declaration stops begins one.
 use Rattle.std.proofs.Common.{◌≡◌, ℕ, List, [], ◌∷◌, ◌++◌, cond, Option, Some, None, Ok, Err, refl, subst, length}
 use Rattle.std.proofs.lemmas.List.{append-nil}
 use Rattle.ash_lex.specs.Tokens.{name, sign}
@@ -10,15 +10,15 @@ use Rattle.ash_tree.specs.Types.{IsType}
 use Rattle.ash_tree.specs.Grammar.{IsResultType, typed, IsUnnamed, unnamed, with_name, AreMoreUnnamed, no_more_unnamed, more_unnamed, AreUnnamed, no_unnamed, some_unnamed, Declares, signature, property}
 use Rattle.ash_parse.specs.Readers.{Unexpected, next_is_sign}
 use Rattle.ash_parse.specs.StatementReader.{is_name, next_is_name, type_at}
-use Rattle.ash_parse.specs.ItemReader.{after as after_first, is_left, result_type_at, unnamed_at, next_unnamed_at, more_unnamed_at, unnamed_list_at, unnamed_parameters_at, property_by, declaration_after, declaration_at}
+use Rattle.ash_parse.specs.ItemReader.{without_first, is_left, result_type_at, unnamed_at, next_unnamed_at, more_unnamed_at, unnamed_list_at, unnamed_parameters_at, property_by, declaration_after, declaration_at}
 use Rattle.ash_parse.specs.Faults.{whole_declaration_at}
-use Rattle.ash_parse.proofs.BeginLaws.{Stopped, Law, Then, Behind, Grows, then, law_as, done, fill_here, stops_here, after, fill_after, either, sign_then, name_then, put_law, all_of, nowhere}
+use Rattle.ash_parse.proofs.BeginLaws.{Stopped, Law, Then, After, Grows, then, law_as, done, fill_here, stops_here, after, fill_after, either, sign_then, name_then, put_law, all_of, nowhere}
 use Rattle.ash_parse.proofs.BeginTypes.{begin_type}
 use Rattle.ash_parse.proofs.BeginItems.{begin_result_type, stops_with}
 
 -- [NAME], after a type
-begin_name : (t : Named) (ts : Tokens) → Law (Ok (t, cond (next_is_name ts) (after_first ts) ts)) ts (Then (λ free. IsType) (λ free. IsUnnamed) t)
-unfolding next_is_name is_name after_first
+begin_name : (t : Named) (ts : Tokens) → Law (Ok (t, cond (next_is_name ts) (without_first ts) ts)) ts (Then (λ free. IsType) (λ free. IsUnnamed) t)
+unfolding next_is_name is_name without_first
 begin_name t [] = done _ t [] (λ free left before d. unnamed d)
 begin_name t ((name text, p) ∷ ts) = after _ (name text, p) _ ts (done _ t ts (λ free left before d. with_name d))
 begin_name t ((m, p) ∷ ts) = done _ t ((m, p) ∷ ts) (λ free left before d. unnamed d)
@@ -71,7 +71,7 @@ property_whole {p} {text} {from} {t} left (typed d) e = property (subst (λ (l :
 
 -- what is after the type and the name of a declaration
 abbrev Follows : Option Named → Place → List ℕ → ℕ → Tokens → Declaration → Tokens → Type 0
-Follows r p text = Behind (name text, p) (Then (λ free. IsResultType) Whole r)
+Follows r p text = After (name text, p) (Then (λ free. IsResultType) Whole r)
 
 signature_whole : (r : Option Named) (p : Place) (text : List ℕ) (xs : List Named) (free : ℕ) (from left : Tokens) → AreUnnamed from xs left → Follows r p text free from (ASignature (record { place = p; result = r; name = text; parameters = xs })) left
 signature_whole r p text xs free from left d before t e = signature t (subst (λ (l : Tokens). AreUnnamed from xs l) e d)
@@ -106,7 +106,7 @@ begin_whole_declaration ts =
     (stops_here (Then Whole Whole d) r (fill_here _ d (λ free left before w. w)))
     (done _ d r (λ free left before w. w)))
 
--- what stands before the place where reading stops begins a declaration
+-- what is before the place where reading stops begins a declaration
 pub begun_declaration : (all rest : Tokens) → whole_declaration_at all ≡ Err (Unexpected rest) → (prefix : Tokens) × (all ≡ prefix ++ rest) × ((tail : Tokens) × (declared : Declaration) × Declares (prefix ++ tail) declared)
 begun_declaration all rest e =
     let s : Stopped all (Unexpected rest) Whole = stops_with (whole_declaration_at all) (Unexpected rest) all Whole e (begin_whole_declaration all).explained in

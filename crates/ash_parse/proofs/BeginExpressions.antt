@@ -1,4 +1,4 @@
--- What stands before the place where the reading of an expression stops begins one.
+-- What is before the place where the reading of an expression stops begins one.
 use Rattle.std.proofs.Common.{◌≡◌, ℕ, zero, suc, ◌+◌, ◌≤◌, List, [], ◌∷◌, true, false, cond, Option, Some, None, is_some, Ok, Err, refl, sym, ap, subst, length, arith}
 use Rattle.ash_lex.specs.Tokens.{Meaning, name, number, sign, reserved, unsupported}
 use Rattle.ash_lex.specs.declared.signs.Sign.TheVariants as signs
@@ -15,14 +15,14 @@ use Rattle.ash_tree.specs.Types.{IsElement, handle_element}
 use Rattle.ash_tree.specs.Expressions.{IsInner, inner, AreExprs, no_exprs, some_exprs, AreMoreExprs, no_more_exprs, more_exprs, IsArgs, args, IsAssign, no_assign, assign, no_branch, branches, IsBinary, operand, joined, AreLinks, no_links, more_links, IsUnary, applied, postfix, AreSuffixes, no_suffixes, more_suffixes, IsSuffix, field, method, index, increment, decrement, IsPrimary, numeral, yes, no, null, this, named, call, brackets, convert, new_array, cast}
 use Rattle.ash_parse.specs.Signs.{is_sign, same_sign}
 use Rattle.ash_parse.specs.Readers.{ParseResult, Unexpected, TooDeep, ◌>>=◌, next_is_sign, expect_at}
-use Rattle.ash_parse.specs.ExpressionReader.{Below, begins, limit_at, next_expr_with, more_exprs_with, exprs_with, arguments_with, bracketed_with, named_with, new_array_with, cast_with, primary_by, primary_with, is_suffix, member_with, index_with, suffix_with, suffixes_with, postfix_with, unary_by, unary_with, operator_at, is_link, link_from, link_by, links_by, chain_by, binary_with, branches_with, assign_by, assign_from, assign_with, below_at}
+use Rattle.ash_parse.specs.ExpressionReader.{Below, begins, limit_at, next_expr_with, more_exprs_with, exprs_with, arguments_with, bracketed_with, name_or_call_with, new_array_with, cast_with, primary_by, primary_with, is_suffix, member_with, index_with, suffix_with, suffixes_with, postfix_with, unary_by, unary_with, operator_at, is_link, link_from, link_by, links_by, chain_by, binary_with, branches_with, assign_by, assign_from, assign_with, below_at}
 use Rattle.ash_parse.specs.TypeReader.{is_array, element_at, target_at, after_sign, after_elem, after_element}
 use Rattle.ash_parse.specs.StatementReader.{is_vars, is_name, next_is_name}
 use Rattle.ash_parse.proofs.Readings.{sign_is, expect_again}
 use Rattle.ash_parse.proofs.Rereading.{no_some, no_true}
 use Rattle.ash_parse.proofs.ExpressionSound.{IsPart, operator_found}
 use Rattle.ash_parse.proofs.BeginTypes.{begin_element}
-use Rattle.ash_parse.proofs.BeginLaws.{Law, Filled, FilledBy, Explained, Then, Behind, Grows, then, law_as, fill_as, done, fill_here, stopped_at, stops_here, too_deep_at, after, fill_after, either, explain_either, sign_then, name_then, put_law, all_of, nowhere, some_name}
+use Rattle.ash_parse.proofs.BeginLaws.{Law, Filled, FilledBy, Explained, Then, After, Grows, then, law_as, fill_as, done, fill_here, stopped_at, stops_here, too_deep_at, after, fill_after, either, explain_either, sign_then, name_then, put_law, all_of, nowhere, some_name}
 
 -- an operand is an `assign`
 up : (n : ℕ) {free depth : ℕ} {from left : Tokens} {e : Expr} → IsUnary free depth from e left → IsBinary free depth n from e left
@@ -37,7 +37,7 @@ inner_alone big u = inner (λ deep. absurd (omega arith)) (alone u)
 
 -- a name is a phrase
 pub fill_primary : (depth : ℕ) → Filled (λ free. IsPrimary free depth)
-fill_primary depth = fill_after (λ free. IsPrimary free depth) (name some_name, nowhere) (fill_here (Behind (name some_name, nowhere) (λ free. IsPrimary free depth)) (Name nowhere some_name) (λ free left. named))
+fill_primary depth = fill_after (λ free. IsPrimary free depth) (name some_name, nowhere) (fill_here (After (name some_name, nowhere) (λ free. IsPrimary free depth)) (Name nowhere some_name) (λ free left. named))
 
 pub fill_unary : (depth : ℕ) → Filled (λ free. IsUnary free depth)
 fill_unary depth = fill_as (λ free. IsPrimary free depth) (λ free. IsUnary free depth) (λ free from x left d. postfix d no_suffixes) (fill_primary depth)
@@ -180,7 +180,7 @@ module _ (depth : ℕ) (below : Below) (whole : (ts : Tokens) → Law (below tru
       (λ es s. sign_then _ signs.CloseParenthesis _ s
       (λ q t. done _ es t (λ free left before d. args d))))
 
-  -- what stands between brackets, with the ")"
+  -- what is between brackets, with the ")"
   Closed : ℕ → Tokens → Expr → Tokens → Type 0
   Closed free from e left = (q : Place) × IsInner free depth from e ((sign signs.CloseParenthesis, q) ∷ left)
 
@@ -197,8 +197,8 @@ module _ (depth : ℕ) (below : Below) (whole : (ts : Tokens) → Law (below tru
       sign_then _ signs.OpenParenthesis _ ts
       (λ p r. law_as Closed _ (λ free from e left d. bracketed d.1) (below true r >>= λ e. expect_at signs.CloseParenthesis e.1 >>= λ z. Ok (e.0, z.1)) r (closed r))
 
-  begin_named : (p : Place) (text : List ℕ) (ts : Tokens) → Law (named_with below p text ts) ts (Behind (name text, p) (λ free. IsPrimary free depth))
-  unfolding named_with
+  begin_named : (p : Place) (text : List ℕ) (ts : Tokens) → Law (name_or_call_with below p text ts) ts (After (name text, p) (λ free. IsPrimary free depth))
+  unfolding name_or_call_with
   begin_named p text ts =
       either (next_is_sign signs.OpenParenthesis ts) _ _ ts _
       (then (λ free. IsArgs free depth) _ (arguments_with below ts) _ ts (begin_args ts)
@@ -216,14 +216,14 @@ module _ (depth : ℕ) (below : Below) (whole : (ts : Tokens) → Law (below tru
       (after _ (sign signs.OpenParenthesis, p) _ ts (then Closed _ (below true ts >>= λ e. expect_at signs.CloseParenthesis e.1 >>= λ z. Ok (e.0, z.1)) _ ts (closed ts)
       (λ e r. done _ (Brackets p e) r (λ free left before d. brackets d.1))))
 
-  begin_new_array : (p : Place) (ts : Tokens) → Law (new_array_with below p ts) ts (Behind (reserved words.Array, p) (λ free. IsPrimary free depth))
+  begin_new_array : (p : Place) (ts : Tokens) → Law (new_array_with below p ts) ts (After (reserved words.Array, p) (λ free. IsPrimary free depth))
   unfolding new_array_with
   begin_new_array p ts =
       then (λ free. IsElement) _ (element_at ts) _ ts (begin_element ts)
       (λ of r. then (λ free. IsArgs free depth) _ (arguments_with below r) _ r (begin_args r)
       (λ es s. done _ (NewArray p of (exprs es)) s (λ free left middle a before d. new_array d a)))
 
-  begin_cast : (p : Place) (ts : Tokens) → Law (cast_with below p ts) ts (Behind (reserved words.Cast, p) (λ free. IsPrimary free depth))
+  begin_cast : (p : Place) (ts : Tokens) → Law (cast_with below p ts) ts (After (reserved words.Cast, p) (λ free. IsPrimary free depth))
   unfolding cast_with
   begin_cast p ts =
       then (λ free. IsTarget) _ (target_at ts) _ ts (begin_target ts)
@@ -250,7 +250,7 @@ module _ (depth : ℕ) (below : Below) (whole : (ts : Tokens) → Law (below tru
   begin_primary [] = stops_here (λ free. IsPrimary free depth) [] (fill_primary depth)
   begin_primary ((m, p) ∷ ts) = primary_by_begins (primitive m) m p ts refl
 
-  begin_member : (p : Place) (ts : Tokens) → Law (member_with below ts) ts (Behind (sign signs.Dot, p) (λ free. IsSuffix free depth))
+  begin_member : (p : Place) (ts : Tokens) → Law (member_with below ts) ts (After (sign signs.Dot, p) (λ free. IsSuffix free depth))
   unfolding member_with
   begin_member p ts =
       name_then _ _ ts
@@ -259,7 +259,7 @@ module _ (depth : ℕ) (below : Below) (whole : (ts : Tokens) → Law (below tru
       (λ es s. done _ (Method n.1 n.0 (exprs es)) s (λ free left before d. method d)))
       (done _ (Field n.1 n.0) r (λ free left. field)))
 
-  begin_index : (p : Place) (ts : Tokens) → Law (index_with below ts) ts (Behind (sign signs.OpenBracket, p) (λ free. IsSuffix free depth))
+  begin_index : (p : Place) (ts : Tokens) → Law (index_with below ts) ts (After (sign signs.OpenBracket, p) (λ free. IsSuffix free depth))
   unfolding index_with
   begin_index p ts =
       then (λ free. IsInner free depth) _ (below true ts) _ ts (whole ts)
@@ -328,7 +328,7 @@ module _ (depth : ℕ) (below : Below) (whole : (ts : Tokens) → Law (below tru
   begin_binary zero ts = law_as (λ free. IsUnary free depth) _ (λ free from x left d. operand d) (unary_with below ts) ts (begin_unary ts)
   begin_binary (suc n) ts = begin_chain n (binary_with below n) (begin_binary n) ts
 
-  begin_branches : (p : Place) (c : Expr) (ts : Tokens) → Law (branches_with below c ts) ts (Behind (sign signs.Question, p) (Then (λ free. IsBinary free depth LEVELS) (λ free. IsAssign free depth) c))
+  begin_branches : (p : Place) (c : Expr) (ts : Tokens) → Law (branches_with below c ts) ts (After (sign signs.Question, p) (Then (λ free. IsBinary free depth LEVELS) (λ free. IsAssign free depth) c))
   unfolding branches_with
   begin_branches p c ts =
       then (λ free. IsInner free depth) _ (below true ts) _ ts (whole ts)

@@ -1,5 +1,5 @@
--- What stands before the place where the reading of a module stops begins a module; and where a token stands too deep, so
--- does what stands before it with the token.
+-- What is before the place where the reading of a module stops begins a module; and where a token is too deep, so
+-- does what is before it with the token.
 use Rattle.std.proofs.Common.{◌≡◌, ℕ, suc, ◌+◌, List, [], ◌∷◌, ◌++◌, Bool, true, false, cond, Some, None, Ok, Err, refl, sym, ap, subst, ◌∙◌, append_assoc, length, arith}
 use Rattle.std.proofs.lemmas.List.{append-nil}
 use Rattle.ash_lex.specs.Tokens.{Meaning, name, sign, reserved}
@@ -20,10 +20,11 @@ use Rattle.ash_parse.specs.ItemReader.{is_void, is_class, is_interface, result_t
 use Rattle.ash_parse.proofs.Readings.{sign_is}
 use Rattle.ash_parse.proofs.ItemSound.{void_is, class_is, interface_is}
 use Rattle.ash_parse.proofs.StatementSound.{nested_sound}
-use Rattle.ash_parse.proofs.BeginLaws.{left_at, GoesOn, Stopped, Law, Filled, Explained, Then, Behind, Grows, Ending, then, law_as, done, fill_here, stops_here, after, fill_after, either, explain_either, sign_then, name_then, put_law, all_of, nowhere, some_name}
+use Rattle.ash_parse.proofs.BeginLaws.{left_at, GoesOn, Stopped, Law, Filled, Explained, Then, After, Grows, Ending, then, law_as, done, fill_here, stops_here, after, fill_after, either, explain_either, sign_then, name_then, put_law, all_of, nowhere, some_name}
 use Rattle.ash_parse.proofs.BeginExpressions.{begin_whole, begin_part}
 use Rattle.ash_parse.proofs.BeginTypes.{begin_type}
-use Rattle.ash_parse.proofs.BeginStatements.{begin_declared, begin_block, begin_nested}
+use Rattle.ash_parse.proofs.BeginStatements.{begin_declared, begin_block}
+use Rattle.ash_parse.proofs.BeginNested.{begin_nested}
 
 fill_result : Filled (λ free. IsResultType)
 fill_result = fill_after _ (reserved words.Void, nowhere) (fill_here _ None (λ free left. void))
@@ -131,7 +132,7 @@ begin_more_interfaces : (ts : Tokens) → Law (more_interfaces_at ts) ts (λ fre
 unfolding more_interfaces_at
 begin_more_interfaces ts = all_of (next_is_sign signs.Comma) next_interface_at (λ free. AreMoreInterfaces) (λ free left. no_more_interfaces) (λ s b. (begin_next_interface s).explained) (length ts) ts
 
-begin_listed_interfaces : (p : Place) (ts : Tokens) → Law (listed_interfaces_at ts) ts (Behind (sign signs.Colon, p) (λ free. AreInterfaces))
+begin_listed_interfaces : (p : Place) (ts : Tokens) → Law (listed_interfaces_at ts) ts (After (sign signs.Colon, p) (λ free. AreInterfaces))
 unfolding listed_interfaces_at
 begin_listed_interfaces p ts =
     name_then _ _ ts
@@ -144,7 +145,7 @@ begin_interfaces ts =
     (sign_then _ signs.Colon _ ts begin_listed_interfaces)
     (done _ [] ts (λ free left. no_interfaces))
 
-begin_class : (p : Place) (ts : Tokens) → Law (class_at ts) ts (Behind (reserved words.Class, p) IsClass)
+begin_class : (p : Place) (ts : Tokens) → Law (class_at ts) ts (After (reserved words.Class, p) IsClass)
 unfolding class_at
 begin_class p ts =
     name_then _ _ ts
@@ -169,7 +170,7 @@ begin_interface_methods ts =
     all_of goes_on interface_method_at (λ free. AreInterfaceMethods) (λ free left. no_interface_methods)
     (λ s b. (law_as (λ free. IsInterfaceMethod) (Grows (λ free. AreInterfaceMethods)) (λ free from x left d xs end more. more_interface_methods d more) (interface_method_at s) s (begin_interface_method s)).explained) (length ts) ts
 
-begin_interface : (p : Place) (ts : Tokens) → Law (interface_at ts) ts (Behind (reserved words.Interface, p) (λ free. IsInterface))
+begin_interface : (p : Place) (ts : Tokens) → Law (interface_at ts) ts (After (reserved words.Interface, p) (λ free. IsInterface))
 unfolding interface_at
 begin_interface p ts =
     name_then _ _ ts
@@ -198,15 +199,15 @@ begin_item ((m, p) ∷ ts) =
     record {
       explained = explain_either (is_class m) (class_at ts >>= λ c. Ok (AClass c.0, c.1)) (cond (is_interface m) (interface_at ts >>= λ i. Ok (AnInterface i.0, i.1)) (other_item_at u)) u IsItem
           (λ b. subst (λ w. Explained (class_at ts >>= λ c. Ok (AClass c.0, c.1)) ((w, p) ∷ ts) IsItem) (sym (class_is m b))
-          (after IsItem (reserved words.Class, p) (class_at ts >>= λ c. Ok (AClass c.0, c.1)) ts (then (Behind (reserved words.Class, p) IsClass) _ (class_at ts) _ ts (begin_class p ts) (λ c r. done _ (AClass c) r (λ free left before d. a_class d)))).explained)
+          (after IsItem (reserved words.Class, p) (class_at ts >>= λ c. Ok (AClass c.0, c.1)) ts (then (After (reserved words.Class, p) IsClass) _ (class_at ts) _ ts (begin_class p ts) (λ c r. done _ (AClass c) r (λ free left before d. a_class d)))).explained)
           (λ b. explain_either (is_interface m) (interface_at ts >>= λ i. Ok (AnInterface i.0, i.1)) (other_item_at u) u IsItem
           (λ c. subst (λ w. Explained (interface_at ts >>= λ i. Ok (AnInterface i.0, i.1)) ((w, p) ∷ ts) IsItem) (sym (interface_is m c))
-          (after IsItem (reserved words.Interface, p) (interface_at ts >>= λ i. Ok (AnInterface i.0, i.1)) ts (then (Behind (reserved words.Interface, p) (λ free. IsInterface)) _ (interface_at ts) _ ts (begin_interface p ts) (λ i r. done _ (AnInterface i) r (λ free left before d. an_interface d)))).explained)
+          (after IsItem (reserved words.Interface, p) (interface_at ts >>= λ i. Ok (AnInterface i.0, i.1)) ts (then (After (reserved words.Interface, p) (λ free. IsInterface)) _ (interface_at ts) _ ts (begin_interface p ts) (λ i r. done _ (AnInterface i) r (λ free left before d. an_interface d)))).explained)
           (λ c. (begin_other_item u).explained));
       filled = fill_item;
     }
 
--- the ";" in prefix, which change nothing
+-- each ";" that the tokens begin with changes nothing
 record Stripped (ts : Tokens) : Type 0 where
   semicolons : Tokens
   all : ts ≡ semicolons ++ strip ts
@@ -247,7 +248,7 @@ begin_entries ts = all_of is_left entry_at Leads (λ free left d. d) (λ s b. (b
 pub stops_with : {A : Type 0} (o : ParseResult A) (h : Halt) (ts : Tokens) (P : ℕ → Tokens → A → Tokens → Type 0) → o ≡ Err h → Explained o ts P → Stopped ts h P
 stops_with o h ts P e x = subst (λ r. Explained r ts P) e x
 
--- where reading stops, the tokens before begin a module, which goes on with the token that stands too deep, if one does
+-- where reading stops, the tokens before begin a module, which goes on with the token that is too deep, if one does
 pub record StopsModule (all : Tokens) (h : Halt) : Type 0 where
   pub prefix : Tokens
   pub is_all : all ≡ prefix ++ left_at h
@@ -274,11 +275,11 @@ stops_module all h e =
       derived = subst (λ (l : Tokens). Derives (length r.tail) l r.tree) (sym (append_assoc s.semicolons r.prefix r.tail)) (s.is (length r.tail) (r.prefix ++ r.tail) r.tree w);
     }
 
--- what stands before the place where reading stops begins a module within the depth
+-- what is before the place where reading stops begins a module within the depth
 pub begun : (ts rest : Tokens) → module_at ts ≡ Err (Unexpected rest) → (prefix : Tokens) × (ts ≡ prefix ++ rest) × ((tail : Tokens) × (items : List Item) × Derives (length tail) (prefix ++ tail) items)
 begun ts rest e = let s = stops_module ts (Unexpected rest) e in (s.prefix, s.is_all, (s.tail, s.items, s.derived))
 
--- where a token stands too deep, a module goes on with it that has only this token and those after too deep, and there it
+-- where a token is too deep, a module goes on with it that has only this token and those after too deep, and there it
 -- begins no declaration of variables
 pub begun_deep : (ts rest : Tokens) (t : Meaning × Place) → module_at ts ≡ Err (TooDeep (t ∷ rest)) → (prefix : Tokens) × (tail : Tokens) × (items : List Item) × (ts ≡ prefix ++ t ∷ rest) × (is_vars (t ∷ tail) ≡ false) × Derives (suc (length tail)) (prefix ++ t ∷ tail) items
 begun_deep ts rest t e =
@@ -287,6 +288,6 @@ begun_deep ts rest t e =
     let no_vars : is_vars ((t ∷ tail) ++ []) ≡ false = subst (λ (l : Tokens). is_vars (l ++ []) ≡ false) s.goes_on.1 (s.goes_on.2 []) in
     (s.prefix, tail, s.items, s.is_all, subst (λ (l : Tokens). is_vars l ≡ false) (append-nil (t ∷ tail)) no_vars, subst (λ (l : Tokens). Derives (length l) (s.prefix ++ l) s.items) s.goes_on.1 s.derived)
 
--- what stands too deep is a token
+-- what is too deep is a token
 pub some_token_deep : (ts : Tokens) → module_at ts ≡ Err (TooDeep []) → ⊥
 some_token_deep ts e = (stops_module ts (TooDeep []) e).goes_on

@@ -1,4 +1,4 @@
--- What is read of tokens can be read before other tokens too; and where reading stops, what stands before the stop
+-- What is read of tokens can be read before other tokens too; and where reading stops, what is before the stop
 -- begins a phrase. The laws say so of a reading that is made of others.
 use Rattle.std.proofs.Common.{◌≡◌, ℕ, zero, suc, ◌+◌, ◌≤◌, List, [], ◌∷◌, ◌++◌, length, Bool, true, false, cond, Ok, Err, refl, sym, ap, subst, ◌∙◌, append_assoc, length-append, arith}
 use Rattle.ash_lex.specs.Tokens.{Meaning, name, number, sign, reserved, unsupported}
@@ -15,7 +15,7 @@ abbrev pub left_at : Halt → Tokens
 left_at (Unexpected rest) = rest
 left_at (TooDeep rest) = rest
 
--- what a phrase goes on with from the fault on: where a token stands too deep, with this token, and, whatever is after, with
+-- what a phrase goes on with from the fault on: where a token is too deep, with this token, and, whatever is after, with
 -- no declaration of variables
 abbrev pub GoesOn : Halt → Tokens → Type 0
 GoesOn (Unexpected rest) tail = Unit {0}
@@ -61,8 +61,8 @@ abbrev pub Then : {A B : Type 0} → (ℕ → Tokens → A → Tokens → Type 0
 Then P Q x free from y left = (before : Tokens) → P free before x from → Q free before y left
 
 -- the phrase P after a token
-abbrev pub Behind : {A : Type 0} → Meaning × Place → (ℕ → Tokens → A → Tokens → Type 0) → ℕ → Tokens → A → Tokens → Type 0
-Behind t P free from x left = P free (t ∷ from) x left
+abbrev pub After : {A : Type 0} → Meaning × Place → (ℕ → Tokens → A → Tokens → Type 0) → ℕ → Tokens → A → Tokens → Type 0
+After t P free from x left = P free (t ∷ from) x left
 
 module _ {A B : Type 0} (P : ℕ → Tokens → A → Tokens → Type 0) (Q : ℕ → Tokens → B → Tokens → Type 0) where
   both : (o : ParseResult B) (ts : Tokens) (x : A) (rest : Tokens) → TakenTokens ts x rest P → Explained o rest (Then P Q x) → Explained o ts Q
@@ -80,7 +80,7 @@ module _ {A B : Type 0} (P : ℕ → Tokens → A → Tokens → Type 0) (Q : �
     is = λ left. subst (λ (l : Tokens). Q (length e.tail + length left) l e.tree left) (sym (append_assoc t.taken e.prefix (e.tail ++ left))) (e.is left (t.taken ++ (e.prefix ++ (e.tail ++ left))) (t.is (length e.tail + length left) (e.prefix ++ (e.tail ++ left))));
   }
 
-  -- where the first stops, any second stands after it
+  -- where the first stops, any second may follow it
   first : (h : Halt) (ts : Tokens) → (s : Stopped ts h P) → Filled (Then P Q s.tree) → Stopped ts h Q
   first h ts s f = record {
     prefix = s.prefix;
@@ -154,23 +154,23 @@ pub record FilledBy {A : Type 0} (t : Meaning × Place) (P : ℕ → Tokens → 
   pub is : (free : ℕ) (left : Tokens) → length (t ∷ (text ++ left)) ≤ free → P free (t ∷ (text ++ left)) tree left
   pub no_vars : (after : Tokens) → is_vars (t ∷ (text ++ after)) ≡ false
 
--- a reading that stops at a token that stands too deep
+-- a reading that stops at a token that is too deep
 pub too_deep_at : {A : Type 0} (Q : ℕ → Tokens → A → Tokens → Type 0) (t : Meaning × Place) (ts : Tokens) → FilledBy t Q → Stopped (t ∷ ts) (TooDeep (t ∷ ts)) Q
 too_deep_at Q t ts f = record { prefix = []; all = refl; tail = t ∷ f.text; goes_on = (f.text, refl, f.no_vars); tree = f.tree; is = λ left. let n : length (f.text ++ left) ≡ length f.text + length left = length-append f.text left in f.is (length (t ∷ f.text) + length left) left (omega arith) }
 
 -- one token, and what is read after it
 module _ {A : Type 0} (Q : ℕ → Tokens → A → Tokens → Type 0) (t : Meaning × Place) where
-  pub explain_after : (o : ParseResult A) (ts : Tokens) → Explained o ts (Behind t Q) → Explained o (t ∷ ts) Q
+  pub explain_after : (o : ParseResult A) (ts : Tokens) → Explained o ts (After t Q) → Explained o (t ∷ ts) Q
   explain_after (Ok y) ts e = record { taken = t ∷ e.taken; all = ap (λ (r : Tokens). t ∷ r) e.all; is = e.is }
   explain_after (Err h) ts e = record { prefix = t ∷ e.prefix; all = ap (λ (r : Tokens). t ∷ r) e.all; tail = e.tail; goes_on = e.goes_on; tree = e.tree; is = e.is }
 
-  pub fill_after : Filled (Behind t Q) → Filled Q
+  pub fill_after : Filled (After t Q) → Filled Q
   fill_after f = record { text = t ∷ f.text; tree = f.tree; is = λ free left big. f.is free left (omega arith) }
 
-  pub after : (o : ParseResult A) (ts : Tokens) → Law o ts (Behind t Q) → Law o (t ∷ ts) Q
+  pub after : (o : ParseResult A) (ts : Tokens) → Law o ts (After t Q) → Law o (t ∷ ts) Q
   after o ts l = record { explained = explain_after o ts l.explained; filled = fill_after l.filled }
 
--- where a made-up token stands
+-- where a made-up token is
 abbrev pub nowhere : Place
 nowhere = record { at = 0; line = 1 }
 
@@ -188,20 +188,20 @@ explain_either true x y ts Q l r = l refl
 explain_either false x y ts Q l r = r refl
 
 -- this sign, and what is read after it
-explain_sign : {A : Type 0} (Q : ℕ → Tokens → A → Tokens → Type 0) (s : Sign) (f : Place × Tokens → ParseResult A) (ts : Tokens) → Filled Q → ((p : Place) (rest : Tokens) → Explained (f (p, rest)) rest (Behind (sign s, p) Q)) → Explained (expect_at s ts >>= f) ts Q
+explain_sign : {A : Type 0} (Q : ℕ → Tokens → A → Tokens → Type 0) (s : Sign) (f : Place × Tokens → ParseResult A) (ts : Tokens) → Filled Q → ((p : Place) (rest : Tokens) → Explained (f (p, rest)) rest (After (sign s, p) Q)) → Explained (expect_at s ts >>= f) ts Q
 unfolding expect_at
 explain_sign Q s f [] fill go = stopped_at Q [] fill
 explain_sign {A} Q s f ((m, p) ∷ ts) fill go =
     let M : Bool → Type 0 = λ b. is_sign s m ≡ b → Explained (◌>>=◌ {A = Place} {B = A} (cond b (Ok (p, ts)) (Err (Unexpected ((m, p) ∷ ts)))) f) ((m, p) ∷ ts) Q in
     (elim (is_sign s m) as M [ true ↦ λ e. subst (λ w. Explained (f (p, ts)) ((w, p) ∷ ts) Q) (sym (sign_is s m e)) (explain_after Q (sign s, p) (f (p, ts)) ts (go p ts)) | false ↦ λ e. stopped_at Q ((m, p) ∷ ts) fill ]) refl
 
-pub sign_then : {A : Type 0} (Q : ℕ → Tokens → A → Tokens → Type 0) (s : Sign) (f : Place × Tokens → ParseResult A) (ts : Tokens) → ((p : Place) (rest : Tokens) → Law (f (p, rest)) rest (Behind (sign s, p) Q)) → Law (expect_at s ts >>= f) ts Q
+pub sign_then : {A : Type 0} (Q : ℕ → Tokens → A → Tokens → Type 0) (s : Sign) (f : Place × Tokens → ParseResult A) (ts : Tokens) → ((p : Place) (rest : Tokens) → Law (f (p, rest)) rest (After (sign s, p) Q)) → Law (expect_at s ts >>= f) ts Q
 sign_then Q s f ts go =
     let fill : Filled Q = fill_after Q (sign s, nowhere) (go nowhere []).filled in
     record { explained = explain_sign Q s f ts fill (λ p rest. (go p rest).explained); filled = fill }
 
 -- a name, and what is read after it
-explain_name : {A : Type 0} (Q : ℕ → Tokens → A → Tokens → Type 0) (f : (List ℕ × Place) × Tokens → ParseResult A) (ts : Tokens) → Filled Q → ((n : List ℕ × Place) (rest : Tokens) → Explained (f (n, rest)) rest (Behind (name n.0, n.1) Q)) → Explained (name_at ts >>= f) ts Q
+explain_name : {A : Type 0} (Q : ℕ → Tokens → A → Tokens → Type 0) (f : (List ℕ × Place) × Tokens → ParseResult A) (ts : Tokens) → Filled Q → ((n : List ℕ × Place) (rest : Tokens) → Explained (f (n, rest)) rest (After (name n.0, n.1) Q)) → Explained (name_at ts >>= f) ts Q
 unfolding name_at
 explain_name Q f [] fill go = stopped_at Q [] fill
 explain_name Q f ((name t, p) ∷ ts) fill go = explain_after Q (name t, p) (f ((t, p), ts)) ts (go (t, p) ts)
@@ -210,7 +210,7 @@ explain_name Q f ((sign n, p) ∷ ts) fill go = stopped_at Q ((sign n, p) ∷ ts
 explain_name Q f ((reserved n, p) ∷ ts) fill go = stopped_at Q ((reserved n, p) ∷ ts) fill
 explain_name Q f ((unsupported n, p) ∷ ts) fill go = stopped_at Q ((unsupported n, p) ∷ ts) fill
 
-pub name_then : {A : Type 0} (Q : ℕ → Tokens → A → Tokens → Type 0) (f : (List ℕ × Place) × Tokens → ParseResult A) (ts : Tokens) → ((n : List ℕ × Place) (rest : Tokens) → Law (f (n, rest)) rest (Behind (name n.0, n.1) Q)) → Law (name_at ts >>= f) ts Q
+pub name_then : {A : Type 0} (Q : ℕ → Tokens → A → Tokens → Type 0) (f : (List ℕ × Place) × Tokens → ParseResult A) (ts : Tokens) → ((n : List ℕ × Place) (rest : Tokens) → Law (f (n, rest)) rest (After (name n.0, n.1) Q)) → Law (name_at ts >>= f) ts Q
 name_then Q f ts go =
     let fill : Filled Q = fill_after Q (name some_name, nowhere) (go (some_name, nowhere) []).filled in
     record { explained = explain_name Q f ts fill (λ p rest. (go p rest).explained); filled = fill }

@@ -1,30 +1,27 @@
--- What stands before the place where the reading of a type, of variables or of a statement stops begins one.
-use Rattle.std.proofs.Common.{◌≡◌, ℕ, zero, suc, ◌+◌, ◌≤◌, List, [], ◌∷◌, ◌++◌, Bool, true, false, cond, Some, None, Ok, Err, refl, sym, ap, subst, append_assoc, length, arith}
+-- What is before the place where the reading of a type, of variables or of a statement stops begins one.
+use Rattle.std.proofs.Common.{◌≡◌, ℕ, ◌+◌, ◌≤◌, List, [], ◌∷◌, ◌++◌, Bool, true, false, cond, Some, None, Ok, Err, refl, sym, ap, subst, length}
 use Rattle.ash_lex.specs.Tokens.{Meaning, name, number, sign, reserved, unsupported}
 use Rattle.ash_lex.specs.declared.signs.Sign.TheVariants as signs
 use Rattle.ash_lex.specs.declared.words.ReservedWord.TheVariants as words
 use Rattle.ash_tree.specs.declared.tree.places.Place.{Place}
 use Rattle.ash_tree.specs.declared.tree.statements.Label.{Label}
 use Rattle.ash_tree.specs.declared.tree.statements.Label.TheVariants as labels
-use Rattle.ash_tree.specs.Tree.{Named, Expr, Name, Initializer, Default, Value, Arguments, Decl, Stmt, Empty, Declare, Evaluate, Block, If, IfElse, While, DoWhile, For, Switch, Break, Continue, Return, Case, labelled, place_of, place_of_type, stmts, cases}
+use Rattle.ash_tree.specs.Tree.{Named, Expr, Initializer, Default, Value, Arguments, Decl, Stmt, Empty, Declare, Evaluate, Block, If, IfElse, While, DoWhile, For, Switch, Break, Continue, Return, Case, labelled, place_of, place_of_type, stmts, cases}
 use Rattle.ash_tree.specs.Tokens.{Tokens}
-use Rattle.ash_tree.specs.Operators.{primitive}
-use Rattle.ash_tree.specs.Expressions.{IsInner, AreExprs, no_exprs, IsArgs, IsAssign, named, postfix, no_suffixes}
+use Rattle.ash_tree.specs.Expressions.{IsInner, AreExprs, IsArgs, IsAssign}
 use Rattle.ash_tree.specs.Types.{IsType}
-use Rattle.ash_tree.specs.Statements.{IsDecl, bare, valued, made, AreMoreDecls, no_more_decls, more_decls, IsVars, vars, IsFirst, no_first, first_vars, first_expr, IsTest, no_test, test, IsResult, no_result, value, IsLabel, case, case_minus, default, is_open, IsNested, nested, AreLocals, no_locals, local_vars, local_stmt, IsBlock, block, IsStmt, inner_block, empty, evaluate, if_only, if_else, while, do_while, for, switch, break, continue, return, AreCases, no_cases, more_cases, AreStmts, no_stmts, more_stmts}
-use Rattle.ash_parse.specs.declared.statements.Leading.{Leading}
-use Rattle.ash_parse.specs.declared.statements.Leading.TheVariants as leads
-use Rattle.ash_parse.specs.Readers.{ParseResult, Unexpected, TooDeep, ◌>>=◌, next_is_sign, expect_at}
-use Rattle.ash_parse.specs.ExpressionReader.{Below, begins, arguments_with, bracketed_with, exprs_with, assign_with, below_at}
-use Rattle.ash_parse.specs.TypeReader.{is_array}
-use Rattle.ash_parse.specs.StatementReader.{Nested, is_name, type_at, is_vars, initializer_with, decl_with, next_decl_with, more_decls_with, decls_with, vars_with, declared_with, first_with, test_with, result_with, leading, begins_by, begins_stmt, stmt_limit_at, goes_on, case_goes_on, evaluate_with, is_else, else_with, if_with, while_with, is_while, while_at, do_with, for_with, number_at, case_value_at, label_by, label_at, stmts_with, case_with, cases_with, switch_with, local_with, locals_with, block_with, stmt_by, stmt_with, nested_at}
+use Rattle.ash_tree.specs.Statements.{IsDecl, bare, valued, made, AreMoreDecls, no_more_decls, more_decls, IsVars, vars, IsFirst, no_first, first_vars, first_expr, IsTest, no_test, test, IsResult, no_result, value, IsLabel, case, case_minus, default, is_open, IsNested, AreLocals, no_locals, local_vars, local_stmt, IsBlock, block, IsStmt, inner_block, empty, evaluate, if_only, if_else, while, do_while, for, switch, break, continue, return, AreCases, no_cases, more_cases, AreStmts, no_stmts, more_stmts}
+use Rattle.ash_parse.specs.declared.stmt_tokens.StmtToken.{StmtToken}
+use Rattle.ash_parse.specs.declared.stmt_tokens.StmtToken.TheVariants as stmt_tokens
+use Rattle.ash_parse.specs.Readers.{ParseResult, Unexpected, ◌>>=◌, next_is_sign, expect_at}
+use Rattle.ash_parse.specs.ExpressionReader.{Below, arguments_with, bracketed_with, exprs_with, assign_with}
+use Rattle.ash_parse.specs.StatementReader.{Nested, type_at, is_vars, initializer_with, decl_with, next_decl_with, more_decls_with, decls_with, vars_with, vars_statement_with, first_with, test_with, return_value_with, stmt_token, goes_on, case_goes_on, evaluate_with, is_else, else_with, if_with, while_with, is_while, while_at, do_with, for_with, number_at, case_value_at, label_by, label_at, stmts_with, case_with, cases_with, switch_with, local_with, locals_with, block_with, stmt_by, stmt_with}
 use Rattle.ash_parse.proofs.Readings.{expect_again}
-use Rattle.ash_parse.proofs.Rereading.{no_true}
 use Rattle.ash_parse.proofs.ExpressionSound.{IsPart}
-use Rattle.ash_parse.proofs.StatementSound.{Closes, Leads, leads_to, while_leads, else_leads, nested_sound}
-use Rattle.ash_parse.proofs.BeginLaws.{Law, Filled, FilledBy, Explained, Then, Behind, Grows, Ending, then, explain_then, fill_then, law_as, done, done_at, fill_here, stopped_at, stops_here, too_deep_at, after, fill_after, explain_after, either, explain_either, sign_then, name_then, ending, put_law, all_of, nowhere, some_name}
+use Rattle.ash_parse.proofs.StatementSound.{Closes, Leads, leads_to, while_leads, else_leads}
+use Rattle.ash_parse.proofs.BeginLaws.{Law, Filled, Explained, Then, After, Grows, Ending, then, explain_then, fill_then, law_as, done, done_at, fill_here, stopped_at, stops_here, after, fill_after, explain_after, either, explain_either, sign_then, name_then, ending, put_law, all_of, nowhere}
 use Rattle.ash_parse.proofs.BeginTypes.{begin_type}
-use Rattle.ash_parse.proofs.BeginExpressions.{IsBracketed, bracketed, inner_alone, begins_assign, begin_exprs, begin_args, begin_bracketed, begin_assign, begin_whole, begin_part}
+use Rattle.ash_parse.proofs.BeginExpressions.{IsBracketed, bracketed, begin_exprs, begin_args, begin_bracketed, begin_assign}
 
 -- decl { "," decl }
 data AreDecls : ℕ → ℕ → Tokens → List Decl → Tokens → Type 0 where
@@ -34,20 +31,20 @@ vars_by : {free depth : ℕ} {from first left : Tokens} {t : Named} {ds : List D
 vars_by t (decls d more) = vars t d more
 
 -- the word `while`, and what is read after it
-explain_while : {A : Type 0} (Q : ℕ → Tokens → A → Tokens → Type 0) (f : Place × Tokens → ParseResult A) (ts : Tokens) → Filled Q → ((p : Place) (rest : Tokens) → Explained (f (p, rest)) rest (Behind (reserved words.While, p) Q)) → Explained (while_at ts >>= f) ts Q
+explain_while : {A : Type 0} (Q : ℕ → Tokens → A → Tokens → Type 0) (f : Place × Tokens → ParseResult A) (ts : Tokens) → Filled Q → ((p : Place) (rest : Tokens) → Explained (f (p, rest)) rest (After (reserved words.While, p) Q)) → Explained (while_at ts >>= f) ts Q
 unfolding while_at
 explain_while Q f [] fill go = stopped_at Q [] fill
 explain_while {A} Q f ((m, p) ∷ ts) fill go =
-    let M : Bool → Type 0 = λ b. is_while (leading m) ≡ b → Explained (◌>>=◌ {A = Place} {B = A} (cond b (Ok (p, ts)) (Err (Unexpected ((m, p) ∷ ts)))) f) ((m, p) ∷ ts) Q in
-    (elim (is_while (leading m)) as M [ true ↦ λ e. subst (λ w. Explained (f (p, ts)) ((w, p) ∷ ts) Q) (sym (while_leads (leading m) m (leads_to m) e)) (explain_after Q (reserved words.While, p) (f (p, ts)) ts (go p ts)) | false ↦ λ e. stopped_at Q ((m, p) ∷ ts) fill ]) refl
+    let M : Bool → Type 0 = λ b. is_while (stmt_token m) ≡ b → Explained (◌>>=◌ {A = Place} {B = A} (cond b (Ok (p, ts)) (Err (Unexpected ((m, p) ∷ ts)))) f) ((m, p) ∷ ts) Q in
+    (elim (is_while (stmt_token m)) as M [ true ↦ λ e. subst (λ w. Explained (f (p, ts)) ((w, p) ∷ ts) Q) (sym (while_leads (stmt_token m) m (leads_to m) e)) (explain_after Q (reserved words.While, p) (f (p, ts)) ts (go p ts)) | false ↦ λ e. stopped_at Q ((m, p) ∷ ts) fill ]) refl
 
-while_then : {A : Type 0} (Q : ℕ → Tokens → A → Tokens → Type 0) (f : Place × Tokens → ParseResult A) (ts : Tokens) → ((p : Place) (rest : Tokens) → Law (f (p, rest)) rest (Behind (reserved words.While, p) Q)) → Law (while_at ts >>= f) ts Q
+while_then : {A : Type 0} (Q : ℕ → Tokens → A → Tokens → Type 0) (f : Place × Tokens → ParseResult A) (ts : Tokens) → ((p : Place) (rest : Tokens) → Law (f (p, rest)) rest (After (reserved words.While, p) Q)) → Law (while_at ts >>= f) ts Q
 while_then Q f ts go =
     let fill : Filled Q = fill_after Q (reserved words.While, nowhere) (go nowhere []).filled in
     record { explained = explain_while Q f ts fill (λ p rest. (go p rest).explained); filled = fill }
 
 -- a number, and what is read after it
-explain_number : {A : Type 0} (Q : ℕ → Tokens → A → Tokens → Type 0) (f : (ℕ × Place) × Tokens → ParseResult A) (ts : Tokens) → Filled Q → ((n : ℕ × Place) (rest : Tokens) → Explained (f (n, rest)) rest (Behind (number n.0, n.1) Q)) → Explained (number_at ts >>= f) ts Q
+explain_number : {A : Type 0} (Q : ℕ → Tokens → A → Tokens → Type 0) (f : (ℕ × Place) × Tokens → ParseResult A) (ts : Tokens) → Filled Q → ((n : ℕ × Place) (rest : Tokens) → Explained (f (n, rest)) rest (After (number n.0, n.1) Q)) → Explained (number_at ts >>= f) ts Q
 unfolding number_at
 explain_number Q f [] fill go = stopped_at Q [] fill
 explain_number Q f ((number n, p) ∷ ts) fill go = explain_after Q (number n, p) (f ((n, p), ts)) ts (go (n, p) ts)
@@ -56,7 +53,7 @@ explain_number Q f ((sign n, p) ∷ ts) fill go = stopped_at Q ((sign n, p) ∷ 
 explain_number Q f ((reserved n, p) ∷ ts) fill go = stopped_at Q ((reserved n, p) ∷ ts) fill
 explain_number Q f ((unsupported n, p) ∷ ts) fill go = stopped_at Q ((unsupported n, p) ∷ ts) fill
 
-number_then : {A : Type 0} (Q : ℕ → Tokens → A → Tokens → Type 0) (f : (ℕ × Place) × Tokens → ParseResult A) (ts : Tokens) → ((n : ℕ × Place) (rest : Tokens) → Law (f (n, rest)) rest (Behind (number n.0, n.1) Q)) → Law (number_at ts >>= f) ts Q
+number_then : {A : Type 0} (Q : ℕ → Tokens → A → Tokens → Type 0) (f : (ℕ × Place) × Tokens → ParseResult A) (ts : Tokens) → ((n : ℕ × Place) (rest : Tokens) → Law (f (n, rest)) rest (After (number n.0, n.1) Q)) → Law (number_at ts >>= f) ts Q
 number_then Q f ts go =
     let fill : Filled Q = fill_after Q (number 0, nowhere) (go (0, nowhere) []).filled in
     record { explained = explain_number Q f ts fill (λ p rest. (go p rest).explained); filled = fill }
@@ -65,7 +62,7 @@ number_then Q f ts go =
 abbrev Labels : ℕ → Tokens → Label × Place → Tokens → Type 0
 Labels free from x left = IsLabel from x.1 x.0 left
 
-begin_case_value : (p : Place) (ts : Tokens) → Law (case_value_at ts) ts (Behind (reserved words.Case, p) Labels)
+begin_case_value : (p : Place) (ts : Tokens) → Law (case_value_at ts) ts (After (reserved words.Case, p) Labels)
 unfolding case_value_at
 begin_case_value p ts =
     either (next_is_sign signs.Minus ts) _ _ ts _
@@ -75,9 +72,9 @@ begin_case_value p ts =
 fill_label : Filled Labels
 fill_label = fill_after _ (reserved words.Default, nowhere) (fill_after _ (sign signs.Colon, nowhere) (fill_here _ (labels.Default, nowhere) (λ free left. default)))
 
-begin_label_by : (k : Leading) (m : Meaning) (p : Place) (ts : Tokens) → Leads k m → Law (label_by k m p ts) ((m, p) ∷ ts) Labels
-begin_label_by leads.Case m p ts d = subst (λ w. Law (case_value_at ts) ((w, p) ∷ ts) Labels) (sym d) (after _ (reserved words.Case, p) _ ts (begin_case_value p ts))
-begin_label_by leads.Default m p ts d =
+begin_label_by : (k : StmtToken) (m : Meaning) (p : Place) (ts : Tokens) → Leads k m → Law (label_by k m p ts) ((m, p) ∷ ts) Labels
+begin_label_by stmt_tokens.Case m p ts d = subst (λ w. Law (case_value_at ts) ((w, p) ∷ ts) Labels) (sym d) (after _ (reserved words.Case, p) _ ts (begin_case_value p ts))
+begin_label_by stmt_tokens.Default m p ts d =
     subst (λ w. Law (expect_at signs.Colon ts >>= λ c. Ok ((labels.Default, p), c.1)) ((w, p) ∷ ts) Labels) (sym d)
     (after _ (reserved words.Default, p) _ ts (sign_then _ signs.Colon _ ts (λ c r. done _ (labels.Default, p) r (λ free left. default))))
 begin_label_by _ m p ts d = stops_here Labels ((m, p) ∷ ts) fill_label
@@ -85,7 +82,7 @@ begin_label_by _ m p ts d = stops_here Labels ((m, p) ∷ ts) fill_label
 begin_label : (ts : Tokens) → Law (label_at ts) ts Labels
 unfolding label_at
 begin_label [] = stops_here Labels [] fill_label
-begin_label ((m, p) ∷ ts) = begin_label_by (leading m) m p ts (leads_to m)
+begin_label ((m, p) ∷ ts) = begin_label_by (stmt_token m) m p ts (leads_to m)
 
 module _ (depth : ℕ) (below : Below) (whole : (ts : Tokens) → Law (below true ts) ts (λ free. IsInner free depth)) (part : (ts : Tokens) → Law (below false ts) ts (λ free. IsPart free depth)) where
   -- a decl after its name
@@ -134,8 +131,8 @@ module _ (depth : ℕ) (below : Below) (whole : (ts : Tokens) → Law (below tru
       (λ t r. then (λ free. AreDecls free depth) _ (decls_with below r) _ r (begin_decls r)
       (λ ds s. done _ (record { of = t; decls = ds }) s (λ free left middle ds before d. vars_by d ds)))
 
-  pub begin_declared : (ts : Tokens) → Law (declared_with below ts) ts (Ending signs.Semicolon (λ free. IsVars free depth))
-  unfolding declared_with
+  pub begin_declared : (ts : Tokens) → Law (vars_statement_with below ts) ts (Ending signs.Semicolon (λ free. IsVars free depth))
+  unfolding vars_statement_with
   begin_declared ts = ending (λ free. IsVars free depth) signs.Semicolon (vars_with below ts) ts (begin_vars ts)
 
   begin_first : (ts : Tokens) → Law (first_with below ts) ts (λ free. IsFirst free depth)
@@ -144,7 +141,7 @@ module _ (depth : ℕ) (below : Below) (whole : (ts : Tokens) → Law (below tru
       either (next_is_sign signs.Semicolon ts) _ _ ts _
       (sign_then _ signs.Semicolon _ ts (λ p r. done _ (Empty p) r (λ free left. no_first)))
       (either (is_vars ts) _ _ ts _
-      (then (Ending signs.Semicolon (λ free. IsVars free depth)) _ (declared_with below ts) _ ts (begin_declared ts)
+      (then (Ending signs.Semicolon (λ free. IsVars free depth)) _ (vars_statement_with below ts) _ ts (begin_declared ts)
       (λ v r. done _ (Declare (place_of_type v.of) v) r (λ free left before d. first_vars d.1)))
       (then (λ free. IsInner free depth) _ (below true ts) _ ts (whole ts)
       (λ e r. sign_then _ signs.Semicolon _ r
@@ -159,8 +156,8 @@ module _ (depth : ℕ) (below : Below) (whole : (ts : Tokens) → Law (below tru
       (λ e r. sign_then _ signs.Semicolon _ r
       (λ p s. done _ (Some e) s (λ free left before d. test d))))
 
-  begin_result : (ts : Tokens) → Law (result_with below ts) ts (λ free. IsResult free depth)
-  unfolding result_with
+  begin_result : (ts : Tokens) → Law (return_value_with below ts) ts (λ free. IsResult free depth)
+  unfolding return_value_with
   begin_result ts =
       either (next_is_sign signs.Semicolon ts) _ _ ts _
       (sign_then _ signs.Semicolon _ ts (λ p r. done _ None r (λ free left. no_result)))
@@ -199,7 +196,7 @@ module _ (depth : ℕ) (below : Below) (deeper : Nested) (whole : (ts : Tokens) 
   unfolding local_with
   begin_local ts =
       either (is_vars ts) _ _ ts _
-      (then (Ending signs.Semicolon (λ free. IsVars free depth)) _ (declared_with below ts) _ ts (begin_declared depth below whole part ts)
+      (then (Ending signs.Semicolon (λ free. IsVars free depth)) _ (vars_statement_with below ts) _ ts (begin_declared depth below whole part ts)
       (λ v r. done _ (Declare (place_of_type v.of) v) r (λ free left before d xs end more. local_vars d.1 more)))
       (law_as (λ free. IsNested free depth) _ (λ free from x left d xs end more. local_stmt d more) (deeper ts) ts (one ts))
 
@@ -252,8 +249,8 @@ module _ (depth : ℕ) (below : Below) (deeper : Nested) (whole : (ts : Tokens) 
   unfolding else_with Branch
   begin_else p c s [] h = done_at _ (If p c s) [] (λ free left middle n before b. if_by b n)
   begin_else p c s ((m, o) ∷ ts) h =
-      explain_either (is_else (leading m)) (deeper ts >>= λ t. Ok (IfElse p c s t.0, t.1)) (Ok (If p c s, (m, o) ∷ ts)) ((m, o) ∷ ts) (Then (λ free. IsNested free depth) (Branch p c) s)
-      (λ e. subst (λ w. Explained (deeper ts >>= λ t. Ok (IfElse p c s t.0, t.1)) ((w, o) ∷ ts) (Then (λ free. IsNested free depth) (Branch p c) s)) (sym (else_leads (leading m) m (leads_to m) e))
+      explain_either (is_else (stmt_token m)) (deeper ts >>= λ t. Ok (IfElse p c s t.0, t.1)) (Ok (If p c s, (m, o) ∷ ts)) ((m, o) ∷ ts) (Then (λ free. IsNested free depth) (Branch p c) s)
+      (λ e. subst (λ w. Explained (deeper ts >>= λ t. Ok (IfElse p c s t.0, t.1)) ((w, o) ∷ ts) (Then (λ free. IsNested free depth) (Branch p c) s)) (sym (else_leads (stmt_token m) m (leads_to m) e))
       (after (Then (λ free. IsNested free depth) (Branch p c) s) (reserved words.Else, o) (deeper ts >>= λ t. Ok (IfElse p c s t.0, t.1)) ts (then (λ free. IsNested free depth) _ (deeper ts) _ ts (one ts)
       (λ t r. done _ (IfElse p c s t) r (λ free left third n middle k before b. if_else_by b k (h e) n)))).explained)
       (λ e. done_at _ (If p c s) ((m, o) ∷ ts) (λ free left middle n before b. if_by b n))
@@ -265,18 +262,18 @@ module _ (depth : ℕ) (below : Below) (deeper : Nested) (whole : (ts : Tokens) 
     filled = fill_then (λ free. IsNested free depth) (Branch p c) (one ts).filled (fill_here _ (If p c (one ts).filled.tree) (λ free left middle n before b. if_by b n));
   }
 
-  begin_if : (p : Place) (ts : Tokens) → Law (if_with below deeper p ts) ts (Behind (reserved words.If, p) (λ free. IsStmt free depth))
+  begin_if : (p : Place) (ts : Tokens) → Law (if_with below deeper p ts) ts (After (reserved words.If, p) (λ free. IsStmt free depth))
   unfolding if_with Branch
   begin_if p ts = then (λ free. IsBracketed free depth) _ (bracketed_with below ts) _ ts (begin_bracketed depth below whole part ts) (λ c r. begin_branch p c r)
 
-  begin_while : (p : Place) (ts : Tokens) → Law (while_with below deeper p ts) ts (Behind (reserved words.While, p) (λ free. IsStmt free depth))
+  begin_while : (p : Place) (ts : Tokens) → Law (while_with below deeper p ts) ts (After (reserved words.While, p) (λ free. IsStmt free depth))
   unfolding while_with
   begin_while p ts =
       then (λ free. IsBracketed free depth) _ (bracketed_with below ts) _ ts (begin_bracketed depth below whole part ts)
       (λ c r. then (λ free. IsNested free depth) _ (deeper r) _ r (one r)
       (λ s t. done _ (While p c s) t (λ free left middle n before b. while_by b n)))
 
-  begin_do : (p : Place) (ts : Tokens) → Law (do_with below deeper p ts) ts (Behind (reserved words.Do, p) (λ free. IsStmt free depth))
+  begin_do : (p : Place) (ts : Tokens) → Law (do_with below deeper p ts) ts (After (reserved words.Do, p) (λ free. IsStmt free depth))
   unfolding do_with
   begin_do p ts =
       then (λ free. IsNested free depth) _ (deeper ts) _ ts (one ts)
@@ -285,7 +282,7 @@ module _ (depth : ℕ) (below : Below) (deeper : Nested) (whole : (ts : Tokens) 
       (λ c u. sign_then _ signs.Semicolon _ u
       (λ o v. done _ (DoWhile p s c) v (λ free left middle b before n. do_by b n)))))
 
-  begin_for : (p : Place) (ts : Tokens) → Law (for_with below deeper p ts) ts (Behind (reserved words.For, p) (λ free. IsStmt free depth))
+  begin_for : (p : Place) (ts : Tokens) → Law (for_with below deeper p ts) ts (After (reserved words.For, p) (λ free. IsStmt free depth))
   unfolding for_with
   begin_for p ts =
       sign_then _ signs.OpenParenthesis _ ts
@@ -296,7 +293,7 @@ module _ (depth : ℕ) (below : Below) (deeper : Nested) (whole : (ts : Tokens) 
       (λ z g. then (λ free. IsNested free depth) _ (deeper g) _ g (one g)
       (λ s t. done _ (For p f c es s) t (λ free left fourth n third xs second k first i. for i k xs n)))))))
 
-  begin_switch : (p : Place) (ts : Tokens) → Law (switch_with below deeper p ts) ts (Behind (reserved words.Switch, p) (λ free. IsStmt free depth))
+  begin_switch : (p : Place) (ts : Tokens) → Law (switch_with below deeper p ts) ts (After (reserved words.Switch, p) (λ free. IsStmt free depth))
   unfolding switch_with
   begin_switch p ts =
       then (λ free. IsBracketed free depth) _ (bracketed_with below ts) _ ts (begin_bracketed depth below whole part ts)
@@ -306,114 +303,32 @@ module _ (depth : ℕ) (below : Below) (deeper : Nested) (whole : (ts : Tokens) 
       (λ z v. done _ (Switch p e (cases cs)) v (λ free left middle k before b. switch_by b k)))))
 
   -- a statement by what leads it
-  Led : Leading → Meaning → Place → Tokens → Type 0
+  Led : StmtToken → Meaning → Place → Tokens → Type 0
   Led k m p ts = Law (stmt_by k below deeper m p ts) ((m, p) ∷ ts) (λ free. IsStmt free depth)
 
-  begin_stmt_by : (k : Leading) (m : Meaning) (p : Place) (ts : Tokens) → Leads k m → Led k m p ts
+  begin_stmt_by : (k : StmtToken) (m : Meaning) (p : Place) (ts : Tokens) → Leads k m → Led k m p ts
   unfolding Led
-  begin_stmt_by leads.Block m p ts d = subst (λ w. Law (block_with below deeper ((w, p) ∷ ts) >>= λ b. Ok (Block p (stmts b.0), b.1)) ((w, p) ∷ ts) (λ free. IsStmt free depth)) (sym d) (begin_block_stmt p ts)
-  begin_stmt_by leads.Empty m p ts d = subst (λ w. Law (Ok (Empty p, ts)) ((w, p) ∷ ts) (λ free. IsStmt free depth)) (sym d) (after _ (sign signs.Semicolon, p) _ ts (done _ (Empty p) ts (λ free left. empty)))
-  begin_stmt_by leads.If m p ts d = subst (λ w. Law (if_with below deeper p ts) ((w, p) ∷ ts) (λ free. IsStmt free depth)) (sym d) (after _ (reserved words.If, p) _ ts (begin_if p ts))
-  begin_stmt_by leads.While m p ts d = subst (λ w. Law (while_with below deeper p ts) ((w, p) ∷ ts) (λ free. IsStmt free depth)) (sym d) (after _ (reserved words.While, p) _ ts (begin_while p ts))
-  begin_stmt_by leads.Do m p ts d = subst (λ w. Law (do_with below deeper p ts) ((w, p) ∷ ts) (λ free. IsStmt free depth)) (sym d) (after _ (reserved words.Do, p) _ ts (begin_do p ts))
-  begin_stmt_by leads.For m p ts d = subst (λ w. Law (for_with below deeper p ts) ((w, p) ∷ ts) (λ free. IsStmt free depth)) (sym d) (after _ (reserved words.For, p) _ ts (begin_for p ts))
-  begin_stmt_by leads.Switch m p ts d = subst (λ w. Law (switch_with below deeper p ts) ((w, p) ∷ ts) (λ free. IsStmt free depth)) (sym d) (after _ (reserved words.Switch, p) _ ts (begin_switch p ts))
-  begin_stmt_by leads.Break m p ts d =
+  begin_stmt_by stmt_tokens.Block m p ts d = subst (λ w. Law (block_with below deeper ((w, p) ∷ ts) >>= λ b. Ok (Block p (stmts b.0), b.1)) ((w, p) ∷ ts) (λ free. IsStmt free depth)) (sym d) (begin_block_stmt p ts)
+  begin_stmt_by stmt_tokens.Empty m p ts d = subst (λ w. Law (Ok (Empty p, ts)) ((w, p) ∷ ts) (λ free. IsStmt free depth)) (sym d) (after _ (sign signs.Semicolon, p) _ ts (done _ (Empty p) ts (λ free left. empty)))
+  begin_stmt_by stmt_tokens.If m p ts d = subst (λ w. Law (if_with below deeper p ts) ((w, p) ∷ ts) (λ free. IsStmt free depth)) (sym d) (after _ (reserved words.If, p) _ ts (begin_if p ts))
+  begin_stmt_by stmt_tokens.While m p ts d = subst (λ w. Law (while_with below deeper p ts) ((w, p) ∷ ts) (λ free. IsStmt free depth)) (sym d) (after _ (reserved words.While, p) _ ts (begin_while p ts))
+  begin_stmt_by stmt_tokens.Do m p ts d = subst (λ w. Law (do_with below deeper p ts) ((w, p) ∷ ts) (λ free. IsStmt free depth)) (sym d) (after _ (reserved words.Do, p) _ ts (begin_do p ts))
+  begin_stmt_by stmt_tokens.For m p ts d = subst (λ w. Law (for_with below deeper p ts) ((w, p) ∷ ts) (λ free. IsStmt free depth)) (sym d) (after _ (reserved words.For, p) _ ts (begin_for p ts))
+  begin_stmt_by stmt_tokens.Switch m p ts d = subst (λ w. Law (switch_with below deeper p ts) ((w, p) ∷ ts) (λ free. IsStmt free depth)) (sym d) (after _ (reserved words.Switch, p) _ ts (begin_switch p ts))
+  begin_stmt_by stmt_tokens.Break m p ts d =
       subst (λ w. Law (expect_at signs.Semicolon ts >>= λ s. Ok (Break p, s.1)) ((w, p) ∷ ts) (λ free. IsStmt free depth)) (sym d)
       (after _ (reserved words.Break, p) _ ts (sign_then _ signs.Semicolon _ ts (λ q r. done _ (Break p) r (λ free left. break))))
-  begin_stmt_by leads.Continue m p ts d =
+  begin_stmt_by stmt_tokens.Continue m p ts d =
       subst (λ w. Law (expect_at signs.Semicolon ts >>= λ s. Ok (Continue p, s.1)) ((w, p) ∷ ts) (λ free. IsStmt free depth)) (sym d)
       (after _ (reserved words.Continue, p) _ ts (sign_then _ signs.Semicolon _ ts (λ q r. done _ (Continue p) r (λ free left. continue))))
-  begin_stmt_by leads.Return m p ts d =
-      subst (λ w. Law (result_with below ts >>= λ e. Ok (Return p e.0, e.1)) ((w, p) ∷ ts) (λ free. IsStmt free depth)) (sym d)
-      (after _ (reserved words.Return, p) _ ts (then (λ free. IsResult free depth) _ (result_with below ts) _ ts (begin_result depth below whole part ts)
+  begin_stmt_by stmt_tokens.Return m p ts d =
+      subst (λ w. Law (return_value_with below ts >>= λ e. Ok (Return p e.0, e.1)) ((w, p) ∷ ts) (λ free. IsStmt free depth)) (sym d)
+      (after _ (reserved words.Return, p) _ ts (then (λ free. IsResult free depth) _ (return_value_with below ts) _ ts (begin_result depth below whole part ts)
       (λ e r. done _ (Return p e) r (λ free left before x. return x))))
-  begin_stmt_by leads.Other m p ts d = begin_evaluate depth below whole part ((m, p) ∷ ts)
+  begin_stmt_by stmt_tokens.Other m p ts d = begin_evaluate depth below whole part ((m, p) ∷ ts)
   begin_stmt_by _ m p ts d = stops_here (λ free. IsStmt free depth) ((m, p) ∷ ts) (fill_stmt depth)
 
   pub begin_stmt : (ts : Tokens) → Law (stmt_with below deeper ts) ts (λ free. IsStmt free depth)
   unfolding stmt_with Led
   begin_stmt [] = stops_here (λ free. IsStmt free depth) [] (fill_stmt depth)
-  begin_stmt ((m, p) ∷ ts) = begin_stmt_by (leading m) m p ts (leads_to m)
-
--- a statement that is empty, and a name in brackets
-abbrev semicolon_text : Tokens
-semicolon_text = (sign signs.Semicolon, nowhere) ∷ []
-
-abbrev name_text : Tokens → Tokens
-name_text more = (sign signs.OpenParenthesis, nowhere) ∷ (name some_name, nowhere) ∷ (sign signs.CloseParenthesis, nowhere) ∷ more
-
-name_inside : {free depth : ℕ} (left : Tokens) → length ((name some_name, nowhere) ∷ left) ≤ free → IsInner free depth ((name some_name, nowhere) ∷ left) (Name nowhere some_name) left
-name_inside left big = inner_alone big (postfix named no_suffixes)
-
-empty_nested : {free depth : ℕ} (left : Tokens) → length ((sign signs.Semicolon, nowhere) ∷ left) ≤ free → IsNested free depth ((sign signs.Semicolon, nowhere) ∷ left) (Empty nowhere) left
-empty_nested left big = nested (λ deep. absurd (omega arith)) empty
-
--- a token that leads a statement begins one
-Begun : ℕ → Place → Meaning → Type 0
-Begun depth p m = FilledBy (m, p) (λ free. IsStmt free depth)
-
-leads_stmt : (depth : ℕ) (k : Leading) (m : Meaning) (p : Place) → Leads k m → begins_by k (begins m) ≡ true → Begun depth p m
-unfolding Begun is_vars is_name is_array primitive
-leads_stmt depth leads.Block m p d b = subst (Begun depth p) (sym d) (record { text = (sign signs.CloseBrace, nowhere) ∷ []; tree = Block p (stmts []); is = λ free left big. inner_block (block no_locals); no_vars = λ after. refl })
-leads_stmt depth leads.Empty m p d b = subst (Begun depth p) (sym d) (record { text = []; tree = Empty p; is = λ free left big. empty; no_vars = λ after. refl })
-leads_stmt depth leads.If m p d b = subst (Begun depth p) (sym d) (record { text = name_text semicolon_text; tree = If p (Name nowhere some_name) (Empty nowhere); is = λ free left big. if_only (name_inside _ (omega arith)) (empty_nested left (omega arith)); no_vars = λ after. refl })
-leads_stmt depth leads.While m p d b = subst (Begun depth p) (sym d) (record { text = name_text semicolon_text; tree = While p (Name nowhere some_name) (Empty nowhere); is = λ free left big. while (name_inside _ (omega arith)) (empty_nested left (omega arith)); no_vars = λ after. refl })
-leads_stmt depth leads.Do m p d b = subst (Begun depth p) (sym d) (record {
-  text = (sign signs.Semicolon, nowhere) ∷ (reserved words.While, nowhere) ∷ name_text semicolon_text;
-  tree = DoWhile p (Empty nowhere) (Name nowhere some_name);
-  is = λ free left big. do_while (empty_nested _ (omega arith)) (name_inside _ (omega arith));
-  no_vars = λ after. refl;
-})
-leads_stmt depth leads.For m p d b = subst (Begun depth p) (sym d) (record {
-  text = (sign signs.OpenParenthesis, nowhere) ∷ (sign signs.Semicolon, nowhere) ∷ (sign signs.Semicolon, nowhere) ∷ (sign signs.CloseParenthesis, nowhere) ∷ semicolon_text;
-  tree = For p (Empty nowhere) None [] (Empty nowhere);
-  is = λ free left big. for no_first no_test no_exprs (empty_nested left (omega arith));
-  no_vars = λ after. refl;
-})
-leads_stmt depth leads.Switch m p d b = subst (Begun depth p) (sym d) (record {
-  text = name_text ((sign signs.OpenBrace, nowhere) ∷ (sign signs.CloseBrace, nowhere) ∷ []);
-  tree = Switch p (Name nowhere some_name) (cases []);
-  is = λ free left big. switch (name_inside _ (omega arith)) no_cases;
-  no_vars = λ after. refl;
-})
-leads_stmt depth leads.Break m p d b = subst (Begun depth p) (sym d) (record { text = semicolon_text; tree = Break p; is = λ free left big. break; no_vars = λ after. refl })
-leads_stmt depth leads.Continue m p d b = subst (Begun depth p) (sym d) (record { text = semicolon_text; tree = Continue p; is = λ free left big. continue; no_vars = λ after. refl })
-leads_stmt depth leads.Return m p d b = subst (Begun depth p) (sym d) (record { text = semicolon_text; tree = Return p None; is = λ free left big. return no_result; no_vars = λ after. refl })
-leads_stmt depth leads.Other m p d b =
-    let f = begins_assign depth m p b in
-    record {
-      text = f.text ++ semicolon_text;
-      tree = Evaluate (place_of f.tree) f.tree;
-      is = λ free left big.
-          let same : (f.text ++ semicolon_text) ++ left ≡ f.text ++ ((sign signs.Semicolon, nowhere) ∷ left) = append_assoc f.text semicolon_text left in
-          let k : length ((f.text ++ semicolon_text) ++ left) ≡ length (f.text ++ ((sign signs.Semicolon, nowhere) ∷ left)) = ap (λ (l : Tokens). length l) same in
-          subst (λ (l : Tokens). IsStmt free depth ((m, p) ∷ l) (Evaluate (place_of f.tree) f.tree) left) (sym same) (evaluate (f.is free ((sign signs.Semicolon, nowhere) ∷ left) (omega arith)));
-      no_vars = λ after. subst (λ (l : Tokens). is_vars ((m, p) ∷ l) ≡ false) (sym (append_assoc f.text semicolon_text after)) (f.no_vars ((sign signs.Semicolon, nowhere) ∷ after));
-    }
-leads_stmt depth leads.Else m p d b = absurd (no_true b)
-leads_stmt depth leads.End m p d b = absurd (no_true b)
-leads_stmt depth leads.Case m p d b = absurd (no_true b)
-leads_stmt depth leads.Default m p d b = absurd (no_true b)
-
-begins_nested : (depth : ℕ) (m : Meaning) (p : Place) → begins_stmt m ≡ true → FilledBy (m, p) (λ free. IsNested free depth)
-unfolding begins_stmt Begun
-begins_nested depth m p b = let f = leads_stmt (suc depth) (leading m) m p (leads_to m) b in record { text = f.text; tree = f.tree; is = λ free left big. nested (λ deep. absurd (omega arith)) (f.is free left big); no_vars = f.no_vars }
-
-fill_nested : (depth : ℕ) → Filled (λ free. IsNested free depth)
-fill_nested depth = record { text = semicolon_text; tree = Empty nowhere; is = λ free left big. empty_nested left big }
-
-stmt_limit : (depth : ℕ) (ts : Tokens) → Law (stmt_limit_at ts) ts (λ free. IsNested free depth)
-unfolding stmt_limit_at
-stmt_limit depth [] = stops_here _ [] (fill_nested depth)
-stmt_limit depth ((m, p) ∷ ts) = record {
-  explained = explain_either (begins_stmt m) (Err (TooDeep ((m, p) ∷ ts))) (Err (Unexpected ((m, p) ∷ ts))) ((m, p) ∷ ts) (λ free. IsNested free depth) (λ b. too_deep_at _ (m, p) ts (begins_nested depth m p b)) (λ b. stopped_at _ ((m, p) ∷ ts) (fill_nested depth));
-  filled = fill_nested depth;
-}
-
-pub begin_nested : (room depth : ℕ) → depth + room ≡ 64 → (ts : Tokens) → Law (nested_at room ts) ts (λ free. IsNested free depth)
-unfolding nested_at
-begin_nested zero depth d ts = stmt_limit depth ts
-begin_nested (suc room) depth d ts =
-    law_as (λ free. IsStmt free (suc depth)) _ (λ free from x left s. nested (λ some. omega arith) s) (stmt_with (below_at room) (nested_at room) ts) ts
-    (begin_stmt (suc depth) (below_at room) (nested_at room) (begin_whole room (suc depth) (omega arith)) (begin_part room (suc depth) (omega arith)) (begin_nested room (suc depth) (omega arith)) (λ s x rest h. (nested_sound room (suc depth) (omega arith) s x rest h).1) ts)
+  begin_stmt ((m, p) ∷ ts) = begin_stmt_by (stmt_token m) m p ts (leads_to m)

@@ -1,4 +1,4 @@
--- What stands before the place where the reading of a type stops begins one.
+-- What is before the place where the reading of a type stops begins one.
 use Rattle.std.proofs.Common.{◌≡◌, ℕ, List, [], ◌∷◌, Option, Some, None, Ok, refl, sym, subst}
 use Rattle.ash_lex.specs.Tokens.{Meaning, name, sign, reserved}
 use Rattle.ash_lex.specs.declared.signs.Sign.TheVariants as signs
@@ -12,7 +12,7 @@ use Rattle.ash_tree.specs.Types.{IsElement, prim_element, handle_element, IsType
 use Rattle.ash_parse.specs.Readers.{◌>>=◌, next_is_sign, expect_at}
 use Rattle.ash_parse.specs.TypeReader.{elem_by, elem_at, element_at}
 use Rattle.ash_parse.specs.StatementReader.{handle_by, type_by, type_at}
-use Rattle.ash_parse.proofs.BeginLaws.{Law, Filled, Behind, then, done, fill_here, stops_here, after, fill_after, either, sign_then, nowhere, some_name}
+use Rattle.ash_parse.proofs.BeginLaws.{Law, Filled, After, then, done, fill_here, stops_here, after, fill_after, either, sign_then, nowhere, some_name}
 
 fill_type : Filled (λ free. IsType)
 fill_type = fill_after _ (name some_name, nowhere) (fill_here _ (Object nowhere some_name) (λ free left. object))
@@ -26,12 +26,12 @@ handle_part o p text z left before e d =
     subst (λ (b : Tokens). IsElement ((sign signs.Less, o) ∷ (name text, p) ∷ b) e left) (sym d.1)
     (subst (λ (x : Element). IsElement ((sign signs.Less, o) ∷ (name text, p) ∷ (sign signs.Handle, d.0) ∷ (sign signs.Greater, z) ∷ left) x left) (sym d.2) handle_element)
 
-fill_elem : (o : Place) → Filled (Behind (sign signs.Less, o) (λ free. IsElement))
+fill_elem : (o : Place) → Filled (After (sign signs.Less, o) (λ free. IsElement))
 fill_elem o =
     fill_after _ (name some_name, nowhere) (fill_after _ (sign signs.Handle, nowhere) (fill_after _ (sign signs.Greater, nowhere)
     (fill_here _ (HandleElement nowhere some_name) (λ free left. handle_element))))
 
-begin_handle_elem : (o p : Place) (text : List ℕ) (ts : Tokens) → Law ((expect_at signs.Handle ts >>= λ h. Ok (HandleElement p text, h.1)) >>= λ e. expect_at signs.Greater e.1 >>= λ z. Ok (e.0, z.1)) ts (Behind (name text, p) (Behind (sign signs.Less, o) (λ free. IsElement)))
+begin_handle_elem : (o p : Place) (text : List ℕ) (ts : Tokens) → Law ((expect_at signs.Handle ts >>= λ h. Ok (HandleElement p text, h.1)) >>= λ e. expect_at signs.Greater e.1 >>= λ z. Ok (e.0, z.1)) ts (After (name text, p) (After (sign signs.Less, o) (λ free. IsElement)))
 begin_handle_elem o p text ts =
     then (HandlePart o p text) _ (expect_at signs.Handle ts >>= λ h. Ok (HandleElement p text, h.1)) _ ts
     (sign_then _ signs.Handle _ ts (λ q r. done _ (HandleElement p text) r (λ free left. (q, refl, refl))))
@@ -39,13 +39,13 @@ begin_handle_elem o p text ts =
     (λ z s. done _ e s (λ free left before d. handle_part o p text z left before e d)))
 
 -- an elem and the ">", after the "<"
-begin_elem_by : (o : Place) (k : Option Primitive) (m : Meaning) (p : Place) (ts : Tokens) → primitive m ≡ k → Law (elem_by k m p ts >>= λ e. expect_at signs.Greater e.1 >>= λ z. Ok (e.0, z.1)) ((m, p) ∷ ts) (Behind (sign signs.Less, o) (λ free. IsElement))
+begin_elem_by : (o : Place) (k : Option Primitive) (m : Meaning) (p : Place) (ts : Tokens) → primitive m ≡ k → Law (elem_by k m p ts >>= λ e. expect_at signs.Greater e.1 >>= λ z. Ok (e.0, z.1)) ((m, p) ∷ ts) (After (sign signs.Less, o) (λ free. IsElement))
 begin_elem_by o (Some k) m p ts g =
     after _ (m, p) _ ts (sign_then _ signs.Greater _ ts (λ z r. done _ (PrimElement p k) r (λ free left. prim_element g)))
 begin_elem_by o None (name text) p ts g = after _ (name text, p) _ ts (begin_handle_elem o p text ts)
 begin_elem_by o None m p ts g = stops_here _ ((m, p) ∷ ts) (fill_elem o)
 
-begin_elem : (o : Place) (ts : Tokens) → Law (elem_at ts >>= λ e. expect_at signs.Greater e.1 >>= λ z. Ok (e.0, z.1)) ts (Behind (sign signs.Less, o) (λ free. IsElement))
+begin_elem : (o : Place) (ts : Tokens) → Law (elem_at ts >>= λ e. expect_at signs.Greater e.1 >>= λ z. Ok (e.0, z.1)) ts (After (sign signs.Less, o) (λ free. IsElement))
 unfolding elem_at
 begin_elem o [] = stops_here _ [] (fill_elem o)
 begin_elem o ((m, p) ∷ ts) = begin_elem_by o (primitive m) m p ts refl

@@ -1,4 +1,4 @@
--- What reports whether tokens begin a declaration of variables: the token after the first, or after an array's
+-- What decides whether tokens begin a declaration of variables: the token after the first, or after an array's
 -- `"<" elem ">"`. Where two lists of tokens that begin alike differ in it, what they have in common leaves it open.
 use Rattle.std.proofs.Common.{◌≡◌, ℕ, suc, ◌<◌, ◌≤◌, ◌⊎◌, inl, inr, List, [], ◌∷◌, ◌++◌, length, Bool, true, false, cond, Option, Some, None, is_some, Ok, Err, refl, sym, ap, subst, ◌∙◌, append_assoc, arith}
 use Rattle.ash_lex.specs.Tokens.{Meaning, name, number, sign, reserved, unsupported}
@@ -103,7 +103,7 @@ unfoldable pub after_open : Tokens → Tokens
 after_open [] = []
 after_open ((m, p) ∷ s) = cond (is_array m) (or_none (after_element s)) s
 
--- where the token after them reports, an array's elements' type is taken
+-- where the token after them decides, an array's elements' type is taken
 element_passed_by : {t : Meaning × Place} {more other : Tokens} {one two : ParseResult Element} → Agree t more other one two → IsUncut one → (array_names_vars (left_of one) ≡ array_names_vars (left_of two) → ⊥) → Past (length more) one
 element_passed_by {t} {more} {other} (reads x prefix) u differs = absurd (differs (names_vars_steady t more other prefix))
 element_passed_by (stops prefix) u differs = absurd (differs refl)
@@ -117,7 +117,7 @@ element_taken t more other prefix differs =
     element_passed_by (element_lawful.keeps t more other prefix) (element_uncut (prefix ++ t ∷ more))
     (λ e. differs (ap (λ o. array_names_vars o) (passed_is_read (prefix ++ t ∷ more)) ∙ e ∙ sym (ap (λ o. array_names_vars o) (passed_is_read (prefix ++ t ∷ other)))))
 
--- where two lists of tokens that are the same up to `t` differ in beginning a declaration, `t` stands in what leaves it open
+-- where two lists of tokens that are the same up to `t` differ in beginning a declaration, `t` is in what leaves it open
 first_passed : (k : Option Primitive) (m : Meaning) (p : Place) (more other : Tokens) → primitive m ≡ k → (is_vars ((m, p) ∷ more) ≡ is_vars ((m, p) ∷ other) → ⊥) → Passed (length more) ((m, p) ∷ more)
 unfolding is_vars is_name is_array
 first_passed (Some k) m p more other e differs = word_passed m p k more e (omega arith)
@@ -264,7 +264,7 @@ first_beyond None (name text) p more e v seen rest leaves is = by_open leaves
 first_beyond None (reserved words.Array) p more e v seen rest leaves is = open_after p more seen rest leaves is
 first_beyond None m p more e v seen rest leaves is = absurd (no_true (subst (λ (k : Option Primitive). cond (is_some k) (next_is_name more) false ≡ true) e v))
 
--- an element that is taken is no more than what stands before `more`
+-- an element that is taken is no more than what is before `more`
 taken_left : (n : ℕ) (o : ParseResult Element) → Past n o → length (or_none (left_of o)) ≤ n
 taken_left n (Ok x) h = h
 taken_left n (Err e) h = omega arith

@@ -1,4 +1,4 @@
--- Operators join level by level, from the tightest on; a level whose operator does not stand next changes nothing.
+-- Operators join level by level, from the tightest on; a level whose operator is not next changes nothing.
 use Rattle.std.proofs.Common.{◌≡◌, ℕ, ◌<◌, ◌≤◌, ◌+◌, ◌-◌, ◌==◌, zero, suc, Bool, List, [], ◌∷◌, true, false, Option, Some, None, is_some, if◌then◌else◌, Ok, Err, refl, sym, ap, ◌∙◌, arith}
 use Rattle.std.proofs.lemmas.Bool.Decides.{nat_tests}
 use Rattle.ash_tree.specs.declared.tree.operators.BinaryOp.{BinaryOp}
@@ -6,7 +6,7 @@ use Rattle.ash_tree.specs.Tree.{Expr, Operation, chained}
 use Rattle.ash_tree.specs.Tokens.{Tokens}
 use Rattle.ash_tree.specs.Operators.{binary_operator, level}
 use Rattle.ash_parse.specs.declared.error.ParseError.{ParseError}
-use Rattle.ash_parse.specs.declared.error.ParseError.TheVariants as stops
+use Rattle.ash_parse.specs.declared.error.ParseError.TheVariants as errors
 use Rattle.ash_parse.specs.Readers.{ParseResult, ◌>>=◌, Fails}
 use Rattle.ash_parse.specs.ExpressionReader.{Below, operator_by, operator_at, is_link, level_by, next_level, link_by, links_by, chain_by, binary_with, unary_with, below_at}
 use Rattle.ash_parse.proofs.Loop.{loop_done}
@@ -37,9 +37,9 @@ skips : (from to : ℕ) (ts : Tokens) → ((n : ℕ) → from ≤ n → n < to �
 skips from to ts h n l u = link_level n ts ∙ grind (arith, nat_tests, h n l u)
 
 fails_bind : {A B : Type 0} (e : ParseError) (read : ParseResult A) (f : A × Tokens → ParseResult B) → Fails e read → Fails e (read >>= f)
-fails_bind stops.NoMemory read f h = tt
-fails_bind (stops.Unexpected rest) read f h = rw h refl
-fails_bind (stops.TooDeep rest) read f h = rw h refl
+fails_bind errors.NoMemory read f h = tt
+fails_bind (errors.Unexpected rest) read f h = rw h refl
+fails_bind (errors.TooDeep rest) read f h = rw h refl
 
 bind_ok : {A : Type 0} (read : ParseResult A) → (read >>= λ x. Ok x) ≡ read
 bind_ok (Ok x) = refl
@@ -85,7 +85,7 @@ module _ (room : ℕ) (h : room ≤ 64) where
   unfolding links_by
   idle n x none = ap (λ o. o >>= λ more. Ok (chained x.0 more.0, more.1)) (loop_done (is_link n) (link_by n (binary_with (below_at room) n)) (link_shrinks room h n) (no_link_left n) x.1 none)
 
-  -- levels whose operator does not stand next are skipped
+  -- levels whose operator is not next are skipped
   skip : (k m count from to : ℕ) (x : Expr × Tokens) → m ≡ k + count → to ≡ from + k → Skips from to x.1 → rises (below_at room) m from x ≡ rises (below_at room) count to x
   unfolding rises
   skip zero m count from to x p q s = let e : m ≡ count = omega arith in let f : to ≡ from = omega arith in rw (e, f) refl
@@ -94,14 +94,14 @@ module _ (room : ℕ) (h : room ≤ 64) where
       let one : step (below_at room) from x ≡ Ok x = idle from x (s from (omega arith) (omega arith)) in
       rw one (skip k m count (suc from) to x (omega arith) (omega arith) (λ n l u. s n (omega arith) u))
 
-  -- where no operator of the levels that are left stands next, all is read
+  -- where no operator of the levels that are left is next, all is read
   pub climb_ends : (level from next : ℕ) (x : Expr × Tokens) (total : ParseResult Expr) → next ≡ next_level x.1 → (from < next → next ≤ level → ⊥) → rises (below_at room) (level - from) from x ≡ total → total ≡ Ok x
   unfolding rises
   climb_ends level from next x total is over so_far =
       let unread : (n : ℕ) → from ≤ n → n < from + (level - from) → (next_level x.1 ≡ suc n) → ⊥ = λ n l u e. over (omega arith) (omega arith) in
       sym so_far ∙ skip (level - from) (level - from) 0 from (from + (level - from)) x (omega arith) refl (skips from (from + (level - from)) x.1 unread)
 
-  -- up to the level of the operator that stands next
+  -- up to the level of the operator that is next
   climb_to : (level from next : ℕ) (x : Expr × Tokens) (total : ParseResult Expr) → next ≡ next_level x.1 → from < next → next ≤ level → rises (below_at room) (level - from) from x ≡ total → (step (below_at room) (next - 1) x >>= rises (below_at room) (level - next) next) ≡ total
   unfolding rises
   climb_to level from next x total is l u so_far =

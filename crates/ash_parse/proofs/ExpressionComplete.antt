@@ -1,5 +1,5 @@
--- What is in the grammar of expressions is read, or reading is cut where a token stands too deep.
-use Rattle.std.proofs.Common.{◌≡◌, ℕ, zero, suc, ◌+◌, ◌<◌, ◌≤◌, ◌==◌, List, [], ◌∷◌, length, Bool, true, false, Some, None, Ok, refl, arith}
+-- What is in the grammar of expressions is read, or reading is cut where a token is too deep.
+use Rattle.std.proofs.Common.{◌≡◌, ℕ, zero, suc, ◌+◌, ◌<◌, ◌≤◌, ◌==◌, List, [], ◌∷◌, length, true, false, Some, Ok, refl, arith}
 use Rattle.std.proofs.lemmas.Bool.Decides.{nat_tests}
 use Rattle.ash_lex.specs.Tokens.{Meaning, name, sign, reserved}
 use Rattle.ash_lex.specs.declared.signs.Sign.TheVariants as signs
@@ -16,196 +16,15 @@ use Rattle.ash_tree.specs.Types.{IsElement}
 use Rattle.ash_tree.specs.Expressions.{DEPTH, IsInner, inner, AreExprs, no_exprs, some_exprs, AreMoreExprs, no_more_exprs, more_exprs, IsArgs, args, IsAssign, no_assign, assign, IsCond, no_branch, branches, IsBinary, operand, joined, AreLinks, no_links, more_links, IsUnary, applied, postfix, AreSuffixes, no_suffixes, more_suffixes, IsSuffix, field, method, index, increment, decrement, IsPrimary, numeral, yes, no, null, this, named, call, brackets, convert, new_array, cast}
 use Rattle.ash_parse.specs.Signs.{is_sign, same_sign}
 use Rattle.ash_parse.specs.Readers.{next_is, next_is_sign}
-use Rattle.ash_parse.specs.ExpressionReader.{Below, begins, next_expr_with, more_exprs_with, exprs_with, arguments_with, bracketed_with, named_with, new_array_with, cast_with, primary_with, begins_suffix, is_suffix, member_with, index_with, suffix_with, suffixes_with, postfix_with, unary_with, operator_at, is_link, link_by, links_by, chain_by, binary_with, branches_with, assign_from, assign_with, limit_at, below_at}
+use Rattle.ash_parse.specs.ExpressionReader.{Below, begins, next_expr_with, more_exprs_with, exprs_with, arguments_with, bracketed_with, name_or_call_with, new_array_with, cast_with, primary_with, begins_suffix, is_suffix, member_with, index_with, suffix_with, suffixes_with, postfix_with, unary_with, operator_at, is_link, link_by, links_by, chain_by, binary_with, branches_with, assign_from, assign_with, limit_at, below_at}
 use Rattle.ash_parse.specs.TypeReader.{target_at}
 use Rattle.ash_parse.proofs.Readings.{expect_again, next_is_sign-again, name_again}
 use Rattle.ash_parse.proofs.Elements.{element_read}
 use Rattle.ash_parse.proofs.ExpressionShorter.{inner_shorter, binary_shorter, suffix_shorter}
-use Rattle.ash_parse.proofs.Rereading.{no_some, no_true, Reads, whole, cut, as_read, then_reads, put_reads, ReadsAll, none_again, one_again}
+use Rattle.ash_parse.proofs.Rereading.{no_true, Reads, whole, cut, as_read, then_reads, put_reads, ReadsAll, none_again, one_again}
+use Rattle.ash_parse.proofs.ExpressionBounds.{Stops, ends_expr, Ends, Closes, assign_plain, plain_stops, ends_stop, ends_assign, close_ends, more_end, suffixes_open, links_stop, suffix_begins, primitive_begins, unary_phrase_begins, assign_begins, inner_begins, begins_no_close}
 
--- an operand that operators up to a level join ends here: no arguments, no suffix and none of these operators follow
-abbrev pub Stops : ℕ → Tokens → Type 0
-Stops n left = (next_is_sign signs.OpenParenthesis left ≡ false) × (is_suffix left ≡ false) × ((k : ℕ) → k < n → is_link k left ≡ false)
-
--- what stands after a whole expression
-unfoldable pub ends_expr : Meaning → Bool
-ends_expr (sign signs.CloseParenthesis) = true
-ends_expr (sign signs.CloseBracket) = true
-ends_expr (sign signs.Comma) = true
-ends_expr (sign signs.Colon) = true
-ends_expr (sign signs.Semicolon) = true
-ends_expr _ = false
-
-abbrev pub Ends : Tokens → Type 0
-Ends left = next_is ends_expr left ≡ true
-
-abbrev pub Closes : Tokens → Type 0
-Closes left = next_is_sign signs.CloseParenthesis left ≡ true
-
-pub fewer_stop : (n : ℕ) (left : Tokens) → Stops (suc n) left → Stops n left
-fewer_stop n left s = (s.0, s.1, λ k l. s.2 k (omega arith))
-
-operator_plain : (m : Meaning) (o : BinaryOp) → binary_operator m ≡ Some o → (is_sign signs.OpenParenthesis m ≡ false) × (begins_suffix m ≡ false)
-unfolding is_sign same_sign begins_suffix binary_operator
-operator_plain (sign signs.OpenParenthesis) o h = absurd (no_some o h)
-operator_plain (sign signs.OpenBracket) o h = absurd (no_some o h)
-operator_plain (sign signs.Dot) o h = absurd (no_some o h)
-operator_plain (sign signs.Increment) o h = absurd (no_some o h)
-operator_plain (sign signs.Decrement) o h = absurd (no_some o h)
-operator_plain m o h = (refl, refl)
-
--- an operator of the next level stops an operand
-link_stops : (n : ℕ) (m : Meaning) (p : Place) (ts : Tokens) (o : BinaryOp) → binary_operator m ≡ Some o → level o ≡ suc n → Stops n ((m, p) ∷ ts)
-unfolding next_is_sign is_suffix is_link operator_at
-link_stops n m p ts o h l =
-    let q = operator_plain m o h in
-    (q.0, q.1, λ k lt. let e : (level o == suc k) ≡ false = grind (arith, nat_tests) in rw (h, e) refl)
-
-ends_plain : (m : Meaning) → ends_expr m ≡ true → (is_sign signs.OpenParenthesis m ≡ false) × (begins_suffix m ≡ false) × (binary_operator m ≡ None) × (is_sign signs.Question m ≡ false) × (assign_operator m ≡ None)
-unfolding is_sign same_sign begins_suffix binary_operator assign_operator ends_expr
-ends_plain (sign signs.CloseParenthesis) h = (refl, refl, refl, refl, refl)
-ends_plain (sign signs.CloseBracket) h = (refl, refl, refl, refl, refl)
-ends_plain (sign signs.Comma) h = (refl, refl, refl, refl, refl)
-ends_plain (sign signs.Colon) h = (refl, refl, refl, refl, refl)
-ends_plain (sign signs.Semicolon) h = (refl, refl, refl, refl, refl)
-ends_plain m h = absurd (no_true h)
-
-assign_plain : (m : Meaning) (o : AssignOp) → assign_operator m ≡ Some o → (is_sign signs.OpenParenthesis m ≡ false) × (begins_suffix m ≡ false) × (binary_operator m ≡ None) × (is_sign signs.Question m ≡ false)
-unfolding is_sign same_sign begins_suffix binary_operator assign_operator
-assign_plain (sign signs.Assign) o h = (refl, refl, refl, refl)
-assign_plain (sign signs.PlusAssign) o h = (refl, refl, refl, refl)
-assign_plain (sign signs.MinusAssign) o h = (refl, refl, refl, refl)
-assign_plain (sign signs.StarAssign) o h = (refl, refl, refl, refl)
-assign_plain (sign signs.SlashAssign) o h = (refl, refl, refl, refl)
-assign_plain (sign signs.PercentAssign) o h = (refl, refl, refl, refl)
-assign_plain (sign signs.BitAndAssign) o h = (refl, refl, refl, refl)
-assign_plain (sign signs.BitOrAssign) o h = (refl, refl, refl, refl)
-assign_plain (sign signs.BitXorAssign) o h = (refl, refl, refl, refl)
-assign_plain (sign signs.ShiftLeftAssign) o h = (refl, refl, refl, refl)
-assign_plain (sign signs.ShiftRightAssign) o h = (refl, refl, refl, refl)
-assign_plain (sign signs.ShiftRightArithmeticAssign) o h = (refl, refl, refl, refl)
-assign_plain m o h = absurd (no_some o h)
-
--- a token that is no operator, and begins no suffix or arguments, stops each operand
-plain_stops : (n : ℕ) (m : Meaning) (p : Place) (ts : Tokens) → is_sign signs.OpenParenthesis m ≡ false → begins_suffix m ≡ false → binary_operator m ≡ None → Stops n ((m, p) ∷ ts)
-unfolding next_is_sign is_suffix is_link operator_at
-plain_stops n m p ts a b h = (a, b, λ k l. rw h refl)
-
-ends_stop : (n : ℕ) (left : Tokens) → Ends left → Stops n left
-ends_stop n [] h = absurd (no_true h)
-ends_stop n ((m, p) ∷ ts) h = let q = ends_plain m h in plain_stops n m p ts q.0 q.1 q.2
-
-ends_assign : (below : Below) (e : Expr) (left : Tokens) → Ends left → assign_from below e left ≡ Ok (e, left)
-unfolding assign_from
-ends_assign below e [] h = absurd (no_true h)
-ends_assign below e ((m, p) ∷ ts) h = let q = ends_plain m h in rw (q.3, q.4) refl
-
-close_ends_at : (m : Meaning) → is_sign signs.CloseParenthesis m ≡ true → (ends_expr m ≡ true) × (is_sign signs.Comma m ≡ false)
-unfolding is_sign same_sign ends_expr
-close_ends_at (sign signs.CloseParenthesis) h = (refl, refl)
-close_ends_at m h = absurd (no_true h)
-
-pub close_ends : (left : Tokens) → Closes left → Ends left × (next_is_sign signs.Comma left ≡ false)
-unfolding next_is_sign
-close_ends [] h = absurd (no_true h)
-close_ends ((m, p) ∷ ts) h = close_ends_at m h
-
--- what stands after one of several arguments
-pub more_end : {free depth : ℕ} {from left : Tokens} {es : List Expr} → AreMoreExprs free depth from es left → Closes left → Ends from
-unfolding ends_expr
-more_end (no_more_exprs {left = left}) s = (close_ends left s).0
-more_end (more_exprs a b) s = refl
-
--- what stands after an operand, before suffixes or operators
-suffixes_open : {free depth : ℕ} {from left : Tokens} {more : List Suffix} → AreSuffixes free depth from more left → next_is_sign signs.OpenParenthesis left ≡ false → next_is_sign signs.OpenParenthesis from ≡ false
-unfolding next_is_sign is_sign same_sign
-suffixes_open no_suffixes s = s
-suffixes_open (more_suffixes field b) s = refl
-suffixes_open (more_suffixes (method a) b) s = refl
-suffixes_open (more_suffixes (index a) b) s = refl
-suffixes_open (more_suffixes increment b) s = refl
-suffixes_open (more_suffixes decrement b) s = refl
-
-links_stop : {free depth n : ℕ} {from left : Tokens} {more : List Operation} → AreLinks free depth n from more left → Stops (suc n) left → Stops n from
-links_stop (no_links {n = n} {left = left}) s = fewer_stop n left s
-links_stop (more_links {n = n} {m = m} {p = p} {from = from} {operator = operator} o l a b) s = link_stops n m p from operator o l
-
-suffix_begins : {free depth : ℕ} {from left : Tokens} {s : Suffix} → IsSuffix free depth from s left → is_suffix from ≡ true
-unfolding is_suffix begins_suffix
-suffix_begins field = refl
-suffix_begins (method a) = refl
-suffix_begins (index a) = refl
-suffix_begins increment = refl
-suffix_begins decrement = refl
-
-unary_begins : (m : Meaning) (o : UnaryOp) → unary_operator m ≡ Some o → begins m ≡ true
-unfolding begins unary_operator primitive
-unary_begins (sign signs.Plus) o h = refl
-unary_begins (sign signs.Minus) o h = refl
-unary_begins (sign signs.LogicalNot) o h = refl
-unary_begins (reserved words.Not) o h = refl
-unary_begins (sign signs.BitNot) o h = refl
-unary_begins (sign signs.Increment) o h = refl
-unary_begins (sign signs.Decrement) o h = refl
-unary_begins (sign signs.Handle) o h = refl
-unary_begins m o h = absurd (no_some o h)
-
-pub primitive_begins : (m : Meaning) (k : Primitive) → primitive m ≡ Some k → (begins m ≡ true) × (unary_operator m ≡ None)
-unfolding begins unary_operator primitive
-primitive_begins (reserved words.Bool) k h = (refl, refl)
-primitive_begins (reserved words.Int) k h = (refl, refl)
-primitive_begins (reserved words.Int32) k h = (refl, refl)
-primitive_begins (reserved words.Int64) k h = (refl, refl)
-primitive_begins (reserved words.Uint) k h = (refl, refl)
-primitive_begins (reserved words.Uint32) k h = (refl, refl)
-primitive_begins (reserved words.Uint64) k h = (refl, refl)
-primitive_begins m k h = absurd (no_some k h)
-
-primary_begins : {free depth : ℕ} {from left : Tokens} {e : Expr} → IsPrimary free depth from e left → next_is begins from ≡ true
-unfolding begins
-primary_begins numeral = refl
-primary_begins yes = refl
-primary_begins no = refl
-primary_begins null = refl
-primary_begins this = refl
-primary_begins named = refl
-primary_begins (call a) = refl
-primary_begins (brackets a) = refl
-primary_begins (convert {m = m} {to = to} k a) = (primitive_begins m to k).0
-primary_begins (new_array a b) = refl
-primary_begins (cast a) = refl
-
-unary_phrase_begins : {free depth : ℕ} {from left : Tokens} {e : Expr} → IsUnary free depth from e left → next_is begins from ≡ true
-unary_phrase_begins (applied {m = m} {operator = operator} o w a) = unary_begins m operator o
-unary_phrase_begins (postfix a b) = primary_begins a
-
-binary_begins : {free depth n : ℕ} {from left : Tokens} {e : Expr} → IsBinary free depth n from e left → next_is begins from ≡ true
-binary_begins (operand a) = unary_phrase_begins a
-binary_begins (joined a b) = binary_begins a
-
-cond_begins : {free depth : ℕ} {from left : Tokens} {e : Expr} → IsCond free depth from e left → next_is begins from ≡ true
-cond_begins (no_branch a) = binary_begins a
-cond_begins (branches a b c) = binary_begins a
-
--- each expression begins with a token that begins expressions
-pub assign_begins : {free depth : ℕ} {from left : Tokens} {e : Expr} → IsAssign free depth from e left → next_is begins from ≡ true
-assign_begins (no_assign a) = cond_begins a
-assign_begins (assign a o b) = binary_begins a
-
-pub inner_begins : {free depth : ℕ} {from left : Tokens} {e : Expr} → IsInner free depth from e left → next_is begins from ≡ true
-inner_begins (inner w a) = assign_begins a
-
-begins_no_close_at : (m : Meaning) → begins m ≡ true → is_sign signs.CloseParenthesis m ≡ false
-unfolding begins is_sign same_sign unary_operator primitive
-begins_no_close_at (sign signs.CloseParenthesis) h = absurd (no_true h)
-begins_no_close_at m h = refl
-
-pub begins_no_close : (ts : Tokens) → next_is begins ts ≡ true → next_is_sign signs.CloseParenthesis ts ≡ false
-unfolding next_is_sign
-begins_no_close [] h = refl
-begins_no_close ((m, p) ∷ ts) h = begins_no_close_at m h
-
--- a primary stands alone, with no operator before it
+-- a primary is an operand by itself, with no operator before it
 primary_alone : {free depth : ℕ} {from left : Tokens} {e : Expr} (below : Below) → IsPrimary free depth from e left → unary_with below from ≡ postfix_with below from
 unfolding unary_with unary_operator
 primary_alone below numeral = refl
@@ -294,11 +113,11 @@ module _ (below : Below) where
   index_again p q from left e h = then_reads _ h (rw (expect_again signs.CloseBracket q left) whole)
 
   named_again : (p : Place) (text : List ℕ) (left : Tokens) → next_is_sign signs.OpenParenthesis left ≡ false → primary_with below ((name text, p) ∷ left) ≡ Ok (Name p text, left)
-  unfolding primary_with named_with primitive
+  unfolding primary_with name_or_call_with primitive
   named_again p text left s = rw s refl
 
   call_again : {free : ℕ} (p o : Place) (text : List ℕ) (from left : Tokens) (es : List Expr) → Reads (List Expr) free (arguments_with below ((sign signs.OpenParenthesis, o) ∷ from)) (es, left) → Reads Expr free (primary_with below ((name text, p) ∷ (sign signs.OpenParenthesis, o) ∷ from)) (Call p text (exprs es), left)
-  unfolding primary_with named_with primitive
+  unfolding primary_with name_or_call_with primitive
   call_again p o text from left es h = rw (next_is_sign-again signs.OpenParenthesis o from) (then_reads _ h whole)
 
   brackets_again : {free : ℕ} (p q : Place) (from left : Tokens) (e : Expr) → Reads Expr free (below true from) (e, (sign signs.CloseParenthesis, q) ∷ left) → Reads Expr free (primary_with below ((sign signs.OpenParenthesis, p) ∷ from)) (Brackets p e, left)
@@ -321,7 +140,7 @@ question_stops : (p : Place) (ts : Tokens) → Stops LEVELS ((sign signs.Questio
 unfolding is_sign same_sign begins_suffix binary_operator
 question_stops p ts = plain_stops LEVELS (sign signs.Question) p ts refl refl refl
 
--- what begins here stands too deep, so that the limit is not asked of it
+-- what begins here is too deep, so that the limit is not asked of it
 pub past : (free n depth : ℕ) → (free < n → suc depth ≤ DEPTH) → depth + 0 ≡ DEPTH → n ≤ free
 past free n depth w d = grind arith
 

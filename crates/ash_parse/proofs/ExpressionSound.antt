@@ -15,7 +15,7 @@ use Rattle.ash_tree.specs.Operators.{primitive, unary_operator, binary_operator,
 use Rattle.ash_tree.specs.Expressions.{Within, IsInner, inner, AreExprs, no_exprs, some_exprs, AreMoreExprs, no_more_exprs, more_exprs, IsArgs, args, IsAssign, no_assign, assign, IsCond, no_branch, branches, IsBinary, operand, joined, AreLinks, no_links, more_links, IsUnary, applied, postfix, AreSuffixes, no_suffixes, more_suffixes, IsSuffix, field, method, index, increment, decrement, IsPrimary, numeral, yes, no, null, this, named, call, brackets, convert, new_array, cast}
 use Rattle.ash_parse.specs.Signs.{is_sign}
 use Rattle.ash_parse.specs.Readers.{ParseResult, Unexpected, TooDeep, ◌>>=◌, put, next_is, next_is_sign, expect_at, name_at}
-use Rattle.ash_parse.specs.ExpressionReader.{Below, limit_at, next_expr_with, more_exprs_with, exprs_with, arguments_with, bracketed_with, named_with, new_array_with, cast_with, primary_by, primary_with, is_suffix, member_with, index_with, suffix_with, suffixes_with, postfix_with, unary_by, unary_with, operator_by, operator_at, is_link, link_from, link_by, links_by, chain_by, binary_with, branches_with, assign_by, assign_from, assign_with, below_at}
+use Rattle.ash_parse.specs.ExpressionReader.{Below, limit_at, next_expr_with, more_exprs_with, exprs_with, arguments_with, bracketed_with, name_or_call_with, new_array_with, cast_with, primary_by, primary_with, is_suffix, member_with, index_with, suffix_with, suffixes_with, postfix_with, unary_by, unary_with, operator_by, operator_at, is_link, link_from, link_by, links_by, chain_by, binary_with, branches_with, assign_by, assign_from, assign_with, below_at}
 use Rattle.ash_parse.specs.TypeReader.{element_at, target_at}
 use Rattle.ash_parse.proofs.Readings.{no_err, bind_ok, at_pair, if_elim, put_ok, Finds, repeat_sound, sign_is, expect_sound, name_sound}
 use Rattle.ash_parse.proofs.Types.{ends_in, element_sound, target_sound}
@@ -84,8 +84,8 @@ module _ (free depth : ℕ) (below : Below) (whole : Finds (below true) (IsInner
       expect_sound signs.OpenParenthesis ts (o.0).0 (o.0).1 Q o.1
       (go (o.0).0 (c.0).0 (o.0).1 (at_pair (λ y r. IsInner free depth (o.0).1 y ((sign signs.CloseParenthesis, (c.0).0) ∷ r)) (e.0).0 (c.0).1 x rest c.2 q))
 
-  named_sound : (p : Place) (text : List ℕ) (ts : Tokens) (x : Expr) (rest : Tokens) → named_with below p text ts ≡ Ok (x, rest) → IsPrimary free depth ((name text, p) ∷ ts) x rest
-  unfolding named_with
+  named_sound : (p : Place) (text : List ℕ) (ts : Tokens) (x : Expr) (rest : Tokens) → name_or_call_with below p text ts ≡ Ok (x, rest) → IsPrimary free depth ((name text, p) ∷ ts) x rest
+  unfolding name_or_call_with
   named_sound p text ts x rest h =
       if_elim (next_is_sign signs.OpenParenthesis ts) (arguments_with below ts >>= λ es. Ok (Call p text (exprs es.0), es.1)) (Ok (Name p text, ts)) (Ok (x, rest)) (IsPrimary free depth ((name text, p) ∷ ts) x rest) h
       (λ b e. let a = bind_ok (arguments_with below ts) (λ es. Ok (Call p text (exprs es.0), es.1)) (x, rest) e in

@@ -23,7 +23,7 @@ use Rattle.ash_parse.proofs.OneFault.{cut_there, one_fault, no_module}
 abbrev pub StopsFirst : {A : Type 0} → (Tokens → Halt → Type 0) → Tokens → ParseResult A → Type 0
 StopsFirst {A} IsFirst ts read = (h : Halt) → read ≡ Err h → IsFirst ts h
 
--- what is reported is the first fault
+-- the fault that is returned is the first one
 reported_first_at : {A : Type 0} (IsFirst : Tokens → Halt → Type 0) (all : List Token) (f : ParseFault) (read : ParseResult A) → StopsFirst IsFirst (tokens_of all) read → IsFault all f read → ReportsFirst IsFirst all f
 reported_first_at IsFirst all faults.NoMemory read first h = tt
 reported_first_at IsFirst all (faults.Unexpected at) (Ok x) first h = absurd h

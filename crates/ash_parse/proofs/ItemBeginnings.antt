@@ -1,4 +1,4 @@
--- The first tokens of an item or a member tell which it is.
+-- The first tokens of an item or a member decide which it is.
 use Rattle.std.proofs.Common.{◌≡◌, ℕ, List, [], ◌∷◌, true, false, Option, Some, refl}
 use Rattle.ash_lex.specs.Tokens.{Meaning, name, sign, reserved}
 use Rattle.ash_lex.specs.declared.signs.Sign.TheVariants as signs
@@ -16,15 +16,15 @@ use Rattle.ash_parse.specs.Signs.{is_sign, same_sign}
 use Rattle.ash_parse.specs.Readers.{next_is, next_is_sign}
 use Rattle.ash_parse.specs.ExpressionReader.{begins}
 use Rattle.ash_parse.specs.TypeReader.{is_array}
-use Rattle.ash_parse.specs.StatementReader.{is_name, next_is_name, is_vars, goes_on, leading}
-use Rattle.ash_parse.specs.ItemReader.{is_void, is_class, after, opens_body, names_function, handle_names_function, is_function, is_constructor, is_left, is_interface}
+use Rattle.ash_parse.specs.StatementReader.{is_name, next_is_name, is_vars, goes_on, stmt_token}
+use Rattle.ash_parse.specs.ItemReader.{is_void, is_class, without_first, opens_body, names_function, handle_names_function, is_function, is_constructor, is_left, is_interface}
 use Rattle.ash_parse.proofs.Rereading.{no_some, no_true}
-use Rattle.ash_parse.proofs.ExpressionComplete.{Closes, begins_no_close, inner_begins, more_end}
+use Rattle.ash_parse.proofs.ExpressionBounds.{Closes, begins_no_close, inner_begins, more_end}
 use Rattle.ash_parse.proofs.Elements.{element_passed}
 use Rattle.ash_parse.proofs.VarsComplete.{Next, Done, ends_follow, inner_no_vars, type_begins, type_vars, decl_begins, decls_next, next_ends, ends_decl}
 use Rattle.ash_parse.proofs.StatementComplete.{starts_no_semicolon, starts_further}
 
--- neither a class, an interface nor a ";" stands here, and an item or a member does
+-- neither a class, an interface nor a ";" is next, and an item or a member is
 abbrev pub Beginnings : Tokens → Type 0
 Beginnings ts = (next_is is_class ts ≡ false) × (next_is_sign signs.Semicolon ts ≡ false) × (is_left ts ≡ true) × (goes_on ts ≡ true) × (next_is is_interface ts ≡ false)
 
@@ -45,7 +45,7 @@ begins_no_void [] h = refl
 begins_no_void ((m, p) ∷ ts) h = (begins_heads_at m h).1
 
 result_heads : {from left : Tokens} {r : Option Named} → IsResultType from r left → Beginnings from
-unfolding is_left is_class is_interface next_is_sign is_sign same_sign goes_on leading
+unfolding is_left is_class is_interface next_is_sign is_sign same_sign goes_on stmt_token
 result_heads void = (refl, refl, refl, refl, refl)
 result_heads (typed {from = from} t) = begins_all from (type_begins t)
 
@@ -56,7 +56,7 @@ pub vars_heads : {free depth : ℕ} {from left : Tokens} {v : Vars} → IsVars f
 vars_heads (vars {from = from} t a b) = begins_all from (type_begins t)
 
 pub member_goes : {free : ℕ} {from left : Tokens} {x : Member} → IsMember free from x left → goes_on from ≡ true
-unfolding goes_on leading
+unfolding goes_on stmt_token
 member_goes (method f) = (function_heads f).3
 member_goes (fields v) = (vars_heads v).3
 member_goes (constructor p b) = refl
@@ -78,9 +78,9 @@ primitive_token (name t) k h = absurd (no_some k h)
 primitive_token (reserved words.Array) k h = absurd (no_some k h)
 primitive_token m k h = (refl, refl, refl)
 
--- after a type, its name and what follows tell whether this is a function
+-- after a type, its name and what follows decide whether this is a function
 typed_function : {from left : Tokens} {t : Named} → IsType from t left → next_is_sign signs.Handle left ≡ false → is_function from ≡ names_function left
-unfolding is_function is_void is_array handle_names_function after next_is_sign is_sign same_sign
+unfolding is_function is_void is_array handle_names_function without_first next_is_sign is_sign same_sign
 typed_function (prim {m = m} {k = k} g) s = rw ((primitive_token m k g).0, (primitive_token m k g).2, s) refl
 typed_function object s = rw s refl
 typed_function handle s = refl
@@ -96,7 +96,7 @@ unfolding next_is_name is_name
 parameter_vars (parameter t) = type_vars t refl
 
 names_parameters : (text : List ℕ) (p : Place) {from left : Tokens} {xs : List Parameter} → AreParameters from xs left → next_is_sign signs.OpenBrace left ≡ true → names_function ((name text, p) ∷ from) ≡ true
-unfolding names_function next_is_name is_name is_array after next_is_sign is_sign same_sign opens_body is_vars primitive
+unfolding names_function next_is_name is_name is_array without_first next_is_sign is_sign same_sign opens_body is_vars primitive
 names_parameters text p no_parameters s = s
 names_parameters text p (parameters a b) s = rw (parameter_vars a) refl
 
@@ -108,7 +108,7 @@ name_no_open : (text : List ℕ) (p : Place) (ts : Tokens) → next_is_sign sign
 unfolding next_is_sign is_sign
 name_no_open text p ts = refl
 
--- each function is reported by its first tokens
+-- each function is recognized by its first tokens
 pub function_function : {free : ℕ} {from left : Tokens} {f : Function} → IsFunction free from f left → is_function from ≡ true
 unfolding is_function is_void
 function_function (function void b c) = refl
@@ -119,8 +119,8 @@ unfolding is_sign same_sign is_vars primitive is_name is_array opens_body
 close_opens_no_body (sign signs.CloseParenthesis) p ts h s = (refl, s)
 close_opens_no_body m p ts h s = absurd (no_true h)
 
-none_opens : (left : Tokens) → Closes left → next_is_sign signs.OpenBrace (after left) ≡ false → (is_vars left ≡ false) × (opens_body left ≡ false)
-unfolding next_is_sign after
+none_opens : (left : Tokens) → Closes left → next_is_sign signs.OpenBrace (without_first left) ≡ false → (is_vars left ≡ false) × (opens_body left ≡ false)
+unfolding next_is_sign without_first
 none_opens [] h s = absurd (no_true h)
 none_opens ((m, p) ∷ ts) h s = close_opens_no_body m p ts h s
 
@@ -130,7 +130,7 @@ no_close_no_body [] h = refl
 no_close_no_body ((m, p) ∷ ts) h = rw h refl
 
 -- arguments are no parameters
-exprs_no_function : {free depth : ℕ} {from left : Tokens} {es : List Expr} → AreExprs free depth from es left → Closes left → next_is_sign signs.OpenBrace (after left) ≡ false → (is_vars from ≡ false) × (opens_body from ≡ false)
+exprs_no_function : {free depth : ℕ} {from left : Tokens} {es : List Expr} → AreExprs free depth from es left → Closes left → next_is_sign signs.OpenBrace (without_first left) ≡ false → (is_vars from ≡ false) × (opens_body from ≡ false)
 exprs_no_function (no_exprs {left = left}) c s = none_opens left c s
 exprs_no_function (some_exprs {from = from} {after = next} a b) c s = (inner_no_vars a (ends_follow next (more_end b c)), no_close_no_body from (begins_no_close from (inner_begins a)))
 
@@ -145,7 +145,7 @@ next_no_brace [] h = refl
 next_no_brace ((m, p) ∷ ts) h = next_no_brace_at m h
 
 decl_no_function : {free depth : ℕ} {from left : Tokens} {d : Decl} → IsDecl free depth from d left → Next left → names_function from ≡ false
-unfolding names_function next_is_name is_name after next_is_sign is_sign same_sign
+unfolding names_function next_is_name is_name without_first next_is_sign is_sign same_sign
 decl_no_function (bare {left = left}) s = rw ((next_ends left s).2) refl
 decl_no_function (valued a) s = refl
 decl_no_function (made {left = left} (args {q = q} a)) s =
@@ -157,7 +157,7 @@ pub vars_no_function : {free depth : ℕ} {from left : Tokens} {v : Vars} → Is
 vars_no_function (vars t a b) s = rw (typed_function t (decl_begins a).1) (decl_no_function a (decls_next b s))
 
 typed_no_constructor : {from left : Tokens} {t : Named} → IsType from t left → next_is_sign signs.OpenParenthesis left ≡ false → is_constructor from ≡ false
-unfolding is_constructor next_is_name is_name after next_is_sign is_sign same_sign
+unfolding is_constructor next_is_name is_name without_first next_is_sign is_sign same_sign
 typed_no_constructor (prim {m = m} {k = k} g) s = rw ((primitive_token m k g).1) refl
 typed_no_constructor object s = s
 typed_no_constructor handle s = refl
@@ -184,5 +184,5 @@ parameters_open no_parameters = refl
 parameters_open (parameters a b) = refl
 
 pub constructor_constructor : (text : List ℕ) (p : Place) {from left : Tokens} {xs : List Parameter} → AreParameters from xs left → is_constructor ((name text, p) ∷ from) ≡ true
-unfolding is_constructor next_is_name is_name after
+unfolding is_constructor next_is_name is_name without_first
 constructor_constructor text p a = parameters_open a

@@ -1,4 +1,4 @@
--- What is in the grammar of modules and of registered declarations is read, or reading is cut where a token stands too
+-- What is in the grammar of modules and of registered declarations is read, or reading is cut where a token is too
 -- deep, so that tokens have one tree.
 use Rattle.std.proofs.Common.{◌≡◌, ℕ, List, [], ◌∷◌, length, true, false, ◌≤◌, ◌⊎◌, Option, Some, Ok, Err, refl, sym, ap, subst, ◌∙◌, arith}
 use Rattle.ash_lex.specs.Tokens.{name, sign}
@@ -16,13 +16,13 @@ use Rattle.ash_parse.specs.Signs.{is_sign, same_sign}
 use Rattle.ash_parse.specs.Readers.{TooDeep, ParseResult, next_is, next_is_sign}
 use Rattle.ash_parse.specs.StatementReader.{is_name, next_is_name, type_at, goes_on}
 use Rattle.ash_parse.specs.ExpressionReader.{begins}
-use Rattle.ash_parse.specs.ItemReader.{is_void, is_class, is_interface, result_type_at, parameter_at, next_parameter_at, more_parameters_at, parameter_list_at, parameters_at, body_at, function_at, globals_at, after, is_function, constructor_at, member_at, members_at, next_interface_at, more_interfaces_at, listed_interfaces_at, interfaces_at, class_at, interface_method_at, interface_methods_at, interface_at, item_at, strip, entry_at, is_left, entries_at, module_at, unnamed_at, next_unnamed_at, more_unnamed_at, unnamed_list_at, unnamed_parameters_at, declaration_after, declaration_at}
+use Rattle.ash_parse.specs.ItemReader.{is_void, is_class, is_interface, result_type_at, parameter_at, next_parameter_at, more_parameters_at, parameter_list_at, parameters_at, body_at, function_at, globals_at, without_first, is_function, constructor_at, member_at, members_at, next_interface_at, more_interfaces_at, listed_interfaces_at, interfaces_at, class_at, interface_method_at, interface_methods_at, interface_at, item_at, strip, entry_at, is_left, entries_at, module_at, unnamed_at, next_unnamed_at, more_unnamed_at, unnamed_list_at, unnamed_parameters_at, declaration_after, declaration_at}
 use Rattle.ash_parse.specs.Faults.{IsFault, whole_declaration_at}
 use Rattle.ash_parse.specs.Unique.{HasOneModule, HasOneDeclaration}
 use Rattle.ash_parse.proofs.Readings.{ok_is, expect_again, next_is_sign-again, name_again}
 use Rattle.ash_parse.proofs.ItemShorter.{parameter_shorter, member_shorter, interface_method_shorter, item_shorter, unnamed_shorter, strip_shorter, strip-done, no_more_left}
 use Rattle.ash_parse.proofs.Rereading.{no_true, Reads, whole, as_read, then_reads, is_cut, is_whole, ReadsAll, none_again, one_again}
-use Rattle.ash_parse.proofs.ExpressionComplete.{Closes, begins_no_close, close_ends}
+use Rattle.ash_parse.proofs.ExpressionBounds.{Closes, begins_no_close, close_ends}
 use Rattle.ash_parse.proofs.VarsComplete.{Follows, ends_follow, type_read, type_begins, declared_read}
 use Rattle.ash_parse.proofs.StatementComplete.{brace_rests, block_read}
 use Rattle.ash_parse.proofs.ItemBeginnings.{begins_no_void, function_heads, vars_heads, member_goes, interface_method_goes, item_heads, function_function, vars_no_function, function_no_constructor, vars_no_constructor, constructor_constructor}
@@ -197,7 +197,7 @@ unfolding unnamed_at
 unnamed_again from left t h s = rw (h, s) refl
 
 with_name_again : (p : Place) (text : List ℕ) (from left : Tokens) (t : Named) → type_at from ≡ Ok (t, (name text, p) ∷ left) → unnamed_at from ≡ Ok (t, left)
-unfolding unnamed_at next_is_name is_name after
+unfolding unnamed_at next_is_name is_name without_first
 with_name_again p text from left t h = rw h refl
 
 unnamed_read : {from left : Tokens} {x : Named} → IsUnnamed from x left → Follows left → unnamed_at from ≡ Ok (x, left)

@@ -10,7 +10,7 @@ use Rattle.ash_tree.specs.Grammar.{IsResultType, void, typed, IsParameter, param
 use Rattle.ash_parse.specs.Signs.{is_sign}
 use Rattle.ash_parse.specs.Readers.{Unexpected, ◌>>=◌, put, loop, next_is_sign, expect_at, name_at}
 use Rattle.ash_parse.specs.StatementReader.{is_name, next_is_name, type_at}
-use Rattle.ash_parse.specs.ItemReader.{next_parameter_at, member_at, next_interface_at, interface_method_at, item_at, entry_at, strip, after, is_left, unnamed_at, next_unnamed_at, more_unnamed_at, unnamed_list_at, unnamed_parameters_at, property_by, declaration_after, declaration_at, result_type_at}
+use Rattle.ash_parse.specs.ItemReader.{next_parameter_at, member_at, next_interface_at, interface_method_at, item_at, entry_at, strip, without_first, is_left, unnamed_at, next_unnamed_at, more_unnamed_at, unnamed_list_at, unnamed_parameters_at, property_by, declaration_after, declaration_at, result_type_at}
 use Rattle.ash_parse.proofs.Readings.{no_err, bind_ok, at_pair, if_elim, put_ok, Finds, repeat_sound, expect_sound}
 use Rattle.ash_parse.proofs.Types.{ends_in, type_sound, type_shorter}
 use Rattle.ash_parse.proofs.StatementShorter.{vars_shorter, block_shorter}
@@ -117,8 +117,8 @@ unfolding is_left
 left_is_none [] h = refl
 left_is_none (t ∷ ts) h = cc
 
-pub strip-more : (ts : Tokens) → next_is_sign signs.Semicolon ts ≡ true → strip ts ≡ strip (after ts)
-unfolding next_is_sign strip after
+pub strip-more : (ts : Tokens) → next_is_sign signs.Semicolon ts ≡ true → strip ts ≡ strip (without_first ts)
+unfolding next_is_sign strip without_first
 strip-more [] h = refl
 strip-more ((m, p) ∷ ts) h = rw h refl
 
@@ -127,14 +127,14 @@ unfolding next_is_sign strip
 strip-done [] h = refl
 strip-done ((m, p) ∷ ts) h = rw h refl
 
-pub after-shorter : (ts : Tokens) → next_is_sign signs.Semicolon ts ≡ true → length (after ts) < length ts
-unfolding next_is_sign after
-after-shorter [] h = absurd (no_truth h)
-after-shorter (t ∷ ts) h = omega arith
+pub without_first-shorter : (ts : Tokens) → next_is_sign signs.Semicolon ts ≡ true → length (without_first ts) < length ts
+unfolding next_is_sign without_first
+without_first-shorter [] h = absurd (no_truth h)
+without_first-shorter (t ∷ ts) h = omega arith
 
--- a name in prefix
-name_is : (ts : Tokens) (Q : Tokens → Type 0) → next_is_name ts ≡ true → ((t : List ℕ) (p : Place) → Q ((name t, p) ∷ after ts)) → Q ts
-unfolding next_is_name is_name after
+-- tokens that begin with a name
+name_is : (ts : Tokens) (Q : Tokens → Type 0) → next_is_name ts ≡ true → ((t : List ℕ) (p : Place) → Q ((name t, p) ∷ without_first ts)) → Q ts
+unfolding next_is_name is_name without_first
 name_is [] Q h go = absurd (no_truth h)
 name_is ((name t, p) ∷ ts) Q h go = go t p
 name_is (_ ∷ ts) Q h go = absurd (no_truth h)
@@ -142,11 +142,11 @@ name_is (_ ∷ ts) Q h go = absurd (no_truth h)
 unnamed_sound : Finds unnamed_at IsUnnamed
 unfolding unnamed_at
 unnamed_sound ts x rest h =
-    let t = bind_ok (type_at ts) (λ t. Ok (t.0, cond (next_is_name t.1) (after t.1) t.1)) (x, rest) h in
+    let t = bind_ok (type_at ts) (λ t. Ok (t.0, cond (next_is_name t.1) (without_first t.1) t.1)) (x, rest) h in
     let d = type_sound ts (t.0).0 (t.0).1 t.1 in
-    let P : Bool → Type 0 = λ v. next_is_name (t.0).1 ≡ v → IsUnnamed ts (t.0).0 (cond v (after (t.0).1) (t.0).1) in
-    at_pair (IsUnnamed ts) (t.0).0 (cond (next_is_name (t.0).1) (after (t.0).1) (t.0).1) x rest t.2
-    ((elim (next_is_name (t.0).1) as P [ true ↦ λ e. name_is (t.0).1 (λ l. IsType ts (t.0).0 l → IsUnnamed ts (t.0).0 (after (t.0).1)) e (λ n p k. with_name k) d | false ↦ λ e. unnamed d ]) refl)
+    let P : Bool → Type 0 = λ v. next_is_name (t.0).1 ≡ v → IsUnnamed ts (t.0).0 (cond v (without_first (t.0).1) (t.0).1) in
+    at_pair (IsUnnamed ts) (t.0).0 (cond (next_is_name (t.0).1) (without_first (t.0).1) (t.0).1) x rest t.2
+    ((elim (next_is_name (t.0).1) as P [ true ↦ λ e. name_is (t.0).1 (λ l. IsType ts (t.0).0 l → IsUnnamed ts (t.0).0 (without_first (t.0).1)) e (λ n p k. with_name k) d | false ↦ λ e. unnamed d ]) refl)
 
 grow_unnamed : (from after left : Tokens) (x : Named) (xs : List Named) → next_unnamed_at from ≡ Ok (x, after) → AreMoreUnnamed after xs left → AreMoreUnnamed from (x ∷ xs) left
 unfolding next_unnamed_at

@@ -14,7 +14,7 @@ use Rattle.ash_parse.specs.Signs.{is_sign}
 use Rattle.ash_parse.specs.Readers.{Unexpected, ◌>>=◌, put, loop, next_is_sign, expect_at, name_at}
 use Rattle.ash_parse.specs.ExpressionReader.{below_at}
 use Rattle.ash_parse.specs.StatementReader.{type_at, goes_on, nested_at}
-use Rattle.ash_parse.specs.ItemReader.{is_void, is_class, is_interface, result_type_at, parameter_at, next_parameter_at, more_parameters_at, parameter_list_at, parameters_at, body_at, function_at, globals_at, after, is_function, is_constructor, constructor_at, member_at, members_at, next_interface_at, more_interfaces_at, listed_interfaces_at, interfaces_at, class_at, interface_method_at, interface_methods_at, interface_at, other_item_at, item_at, strip, entry_at, is_left, entries_at, module_at}
+use Rattle.ash_parse.specs.ItemReader.{is_void, is_class, is_interface, result_type_at, parameter_at, next_parameter_at, more_parameters_at, parameter_list_at, parameters_at, body_at, function_at, globals_at, without_first, is_function, is_constructor, constructor_at, member_at, members_at, next_interface_at, more_interfaces_at, listed_interfaces_at, interfaces_at, class_at, interface_method_at, interface_methods_at, interface_at, other_item_at, item_at, strip, entry_at, is_left, entries_at, module_at}
 use Rattle.ash_parse.proofs.Readings.{no_err, bind_ok, at_pair, if_elim, put_ok, Finds, repeat_sound, sign_is, expect_sound, name_sound}
 use Rattle.ash_parse.proofs.Types.{ends_in, type_sound}
 use Rattle.ash_parse.proofs.ExpressionSound.{whole_sound, part_sound}
@@ -35,7 +35,7 @@ unfolding is_interface
 interface_is (reserved words.Interface) h = refl
 interface_is _ h = cc
 
--- the name that is expected stands where a phrase ends
+-- the name that is expected is where a phrase ends
 pub names_in : (ts : Tokens) (x : List ℕ × Place) (rest : Tokens) (Q : Tokens → Type 0) → name_at ts ≡ Ok (x, rest) → Q ts → Q ((name x.0, x.1) ∷ rest)
 names_in ts x rest Q h = name_sound ts x rest (λ r. Q r → Q ((name x.0, x.1) ∷ rest)) h (λ d. d)
 
@@ -198,7 +198,7 @@ item_sound ((m, p) ∷ ts) x rest h =
     at_pair (λ y l. IsItem 0 u y l) (AnInterface (i.0).0) (i.0).1 x rest i.2 (an_interface (subst (λ w. IsInterface ((w, p) ∷ ts) (i.0).0 (i.0).1) (sym (interface_is m c)) (interface_sound p ts (i.0).0 (i.0).1 i.1))))
     (λ c l. other_item_sound u x rest l))
 
--- what stands after each ";" is a module where the whole is
+-- what is after each ";" is a module where the whole is
 strip_sound : (ts : Tokens) (xs : List Item) → Derives 0 (strip ts) xs → Derives 0 ts xs
 unfolding strip
 strip_sound [] xs d = d

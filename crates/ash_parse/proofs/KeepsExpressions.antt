@@ -13,7 +13,7 @@ use Rattle.ash_tree.specs.Tokens.{Tokens}
 use Rattle.ash_tree.specs.Operators.{primitive, unary_operator, binary_operator, level, LEVELS, assign_operator}
 use Rattle.ash_parse.specs.Signs.{is_sign}
 use Rattle.ash_parse.specs.Readers.{TooDeep, ParseResult, ◌>>=◌, next_is, next_is_sign}
-use Rattle.ash_parse.specs.ExpressionReader.{begins, limit_at, next_expr_with, more_exprs_with, exprs_with, arguments_with, bracketed_with, named_with, new_array_with, cast_with, primary_by, primary_with, begins_suffix, is_suffix, member_with, index_with, suffix_with, suffixes_with, postfix_with, unary_by, unary_with, operator_by, operator_at, is_link, link_from, link_by, links_by, chain_by, binary_with, branches_with, assign_by, assign_from, assign_with, below_at}
+use Rattle.ash_parse.specs.ExpressionReader.{begins, limit_at, next_expr_with, more_exprs_with, exprs_with, arguments_with, bracketed_with, name_or_call_with, new_array_with, cast_with, primary_by, primary_with, begins_suffix, is_suffix, member_with, index_with, suffix_with, suffixes_with, postfix_with, unary_by, unary_with, operator_by, operator_at, is_link, link_from, link_by, links_by, chain_by, binary_with, branches_with, assign_by, assign_from, assign_with, below_at}
 use Rattle.ash_parse.specs.TypeReader.{element_at, target_at}
 use Rattle.ash_parse.proofs.ExpressionLoops.{next_expr_shrinks, suffix_shrinks, link_shrinks}
 use Rattle.ash_parse.proofs.Rereading.{no_some}
@@ -94,8 +94,8 @@ module _ (room : ℕ) (h : room ≤ 64) (deeper : (whole : Bool) → Lawful (bel
   unfolding bracketed_with
   bracketed_lawful = bind_lawful _ (expect_lawful signs.OpenParenthesis) λ o. bind_lawful _ (deeper true) λ e. bind_lawful _ (expect_lawful signs.CloseParenthesis) λ z. ok_lawful e
 
-  named_lawful : (p : Place) (text : List ℕ) → Lawful (named_with (below_at room) p text)
-  unfolding named_with
+  named_lawful : (p : Place) (text : List ℕ) → Lawful (name_or_call_with (below_at room) p text)
+  unfolding name_or_call_with
   named_lawful p text = if_lawful _ (sign_steady signs.OpenParenthesis) (bind_lawful _ arguments_lawful λ es. ok_lawful (Call p text (exprs es))) (ok_lawful (Name p text))
 
   convert_lawful : (p : Place) (k : Primitive) → Lawful (λ s. bracketed_with (below_at room) s >>= λ e. Ok (Convert p k e.0, e.1))

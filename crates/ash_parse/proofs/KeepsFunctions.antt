@@ -1,5 +1,5 @@
 -- What is answered where a function or variables begin hangs only on the tokens that are taken and the next one. Six
--- tokens tell at most which of the two it is, and both readers take each of them that leaves it open.
+-- tokens decide at most which of the two it is, and both readers take each of them that leaves it open.
 use Rattle.std.proofs.Common.{◌≡◌, ℕ, ◌≤◌, ◌⊎◌, inl, inr, List, [], ◌∷◌, ◌++◌, length, Bool, true, false, cond, Option, Some, None, Ok, Err, refl, sym, ap, subst, arith}
 use Rattle.ash_lex.specs.Tokens.{Meaning, name, number, sign, reserved, unsupported}
 use Rattle.ash_lex.specs.declared.signs.Sign.{Sign}
@@ -15,8 +15,8 @@ use Rattle.ash_parse.specs.Signs.{is_sign, same_sign}
 use Rattle.ash_parse.specs.Readers.{Unexpected, ParseResult, ◌>>=◌, put, next_is_sign, expect_at, name_at}
 use Rattle.ash_parse.specs.ExpressionReader.{below_at, exprs_with, arguments_with, more_exprs_with}
 use Rattle.ash_parse.specs.TypeReader.{is_array, element_at, after_element}
-use Rattle.ash_parse.specs.StatementReader.{is_name, next_is_name, handle_by, type_by, type_at, is_vars, initializer_with, decl_with, more_decls_with, decls_with, vars_with, declared_with}
-use Rattle.ash_parse.specs.ItemReader.{is_void, result_type_at, parameter_at, next_parameter_at, more_parameters_at, parameter_list_at, parameters_at, body_at, function_at, globals_at, after, opens_body, names_function, handle_names_function, array_names_function, is_function}
+use Rattle.ash_parse.specs.StatementReader.{is_name, next_is_name, handle_by, type_by, type_at, is_vars, initializer_with, decl_with, more_decls_with, decls_with, vars_with, vars_statement_with}
+use Rattle.ash_parse.specs.ItemReader.{is_void, result_type_at, parameter_at, next_parameter_at, more_parameters_at, parameter_list_at, parameters_at, body_at, function_at, globals_at, without_first, opens_body, names_function, handle_names_function, array_names_function, is_function}
 use Rattle.ash_parse.proofs.Readings.{sign_is}
 use Rattle.ash_parse.proofs.ItemShorter.{next_parameter_shrinks}
 use Rattle.ash_parse.proofs.Rereading.{no_some, no_true}
@@ -66,7 +66,7 @@ closes xs = bind_lawful _ (expect_lawful signs.CloseParenthesis) λ z. ok_lawful
 closed_lawful : {A : Type 0} {some : Tokens → ParseResult (List A)} → Lawful some → Lawful (closed some)
 closed_lawful {some} law = bind_lawful {read = λ s. cond (next_is_sign signs.CloseParenthesis s) (Ok ([], s)) (some s)} (λ xs. expect_at signs.CloseParenthesis xs.1 >>= λ z. Ok (xs.0, z.1)) (if_lawful (next_is_sign signs.CloseParenthesis) (sign_steady signs.CloseParenthesis) (ok_lawful []) law) closes
 
--- these tokens begin what stands after the "(" of parameters, and so many are after it at the most
+-- these tokens begin what is after the "(" of parameters, and so many are after it at the most
 Opened : ℕ → Tokens → Type 0
 Opened n [] = ⊥
 Opened n ((m, p) ∷ s) = Passed n ((m, p) ∷ s) ⊎ ((is_sign signs.CloseParenthesis m ≡ true) × (length s ≤ n))
@@ -118,13 +118,13 @@ globals_lawful = declared_lawful DEPTH within
 
 -- after the name: the parameters of a function, by the next three tokens
 opens_function : Tokens → Bool
-opens_function s = cond (next_is_sign signs.OpenParenthesis s) (cond (is_vars (after s)) true (opens_body (after s))) false
+opens_function s = cond (next_is_sign signs.OpenParenthesis s) (cond (is_vars (without_first s)) true (opens_body (without_first s))) false
 
 opens_sign : (m : Meaning) (p : Place) (s : Tokens) → opens_function ((m, p) ∷ s) ≡ true → m ≡ sign signs.OpenParenthesis
 unfolding opens_function next_is_sign
 opens_sign m p s h = by_sign (is_sign signs.OpenParenthesis m) refl h
   where
-    by_sign : (v : Bool) → is_sign signs.OpenParenthesis m ≡ v → cond v (cond (is_vars (after ((m, p) ∷ s))) true (opens_body (after ((m, p) ∷ s)))) false ≡ true → m ≡ sign signs.OpenParenthesis
+    by_sign : (v : Bool) → is_sign signs.OpenParenthesis m ≡ v → cond v (cond (is_vars (without_first ((m, p) ∷ s))) true (opens_body (without_first ((m, p) ∷ s)))) false ≡ true → m ≡ sign signs.OpenParenthesis
     by_sign true e h = sign_is signs.OpenParenthesis m e
     by_sign false e h = absurd (no_true h)
 
@@ -132,7 +132,7 @@ brace_steady : (a t : Meaning × Place) (more other prefix : Tokens) → opens_b
 unfolding opens_body
 brace_steady (m, p) t more other prefix = rw (sign_steady signs.OpenBrace t more other prefix) refl
 
--- after the "(" where tokens that are the same up to `t` differ in what reports a function, `t` is taken
+-- after the "(" where tokens that are the same up to `t` differ in what decides for a function, `t` is taken
 body_opened : (t : Meaning × Place) (more other prefix : Tokens) → (opens_body (prefix ++ t ∷ more) ≡ opens_body (prefix ++ t ∷ other) → ⊥) → Opened (length more) (prefix ++ t ∷ more)
 unfolding opens_body Opened
 body_opened (m, p) more other [] differs = inr (by_sign (is_sign signs.CloseParenthesis m) differs, omega arith)
@@ -168,11 +168,11 @@ module _ {A : Type 0} (read inside : Tokens → ParseResult A) (opened : (p : Pl
   takes_open : (m : Meaning) (p : Place) (n : ℕ) (s : Tokens) → m ≡ sign signs.OpenParenthesis → Past n (inside s) → Past n (read ((m, p) ∷ s))
   takes_open m p n s e l = subst (λ w. Past n (read ((w, p) ∷ s))) (sym e) (subst (λ x. Past n x) (sym (opened p s)) l)
 
-  -- what reports a function is taken
-  takes_reported : (t : Meaning × Place) (more other seen prefix : Tokens) → opens_function (prefix ++ t ∷ seen) ≡ true → (opens_function (prefix ++ t ∷ more) ≡ opens_function (prefix ++ t ∷ other) → ⊥) → Past (length more) (read (prefix ++ t ∷ more))
-  unfolding opens_function next_is_sign after
-  takes_reported (m, p) more other seen [] h differs = takes_open m p (length more) more (opens_sign m p seen h) (law.stays (length more) more (omega arith))
-  takes_reported t more other seen ((m, p) ∷ prefix) h differs =
+  -- what decides for a function is taken
+  takes_deciding : (t : Meaning × Place) (more other seen prefix : Tokens) → opens_function (prefix ++ t ∷ seen) ≡ true → (opens_function (prefix ++ t ∷ more) ≡ opens_function (prefix ++ t ∷ other) → ⊥) → Past (length more) (read (prefix ++ t ∷ more))
+  unfolding opens_function next_is_sign without_first
+  takes_deciding (m, p) more other seen [] h differs = takes_open m p (length more) more (opens_sign m p seen h) (law.stays (length more) more (omega arith))
+  takes_deciding t more other seen ((m, p) ∷ prefix) h differs =
       takes_open m p (length more) (prefix ++ t ∷ more) (opens_sign m p (prefix ++ t ∷ seen) h)
       (takes.taken (length more) (prefix ++ t ∷ more) (parameters_opened t more other prefix (λ e. differs (ap (λ v. cond (is_sign signs.OpenParenthesis m) v false) e))))
 
@@ -256,17 +256,17 @@ module _ {B : Type 0} (of_function : Function → B) (of_globals : Vars → B) w
   unfolding initializer_with arguments_with exprs_with next_is_sign expect_at is_sign same_sign
   off_opened t n p s = refl
 
-  function_reported : (t : Named) (n : List ℕ × Place) (a : Meaning × Place) (more other seen prefix : Tokens) → opens_function (prefix ++ a ∷ seen) ≡ true → (opens_function (prefix ++ a ∷ more) ≡ opens_function (prefix ++ a ∷ other) → ⊥) → Past (length more) (on (Some t) n (parameters_at (prefix ++ a ∷ more)))
-  function_reported t n = takes_reported (λ s. on (Some t) n (parameters_at s)) (λ s. on (Some t) n (closed some_parameters s)) (on_opened (Some t) n) (on_lawful (Some t) n {read = closed some_parameters} (closed_lawful some_parameters_lawful)) (on_takes (Some t) n {read = closed some_parameters} (closed_takes some_parameters_takes))
+  function_decided : (t : Named) (n : List ℕ × Place) (a : Meaning × Place) (more other seen prefix : Tokens) → opens_function (prefix ++ a ∷ seen) ≡ true → (opens_function (prefix ++ a ∷ more) ≡ opens_function (prefix ++ a ∷ other) → ⊥) → Past (length more) (on (Some t) n (parameters_at (prefix ++ a ∷ more)))
+  function_decided t n = takes_deciding (λ s. on (Some t) n (parameters_at s)) (λ s. on (Some t) n (closed some_parameters s)) (on_opened (Some t) n) (on_lawful (Some t) n {read = closed some_parameters} (closed_lawful some_parameters_lawful)) (on_takes (Some t) n {read = closed some_parameters} (closed_takes some_parameters_takes))
 
-  globals_reported : (t : Named) (n : List ℕ × Place) (a : Meaning × Place) (more other seen prefix : Tokens) → opens_function (prefix ++ a ∷ seen) ≡ true → (opens_function (prefix ++ a ∷ more) ≡ opens_function (prefix ++ a ∷ other) → ⊥) → Past (length more) (off t n (initializer_with (below_at DEPTH) (prefix ++ a ∷ more)))
-  globals_reported t n = takes_reported (λ s. off t n (initializer_with (below_at DEPTH) s)) (λ s. off t n (made s)) (off_opened t n) (off_lawful t n {read = made} made_lawful) (off_takes t n {read = made} made_takes)
+  globals_decided : (t : Named) (n : List ℕ × Place) (a : Meaning × Place) (more other seen prefix : Tokens) → opens_function (prefix ++ a ∷ seen) ≡ true → (opens_function (prefix ++ a ∷ more) ≡ opens_function (prefix ++ a ∷ other) → ⊥) → Past (length more) (off t n (initializer_with (below_at DEPTH) (prefix ++ a ∷ more)))
+  globals_decided t n = takes_deciding (λ s. off t n (initializer_with (below_at DEPTH) s)) (λ s. off t n (made s)) (off_opened t n) (off_lawful t n {read = made} made_lawful) (off_takes t n {read = made} made_takes)
 
-  -- what opens a body reports a function
-  reported_crosses : (t : Named) (n : List ℕ × Place) → Crosses opens_function (λ s. on (Some t) n (parameters_at s)) (λ s. off t n (initializer_with (below_at DEPTH) s))
-  reported_crosses t n a more other prefix = (
-    λ h k. past (function_reported t n a more other more prefix h (differs_on (opens_function (prefix ++ a ∷ more)) (opens_function (prefix ++ a ∷ other)) h k)) (globals_reported t n a other more more prefix h (λ e. differs_on (opens_function (prefix ++ a ∷ more)) (opens_function (prefix ++ a ∷ other)) h k (sym e))),
-    λ h k. past (globals_reported t n a more other other prefix k (differs_off (opens_function (prefix ++ a ∷ more)) (opens_function (prefix ++ a ∷ other)) h k)) (function_reported t n a other more other prefix k (λ e. differs_off (opens_function (prefix ++ a ∷ more)) (opens_function (prefix ++ a ∷ other)) h k (sym e))),
+  -- what opens a body decides for a function
+  decided_crosses : (t : Named) (n : List ℕ × Place) → Crosses opens_function (λ s. on (Some t) n (parameters_at s)) (λ s. off t n (initializer_with (below_at DEPTH) s))
+  decided_crosses t n a more other prefix = (
+    λ h k. past (function_decided t n a more other more prefix h (differs_on (opens_function (prefix ++ a ∷ more)) (opens_function (prefix ++ a ∷ other)) h k)) (globals_decided t n a other more more prefix h (λ e. differs_on (opens_function (prefix ++ a ∷ more)) (opens_function (prefix ++ a ∷ other)) h k (sym e))),
+    λ h k. past (globals_decided t n a more other other prefix k (differs_off (opens_function (prefix ++ a ∷ more)) (opens_function (prefix ++ a ∷ other)) h k)) (function_decided t n a other more other prefix k (λ e. differs_off (opens_function (prefix ++ a ∷ more)) (opens_function (prefix ++ a ∷ other)) h k (sym e))),
   )
 
   -- after its type, a function or variables
@@ -274,7 +274,7 @@ module _ {B : Type 0} (of_function : Function → B) (of_globals : Vars → B) w
   named t s = name_at s >>= λ n. cond (opens_function n.1) (on (Some t) n.0 (parameters_at n.1)) (off t n.0 (initializer_with (below_at DEPTH) n.1))
 
   after_name : (t : Named) (n : List ℕ × Place) → Lawful (λ s. cond (opens_function s) (on (Some t) n (parameters_at s)) (off t n (initializer_with (below_at DEPTH) s)))
-  after_name t n = choice_lawful opens_function (reported_crosses t n) (on_lawful (Some t) n {read = parameters_at} parameters_lawful) (off_lawful t n {read = initializer_with (below_at DEPTH)} (initializer_lawful DEPTH within))
+  after_name t n = choice_lawful opens_function (decided_crosses t n) (on_lawful (Some t) n {read = parameters_at} parameters_lawful) (off_lawful t n {read = initializer_with (below_at DEPTH)} (initializer_lawful DEPTH within))
 
   named_lawful : (t : Named) → Lawful (named t)
   named_lawful t = bind_lawful {read = name_at} (λ n. cond (opens_function n.1) (on (Some t) n.0 (parameters_at n.1)) (off t n.0 (initializer_with (below_at DEPTH) n.1))) name_lawful (after_name t)
@@ -291,7 +291,7 @@ module _ {B : Type 0} (of_function : Function → B) (of_globals : Vars → B) w
   one_of false o = refl
 
   by_names : (t : Named) (s : Tokens) → cond (names_function s) (on_type (Ok (t, s))) (off_type (Ok (t, s))) ≡ named t s
-  unfolding names_function next_is_name is_name name_at decls_with decl_with opens_function after
+  unfolding names_function next_is_name is_name name_at decls_with decl_with opens_function without_first
   by_names t [] = refl
   by_names t ((name text, p) ∷ s) = refl
   by_names t ((number n, p) ∷ s) = refl
@@ -299,8 +299,8 @@ module _ {B : Type 0} (of_function : Function → B) (of_globals : Vars → B) w
   by_names t ((reserved n, p) ∷ s) = refl
   by_names t ((unsupported n, p) ∷ s) = refl
 
-  by_next : (t : Named) (s : Tokens) → cond (cond (next_is_sign signs.Handle s) (names_function (after s)) (names_function s)) (on_type (Ok (t, s))) (off_type (Ok (t, s))) ≡ named t s
-  unfolding names_function next_is_name is_name name_at decls_with decl_with opens_function next_is_sign is_sign after
+  by_next : (t : Named) (s : Tokens) → cond (cond (next_is_sign signs.Handle s) (names_function (without_first s)) (names_function s)) (on_type (Ok (t, s))) (off_type (Ok (t, s))) ≡ named t s
+  unfolding names_function next_is_name is_name name_at decls_with decl_with opens_function next_is_sign is_sign without_first
   by_next t [] = refl
   by_next t ((name text, p) ∷ s) = refl
   by_next t ((number n, p) ∷ s) = refl
@@ -316,7 +316,7 @@ module _ {B : Type 0} (of_function : Function → B) (of_globals : Vars → B) w
 
   -- after what is a type with an "@" or without one
   by_handles : (plain handle : Named) (s : Tokens) → cond (handle_names_function s) (on_type (handle_by plain handle s)) (off_type (handle_by plain handle s)) ≡ (handle_by plain handle s >>= λ t. named t.0 t.1)
-  unfolding handle_names_function next_is_sign expect_at after
+  unfolding handle_names_function next_is_sign expect_at without_first
   by_handles plain handle [] = by_names plain []
   by_handles plain handle ((m, q) ∷ s) = by_handle (is_sign signs.Handle m) plain handle q m s
 
@@ -364,7 +364,7 @@ module _ {B : Type 0} (of_function : Function → B) (of_globals : Vars → B) w
   by_void false m p s = by_kind (primitive m) m p s refl
 
   same_either : (s : Tokens) → either s ≡ either_by s
-  unfolding either_by is_function function_at result_type_at globals_at declared_with vars_with type_at
+  unfolding either_by is_function function_at result_type_at globals_at vars_statement_with vars_with type_at
   same_either [] = refl
   same_either ((m, p) ∷ s) = by_void (is_void m) m p s
 

@@ -10,12 +10,13 @@ use Rattle.ash_tree.specs.Types.{IsElement}
 use Rattle.ash_parse.specs.Signs.{is_sign}
 use Rattle.ash_parse.specs.Readers.{Halt, Unexpected, TooDeep, ParseResult, ◌>>=◌, next_is_sign, name_at}
 use Rattle.ash_parse.specs.StatementReader.{is_name, next_is_name, is_vars, goes_on}
-use Rattle.ash_parse.specs.ItemReader.{is_class, is_interface, parameters_at, body_at, after, is_constructor, constructor_at, member_at, members_at, next_interface_at, more_interfaces_at, listed_interfaces_at, interfaces_at, class_at, interface_method_at, interface_methods_at, interface_at, item_at, strip, entry_at, is_left, entries_at, module_at, unnamed_at, next_unnamed_at, more_unnamed_at, unnamed_list_at, unnamed_parameters_at, property_by, declaration_after, declaration_at}
+use Rattle.ash_parse.specs.ItemReader.{is_class, is_interface, parameters_at, body_at, without_first, is_constructor, constructor_at, member_at, members_at, next_interface_at, more_interfaces_at, listed_interfaces_at, interfaces_at, class_at, interface_method_at, interface_methods_at, interface_at, item_at, strip, entry_at, is_left, entries_at, module_at, unnamed_at, next_unnamed_at, more_unnamed_at, unnamed_list_at, unnamed_parameters_at, property_by, declaration_after, declaration_at}
 use Rattle.ash_parse.specs.Faults.{whole_declaration_at}
 use Rattle.ash_parse.specs.FirstFault.{LeavesOpen}
 use Rattle.ash_parse.proofs.ItemShorter.{member_shrinks, next_interface_shrinks, interface_method_shrinks, entry_shrinks, next_unnamed_shrinks, strip_shorter}
 use Rattle.ash_parse.proofs.Rereading.{no_true}
-use Rattle.ash_parse.proofs.Keeps.{not_deep_beyond, not_cut_inside, differs_on, differs_off, no_cross, stops_alike, deep_alike, Past, Agree, reads, past, Inside, Clear, ends_before, Lawful, ok_lawful, bind_past, bind_lawful, put_lawful, Steady, sign_steady, Crosses, choice_lawful, if_lawful, IsNoArray, sign_no_array, Led, led_after, led_from, stop_lawful, led_if, led_lawful, expect_lawful, name_lawful, loop_lawful}
+use Rattle.ash_parse.proofs.Keeps.{differs_on, differs_off, no_cross, Past, Agree, reads, past, Inside, Clear, ends_before, Lawful, ok_lawful, bind_past, bind_lawful, put_lawful, Steady, sign_steady, Crosses, choice_lawful, if_lawful, IsNoArray, sign_no_array, Led, led_after, led_from, stop_lawful, led_if, led_lawful, expect_lawful, name_lawful, loop_lawful}
+use Rattle.ash_parse.proofs.SameFaults.{not_deep_beyond, not_cut_inside, stops_alike, deep_alike}
 use Rattle.ash_parse.proofs.Choices.{inside_element}
 use Rattle.ash_parse.proofs.BeginLaws.{left_at}
 use Rattle.ash_parse.proofs.KeepsFunctions.{result_lawful, parameters_lawful, body_lawful, either, either_lawful, either_takes}
@@ -35,16 +36,16 @@ a_constructor s = constructor_at s >>= λ f. Ok (AConstructor f.0, f.1)
 a_constructor_lawful : Lawful a_constructor
 a_constructor_lawful = bind_lawful {read = constructor_at} (λ f. Ok (AConstructor f.0, f.1)) constructor_lawful (λ f. ok_lawful (AConstructor f))
 
-name_in_prefix : (m : Meaning) (p : Place) (s : Tokens) (Q : Meaning → Type 0) → is_constructor ((m, p) ∷ s) ≡ true → ((text : List ℕ) → Q (name text)) → Q m
+begins_with_name : (m : Meaning) (p : Place) (s : Tokens) (Q : Meaning → Type 0) → is_constructor ((m, p) ∷ s) ≡ true → ((text : List ℕ) → Q (name text)) → Q m
 unfolding is_constructor next_is_name is_name
-name_in_prefix (name text) p s Q h go = go text
-name_in_prefix (number n) p s Q h go = absurd (no_true h)
-name_in_prefix (sign n) p s Q h go = absurd (no_true h)
-name_in_prefix (reserved n) p s Q h go = absurd (no_true h)
-name_in_prefix (unsupported n) p s Q h go = absurd (no_true h)
+begins_with_name (name text) p s Q h go = go text
+begins_with_name (number n) p s Q h go = absurd (no_true h)
+begins_with_name (sign n) p s Q h go = absurd (no_true h)
+begins_with_name (reserved n) p s Q h go = absurd (no_true h)
+begins_with_name (unsupported n) p s Q h go = absurd (no_true h)
 
 constructor_steady : (a t : Meaning × Place) (more other prefix : Tokens) → is_constructor (a ∷ prefix ++ t ∷ more) ≡ is_constructor (a ∷ prefix ++ t ∷ other)
-unfolding is_constructor next_is_name after
+unfolding is_constructor next_is_name without_first
 constructor_steady a t more other prefix = rw (sign_steady signs.OpenParenthesis t more other prefix) refl
 
 constructor_takes : (text : List ℕ) (p : Place) (n : ℕ) (s : Tokens) → length s ≤ n → Past n (a_constructor ((name text, p) ∷ s))
@@ -56,8 +57,8 @@ constructor_takes text p n s l =
 
 constructor_crosses : Crosses is_constructor a_constructor other_member
 constructor_crosses (m, p) more other [] = (
-  λ h k. name_in_prefix m p more (λ w. Agree (w, p) more other (a_constructor ((w, p) ∷ more)) (other_member ((w, p) ∷ other))) h (λ text. past (constructor_takes text p (length more) more (omega arith)) (either_takes AMethod AField text p (length other) other (omega arith))),
-  λ h k. name_in_prefix m p other (λ w. Agree (w, p) more other (other_member ((w, p) ∷ more)) (a_constructor ((w, p) ∷ other))) k (λ text. past (either_takes AMethod AField text p (length more) more (omega arith)) (constructor_takes text p (length other) other (omega arith))),
+  λ h k. begins_with_name m p more (λ w. Agree (w, p) more other (a_constructor ((w, p) ∷ more)) (other_member ((w, p) ∷ other))) h (λ text. past (constructor_takes text p (length more) more (omega arith)) (either_takes AMethod AField text p (length other) other (omega arith))),
+  λ h k. begins_with_name m p other (λ w. Agree (w, p) more other (other_member ((w, p) ∷ more)) (a_constructor ((w, p) ∷ other))) k (λ text. past (either_takes AMethod AField text p (length more) more (omega arith)) (constructor_takes text p (length other) other (omega arith))),
 )
 constructor_crosses t more other (a ∷ prefix) =
     let s = a ∷ prefix ++ t ∷ more in
@@ -176,8 +177,8 @@ unfolding is_name
 name_no_array (reserved words.Array) e = no_true e
 name_no_array m e = tt
 
-optional_name : (t : Named) → Lawful (λ s. Ok (t, cond (next_is_name s) (after s) s))
-unfolding next_is_name after
+optional_name : (t : Named) → Lawful (λ s. Ok (t, cond (next_is_name s) (without_first s) s))
+unfolding next_is_name without_first
 optional_name t = led_lawful (λ n. omega arith) (λ m p. by_token (is_name m) m p refl)
   where
     by_token : (b : Bool) (m : Meaning) (p : Place) → is_name m ≡ b → Led (m, p) (λ s. Ok (t, cond b s ((m, p) ∷ s)))
@@ -220,25 +221,25 @@ pub whole_declaration_lawful : Lawful whole_declaration_at
 unfolding whole_declaration_at
 whole_declaration_lawful = bind_lawful _ declaration_lawful λ d. if_lawful is_left left_steady stop_lawful (ok_lawful d)
 
--- where a token fits nowhere, what stands after it changes nothing
+-- where a token fits nowhere, what is after it changes nothing
 pub keeps_unexpected : (prefix more other : Tokens) (t : Meaning × Place) → module_at (prefix ++ t ∷ more) ≡ Err (Unexpected (t ∷ more)) → module_at (prefix ++ t ∷ other) ≡ Err (Unexpected (t ∷ other))
 keeps_unexpected prefix more other t h = stops_alike t more other (module_lawful.keeps t more other prefix) h
 
--- where a token stands too deep, what stands after those that tell what it begins changes nothing
+-- where a token is too deep, what is after those that decide what it begins changes nothing
 pub keeps_too_deep : (prefix seen more other : Tokens) (t u : Meaning × Place) → is_vars (t ∷ (seen ++ u ∷ more)) ≡ is_vars (t ∷ (seen ++ u ∷ other)) → module_at (prefix ++ t ∷ (seen ++ u ∷ more)) ≡ Err (TooDeep (t ∷ (seen ++ u ∷ more))) → module_at (prefix ++ t ∷ (seen ++ u ∷ other)) ≡ Err (TooDeep (t ∷ (seen ++ u ∷ other)))
 keeps_too_deep prefix seen more other t u same h =
     let regroup : (s : Tokens) → (prefix ++ t ∷ seen) ++ s ≡ prefix ++ t ∷ (seen ++ s) = λ s. append_assoc prefix (t ∷ seen) s in
     ap module_at (sym (regroup (u ∷ other))) ∙ deep_alike (t ∷ seen) u more other (module_lawful.keeps u more other (prefix ++ t ∷ seen)) (λ v w. differs_off (is_vars (t ∷ (seen ++ u ∷ more))) (is_vars (t ∷ (seen ++ u ∷ other))) v w same) (ap module_at (regroup (u ∷ more)) ∙ h)
 
--- where a token stands too deep, so it does with any others after it, as long as it begins no declaration with them
+-- where a token is too deep, so it does with any others after it, as long as it begins no declaration with them
 pub keeps_deep : (prefix more other : Tokens) (t : Meaning × Place) → is_vars (t ∷ other) ≡ false → module_at (prefix ++ t ∷ more) ≡ Err (TooDeep (t ∷ more)) → module_at (prefix ++ t ∷ other) ≡ Err (TooDeep (t ∷ other))
 keeps_deep prefix more other t v h = deep_alike [] t more other (module_lawful.keeps t more other prefix) (λ u w. differs_on (is_vars (t ∷ other)) (is_vars (t ∷ other)) w v refl) h
 
--- where reading stops after what leaves open what a token begins, the token stands too deep with no others after it
+-- where reading stops after what leaves open what a token begins, the token is too deep with no others after it
 pub keeps_not_deep : (prefix seen other : Tokens) (t : Meaning × Place) (halt : Halt) → LeavesOpen t seen → module_at (prefix ++ t ∷ (seen ++ left_at halt)) ≡ Err halt → module_at (prefix ++ t ∷ other) ≡ Err (TooDeep (t ∷ other)) → ⊥
 keeps_not_deep prefix seen other t halt leaves h k = not_deep_beyond t (seen ++ left_at halt) other seen halt leaves refl (module_lawful.keeps t (seen ++ left_at halt) other prefix) h k
 
--- no token stands too deep inside an array's `"<" elem ">"`
+-- no token is too deep inside an array's `"<" elem ">"`
 pub none_deep_inside : (prefix seen rest tail : Tokens) (t u : Meaning × Place) (of : Element) → t.0 ≡ reserved words.Array → IsElement (seen ++ u ∷ tail) of [] → module_at (prefix ++ t ∷ (seen ++ u ∷ rest)) ≡ Err (TooDeep (u ∷ rest)) → ⊥
 none_deep_inside prefix seen rest tail t u of w d h =
     let n : length (seen ++ u ∷ rest) ≡ length seen + length (u ∷ rest) = length-append seen (u ∷ rest) in

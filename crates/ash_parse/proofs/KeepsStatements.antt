@@ -10,13 +10,13 @@ use Rattle.ash_tree.specs.declared.tree.statements.Label.TheVariants as labels
 use Rattle.ash_tree.specs.Tree.{Element, Named, Prim, Object, Handle, Array, ArrayHandle, Expr, Default, Value, Arguments, Vars, Stmt, Empty, Declare, Evaluate, Block, If, IfElse, While, DoWhile, For, Switch, Break, Continue, Return, labelled, place_of, place_of_type, stmts, cases}
 use Rattle.ash_tree.specs.Tokens.{Tokens}
 use Rattle.ash_tree.specs.Operators.{primitive}
-use Rattle.ash_parse.specs.declared.statements.Leading.{Leading}
-use Rattle.ash_parse.specs.declared.statements.Leading.TheVariants as leads
+use Rattle.ash_parse.specs.declared.stmt_tokens.StmtToken.{StmtToken}
+use Rattle.ash_parse.specs.declared.stmt_tokens.StmtToken.TheVariants as stmt_tokens
 use Rattle.ash_parse.specs.Signs.{is_sign}
 use Rattle.ash_parse.specs.Readers.{Unexpected, TooDeep, ParseResult, ◌>>=◌, next_is, next_is_sign, expect_at}
 use Rattle.ash_parse.specs.ExpressionReader.{begins, bracketed_with, below_at}
 use Rattle.ash_parse.specs.TypeReader.{is_array, element_at, after_element}
-use Rattle.ash_parse.specs.StatementReader.{is_name, next_is_name, names_vars, array_names_vars, handle_by, type_by, type_at, is_vars, initializer_with, decl_with, next_decl_with, more_decls_with, decls_with, vars_with, declared_with, first_with, test_with, result_with, leading, begins_stmt, stmt_limit_at, is_end, ends_case, goes_on, case_goes_on, evaluate_with, is_else, else_with, if_with, while_with, is_while, while_at, do_with, for_with, number_at, case_value_at, label_by, label_at, stmts_with, case_with, cases_with, switch_with, local_with, locals_with, block_with, stmt_by, stmt_with, nested_at}
+use Rattle.ash_parse.specs.StatementReader.{is_name, next_is_name, names_vars, array_names_vars, handle_by, type_by, type_at, is_vars, initializer_with, decl_with, next_decl_with, more_decls_with, decls_with, vars_with, vars_statement_with, first_with, test_with, return_value_with, stmt_token, begins_stmt, stmt_limit_at, is_end, ends_case, goes_on, case_goes_on, evaluate_with, is_else, else_with, if_with, while_with, is_while, while_at, do_with, for_with, number_at, case_value_at, label_by, label_at, stmts_with, case_with, cases_with, switch_with, local_with, locals_with, block_with, stmt_by, stmt_with, nested_at}
 use Rattle.ash_parse.proofs.StatementLoops.{next_decl_shrinks, nested_shrinks, local_shrinks, case_shrinks}
 use Rattle.ash_parse.proofs.Rereading.{no_some, no_true}
 use Rattle.ash_parse.proofs.Keeps.{differs_off, Past, Fewer, past_fewer, bind_past, bind_fewer, First, first, name_takes, Agree, past, chosen, opens, Lawful, ok_lawful, bind_lawful, put_lawful, Steady, next_steady, sign_steady, Crosses, choice_lawful, if_lawful, IsNoArray, Led, led_after, led_array, led_from, led_stop, led_deep, led_if, led_lawful, expect_lawful, name_lawful, Takes, bind_takes, loop_lawful}
@@ -25,11 +25,11 @@ use Rattle.ash_parse.proofs.KeepsExpressions.{word_is_no_array, passed_begins, T
 
 pub goes_on_steady : Steady goes_on
 unfolding goes_on
-goes_on_steady = next_steady (λ m. not (is_end (leading m)))
+goes_on_steady = next_steady (λ m. not (is_end (stmt_token m)))
 
 case_goes_on_steady : Steady case_goes_on
 unfolding case_goes_on
-case_goes_on_steady = next_steady (λ m. not (ends_case (leading m)))
+case_goes_on_steady = next_steady (λ m. not (ends_case (stmt_token m)))
 
 handle_by_lawful : (plain handle : Named) → Lawful (handle_by plain handle)
 handle_by_lawful plain handle = if_lawful _ (sign_steady signs.Handle) (bind_lawful _ (expect_lawful signs.Handle) λ o. ok_lawful handle) (ok_lawful plain)
@@ -64,7 +64,7 @@ name_is (sign n) Q h go = absurd (no_true h)
 name_is (reserved n) Q h go = absurd (no_true h)
 name_is (unsupported n) Q h go = absurd (no_true h)
 
--- the reader takes what leaves open whether a declaration of variables begins, and, where one does, what reports it
+-- the reader takes what leaves open whether a declaration of variables begins, and, where one does, what decides it
 pub record TakesVars {A : Type 0} (read : Tokens → ParseResult A) : Type 0 where
   pub takes : Takes Passed read
   pub chooses : (s : Tokens) → is_vars s ≡ true → Fewer (length (after_open s)) (read s)
@@ -171,11 +171,11 @@ module _ (room : ℕ) (h : room ≤ 64) where
   after_vars : (v : Vars) → Lawful (λ s. expect_at signs.Semicolon s >>= λ o. Ok (v, o.1))
   after_vars v = bind_lawful _ (expect_lawful signs.Semicolon) λ o. ok_lawful v
 
-  pub declared_lawful : Lawful (declared_with (below_at room))
-  unfolding declared_with
+  pub declared_lawful : Lawful (vars_statement_with (below_at room))
+  unfolding vars_statement_with
   declared_lawful = bind_lawful _ vars_lawful after_vars
 
-  declare_lawful : Lawful (λ s. declared_with (below_at room) s >>= λ v. Ok (Declare (place_of_type (v.0).of) v.0, v.1))
+  declare_lawful : Lawful (λ s. vars_statement_with (below_at room) s >>= λ v. Ok (Declare (place_of_type (v.0).of) v.0, v.1))
   declare_lawful = bind_lawful _ declared_lawful λ v. ok_lawful (Declare (place_of_type v.of) v)
 
   decls_takes : (text : List ℕ) (p : Place) → Takes (First (name text, p)) (decls_with (below_at room))
@@ -186,11 +186,11 @@ module _ (room : ℕ) (h : room ≤ 64) where
   unfolding vars_with
   vars_takes = after_type_takes (λ t. decls_with (below_at room) t.1 >>= λ ds. Ok (record { of = t.0; decls = ds.0 }, ds.1)) after_type (λ t text p. bind_takes _ (decls_takes text p) (λ ds. ok_lawful (record { of = t; decls = ds })))
 
-  declared_takes : TakesVars (declared_with (below_at room))
-  unfolding declared_with
+  declared_takes : TakesVars (vars_statement_with (below_at room))
+  unfolding vars_statement_with
   declared_takes = vars_then (λ v. expect_at signs.Semicolon v.1 >>= λ s. Ok (v.0, s.1)) vars_takes after_vars
 
-  declare_takes : TakesVars (λ s. declared_with (below_at room) s >>= λ v. Ok (Declare (place_of_type (v.0).of) v.0, v.1))
+  declare_takes : TakesVars (λ s. vars_statement_with (below_at room) s >>= λ v. Ok (Declare (place_of_type (v.0).of) v.0, v.1))
   declare_takes = vars_then (λ v. Ok (Declare (place_of_type (v.0).of) v.0, v.1)) declared_takes (λ v. ok_lawful (Declare (place_of_type v.of) v))
 
   after_tested : (e : Expr) → Lawful (λ s. expect_at signs.Semicolon s >>= λ o. Ok (Some e, o.1))
@@ -212,8 +212,8 @@ module _ (room : ℕ) (h : room ≤ 64) where
   unfolding test_with
   test_lawful = if_lawful _ (sign_steady signs.Semicolon) (bind_lawful _ (expect_lawful signs.Semicolon) λ s. ok_lawful None) (bind_lawful _ (below_lawful room h true) after_tested)
 
-  result_lawful : Lawful (result_with (below_at room))
-  unfolding result_with
+  result_lawful : Lawful (return_value_with (below_at room))
+  unfolding return_value_with
   result_lawful = if_lawful _ (sign_steady signs.Semicolon) (bind_lawful _ (expect_lawful signs.Semicolon) λ s. ok_lawful None) (bind_lawful _ (assign_lawful room h (below_lawful room h)) after_tested)
 
   evaluate_lawful : Lawful (evaluate_with (below_at room))
@@ -224,8 +224,8 @@ module _ (room : ℕ) (h : room ≤ 64) where
   unfolding evaluate_with
   evaluate_takes = bind_takes _ (assign_takes room h (below_lawful room h)) after_evaluated
 
-word_leads : (m : Meaning) (k : Primitive) → primitive m ≡ Some k → leading m ≡ leads.Other
-unfolding primitive leading
+word_leads : (m : Meaning) (k : Primitive) → primitive m ≡ Some k → stmt_token m ≡ stmt_tokens.Other
+unfolding primitive stmt_token
 word_leads (reserved words.Bool) k e = refl
 word_leads (reserved words.Int) k e = refl
 word_leads (reserved words.Int32) k e = refl
@@ -236,31 +236,31 @@ word_leads (reserved words.Uint64) k e = refl
 word_leads m k e = absurd (no_some k e)
 
 -- what leads a statement of its own is no array
-abbrev is_other : Leading → Bool
-is_other leads.Other = true
+abbrev is_other : StmtToken → Bool
+is_other stmt_tokens.Other = true
 is_other _ = false
 
 no_false : true ≡ false → ⊥
 no_false h = cc
 
-leads_no_array : (k : Leading) (m : Meaning) → leading m ≡ k → is_other k ≡ false → IsNoArray m
-unfolding leading
+leads_no_array : (k : StmtToken) (m : Meaning) → stmt_token m ≡ k → is_other k ≡ false → IsNoArray m
+unfolding stmt_token
 leads_no_array k (reserved words.Array) e o = no_false (subst (λ l. is_other l ≡ false) (sym e) o)
 leads_no_array k m e o = tt
 
-while_no_array : (m : Meaning) → is_while (leading m) ≡ true → IsNoArray m
-unfolding leading
+while_no_array : (m : Meaning) → is_while (stmt_token m) ≡ true → IsNoArray m
+unfolding stmt_token
 while_no_array (reserved words.Array) e = no_true e
 while_no_array m e = tt
 
-else_no_array : (m : Meaning) → is_else (leading m) ≡ true → IsNoArray m
-unfolding leading
+else_no_array : (m : Meaning) → is_else (stmt_token m) ≡ true → IsNoArray m
+unfolding stmt_token
 else_no_array (reserved words.Array) e = no_true e
 else_no_array m e = tt
 
 -- what leaves it open begins a statement
 passed_begins_stmt : (n : ℕ) (s : Tokens) → Passed n s → next_is begins_stmt s ≡ true
-unfolding begins_stmt leading begins
+unfolding begins_stmt stmt_token begins
 passed_begins_stmt n _ (name_passed text p s l) = refl
 passed_begins_stmt n _ (word_passed m p k s e l) = rw (word_leads m k e) (passed_begins n ((m, p) ∷ s) (word_passed m p k s e l))
 passed_begins_stmt n _ (array_passed p s l) = refl
@@ -274,7 +274,7 @@ unfolding stmt_limit_at
 limit_lawful = led_lawful (λ n. omega arith) (λ m p. led_if (begins_stmt m) (λ b. led_deep) led_stop)
 
 pub nested_takes : (room : ℕ) → room ≤ 64 → TakesOrCut (nested_at room)
-unfolding nested_at stmt_with leading
+unfolding nested_at stmt_with stmt_token
 nested_takes zero h = limit_takes
 nested_takes (suc room) h = record { taken = λ n s p. inl (by_passed n s p) }
   where
@@ -285,7 +285,7 @@ nested_takes (suc room) h = record { taken = λ n s p. inl (by_passed n s p) }
 
 while_at_lawful : Lawful while_at
 unfolding while_at
-while_at_lawful = led_lawful (λ n. omega arith) (λ m p. led_if (is_while (leading m)) (λ e. led_after (while_no_array m e) (ok_lawful p)) led_stop)
+while_at_lawful = led_lawful (λ n. omega arith) (λ m p. led_if (is_while (stmt_token m)) (λ e. led_after (while_no_array m e) (ok_lawful p)) led_stop)
 
 number_led : (m : Meaning) (p : Place) → Led (m, p) (λ s. number_at ((m, p) ∷ s))
 unfolding number_at
@@ -302,14 +302,14 @@ case_value_lawful =
     if_lawful _ (sign_steady signs.Minus) (bind_lawful _ (expect_lawful signs.Minus) λ o. bind_lawful _ number_lawful λ n. bind_lawful _ (expect_lawful signs.Colon) λ c. ok_lawful (labels.CaseMinus n.0, o))
     (bind_lawful _ number_lawful λ n. bind_lawful _ (expect_lawful signs.Colon) λ c. ok_lawful (labels.Case n.0, n.1))
 
-label_led : (k : Leading) (m : Meaning) (p : Place) → leading m ≡ k → Led (m, p) (λ s. label_by k m p s)
-label_led leads.Case m p g = led_after (leads_no_array leads.Case m g refl) case_value_lawful
-label_led leads.Default m p g = led_after (leads_no_array leads.Default m g refl) (bind_lawful _ (expect_lawful signs.Colon) λ c. ok_lawful (labels.Default, p))
+label_led : (k : StmtToken) (m : Meaning) (p : Place) → stmt_token m ≡ k → Led (m, p) (λ s. label_by k m p s)
+label_led stmt_tokens.Case m p g = led_after (leads_no_array stmt_tokens.Case m g refl) case_value_lawful
+label_led stmt_tokens.Default m p g = led_after (leads_no_array stmt_tokens.Default m g refl) (bind_lawful _ (expect_lawful signs.Colon) λ c. ok_lawful (labels.Default, p))
 label_led k m p g = led_stop
 
 label_lawful : Lawful label_at
 unfolding label_at
-label_lawful = led_lawful (λ n. omega arith) (λ m p. label_led (leading m) m p refl)
+label_lawful = led_lawful (λ n. omega arith) (λ m p. label_led (stmt_token m) m p refl)
 
 module _ (room : ℕ) (h : room ≤ 64) (nested : Lawful (nested_at room)) where
   bracket_lawful : Lawful (bracketed_with (below_at room))
@@ -317,7 +317,7 @@ module _ (room : ℕ) (h : room ≤ 64) (nested : Lawful (nested_at room)) where
 
   else_lawful : (p : Place) (c : Expr) (s : Stmt) → Lawful (else_with (nested_at room) p c s)
   unfolding else_with
-  else_lawful p c s = led_lawful (λ n. omega arith) (λ m o. led_if (is_else (leading m)) (λ e. led_after (else_no_array m e) (bind_lawful _ nested λ t. ok_lawful (IfElse p c s t))) (led_from (ok_lawful (If p c s))))
+  else_lawful p c s = led_lawful (λ n. omega arith) (λ m o. led_if (is_else (stmt_token m)) (λ e. led_after (else_no_array m e) (bind_lawful _ nested λ t. ok_lawful (IfElse p c s t))) (led_from (ok_lawful (If p c s))))
 
   if_stmt_lawful : (p : Place) → Lawful (if_with (below_at room) (nested_at room) p)
   unfolding if_with
@@ -365,23 +365,23 @@ module _ (room : ℕ) (h : room ≤ 64) (nested : Lawful (nested_at room)) where
   unfolding block_with
   block_lawful = bind_lawful _ (expect_lawful signs.OpenBrace) λ o. bind_lawful _ locals_lawful λ ss. bind_lawful _ (expect_lawful signs.CloseBrace) λ z. ok_lawful ss
 
-  stmt_led : (k : Leading) (m : Meaning) (p : Place) → leading m ≡ k → Led (m, p) (λ s. stmt_by k (below_at room) (nested_at room) m p s)
-  stmt_led leads.Block m p g = led_from {read = λ s. block_with (below_at room) (nested_at room) s >>= λ b. Ok (Block p (stmts b.0), b.1)} (bind_lawful _ block_lawful λ b. ok_lawful (Block p (stmts b)))
-  stmt_led leads.Empty m p g = led_after (leads_no_array leads.Empty m g refl) (ok_lawful (Empty p))
-  stmt_led leads.If m p g = led_after (leads_no_array leads.If m g refl) (if_stmt_lawful p)
-  stmt_led leads.While m p g = led_after (leads_no_array leads.While m g refl) (while_lawful p)
-  stmt_led leads.Do m p g = led_after (leads_no_array leads.Do m g refl) (do_lawful p)
-  stmt_led leads.For m p g = led_after (leads_no_array leads.For m g refl) (for_lawful p)
-  stmt_led leads.Switch m p g = led_after (leads_no_array leads.Switch m g refl) (switch_lawful p)
-  stmt_led leads.Break m p g = led_after (leads_no_array leads.Break m g refl) (bind_lawful _ (expect_lawful signs.Semicolon) λ s. ok_lawful (Break p))
-  stmt_led leads.Continue m p g = led_after (leads_no_array leads.Continue m g refl) (bind_lawful _ (expect_lawful signs.Semicolon) λ s. ok_lawful (Continue p))
-  stmt_led leads.Return m p g = led_after (leads_no_array leads.Return m g refl) (bind_lawful _ (result_lawful room h) λ e. ok_lawful (Return p e))
-  stmt_led leads.Other m p g = led_from (evaluate_lawful room h)
+  stmt_led : (k : StmtToken) (m : Meaning) (p : Place) → stmt_token m ≡ k → Led (m, p) (λ s. stmt_by k (below_at room) (nested_at room) m p s)
+  stmt_led stmt_tokens.Block m p g = led_from {read = λ s. block_with (below_at room) (nested_at room) s >>= λ b. Ok (Block p (stmts b.0), b.1)} (bind_lawful _ block_lawful λ b. ok_lawful (Block p (stmts b)))
+  stmt_led stmt_tokens.Empty m p g = led_after (leads_no_array stmt_tokens.Empty m g refl) (ok_lawful (Empty p))
+  stmt_led stmt_tokens.If m p g = led_after (leads_no_array stmt_tokens.If m g refl) (if_stmt_lawful p)
+  stmt_led stmt_tokens.While m p g = led_after (leads_no_array stmt_tokens.While m g refl) (while_lawful p)
+  stmt_led stmt_tokens.Do m p g = led_after (leads_no_array stmt_tokens.Do m g refl) (do_lawful p)
+  stmt_led stmt_tokens.For m p g = led_after (leads_no_array stmt_tokens.For m g refl) (for_lawful p)
+  stmt_led stmt_tokens.Switch m p g = led_after (leads_no_array stmt_tokens.Switch m g refl) (switch_lawful p)
+  stmt_led stmt_tokens.Break m p g = led_after (leads_no_array stmt_tokens.Break m g refl) (bind_lawful _ (expect_lawful signs.Semicolon) λ s. ok_lawful (Break p))
+  stmt_led stmt_tokens.Continue m p g = led_after (leads_no_array stmt_tokens.Continue m g refl) (bind_lawful _ (expect_lawful signs.Semicolon) λ s. ok_lawful (Continue p))
+  stmt_led stmt_tokens.Return m p g = led_after (leads_no_array stmt_tokens.Return m g refl) (bind_lawful _ (result_lawful room h) λ e. ok_lawful (Return p e))
+  stmt_led stmt_tokens.Other m p g = led_from (evaluate_lawful room h)
   stmt_led k m p g = led_stop
 
   stmt_lawful : Lawful (stmt_with (below_at room) (nested_at room))
   unfolding stmt_with
-  stmt_lawful = led_lawful (λ n. omega arith) (λ m p. stmt_led (leading m) m p refl)
+  stmt_lawful = led_lawful (λ n. omega arith) (λ m p. stmt_led (stmt_token m) m p refl)
 
 pub nested_lawful : (room : ℕ) → room ≤ 64 → Lawful (nested_at room)
 unfolding nested_at

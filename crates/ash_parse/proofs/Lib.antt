@@ -14,6 +14,7 @@ pub mod ItemSound
 pub mod ItemShorter
 pub mod Reported
 pub mod Rereading
+pub mod ExpressionBounds
 pub mod ExpressionComplete
 pub mod VarsComplete
 pub mod StatementComplete
@@ -24,10 +25,12 @@ pub mod BeginLaws
 pub mod BeginTypes
 pub mod BeginExpressions
 pub mod BeginStatements
+pub mod BeginNested
 pub mod BeginItems
 pub mod BeginDeclarations
 pub mod NeverDeep
 pub mod Keeps
+pub mod SameFaults
 pub mod Choices
 pub mod Openings
 pub mod KeepsExpressions

@@ -1,9 +1,9 @@
--- ParseResult again and again, as a loop does.
+-- Reading again and again, as a loop does.
 use Rattle.std.proofs.Common.{◌≡◌, ℕ, zero, suc, ◌≤◌, ◌<◌, List, [], ◌∷◌, ◌++◌, length, Bool, true, false, cond, Ok, Err, refl, sym, ap, ◌∙◌, append_assoc, arith, map}
 use Rattle.std.proofs.lemmas.List.{append-nil, map-append}
 use Rattle.ash_tree.specs.Tokens.{Tokens, tokens_of}
 use Rattle.ash_parse.specs.declared.error.ParseError.{ParseError}
-use Rattle.ash_parse.specs.declared.error.ParseError.TheVariants as stops
+use Rattle.ash_parse.specs.declared.error.ParseError.TheVariants as errors
 use Rattle.ash_parse.specs.Readers.{Halt, ParseResult, ◌>>=◌, Fails, put, repeat, loop, Unexpected, TooDeep}
 
 -- what is read takes a token at least
@@ -73,9 +73,9 @@ module _ {A : Type 0} (more : Tokens → Bool) (read : Tokens → ParseResult A)
       ap (λ prefix. with_prefix prefix (loop more read rest)) (map-append view xs (x ∷ [])) ∙ sym (regroup (map view xs) (view x) (loop more read rest)) ∙ sym (ap (with_prefix (map view xs)) one) ∙ so_far
 
   pub ends : (e : ParseError) (prefix : List A) (s : Tokens) (total : ParseResult (List A)) → more s ≡ true → Fails e (read s) → with_prefix prefix (loop more read s) ≡ total → Fails e total
-  ends stops.NoMemory prefix s total b e so_far = tt
-  ends (stops.Unexpected rest) prefix s total b e so_far = sym so_far ∙ ap (with_prefix prefix) (loop_fails s (Unexpected (tokens_of rest.now)) b e)
-  ends (stops.TooDeep rest) prefix s total b e so_far = sym so_far ∙ ap (with_prefix prefix) (loop_fails s (TooDeep (tokens_of rest.now)) b e)
+  ends errors.NoMemory prefix s total b e so_far = tt
+  ends (errors.Unexpected rest) prefix s total b e so_far = sym so_far ∙ ap (with_prefix prefix) (loop_fails s (Unexpected (tokens_of rest.now)) b e)
+  ends (errors.TooDeep rest) prefix s total b e so_far = sym so_far ∙ ap (with_prefix prefix) (loop_fails s (TooDeep (tokens_of rest.now)) b e)
 
   pub is_done : (prefix : List A) (s : Tokens) (total : ParseResult (List A)) → more s ≡ false → with_prefix prefix (loop more read s) ≡ total → total ≡ Ok (prefix, s)
   is_done prefix s total b so_far = sym so_far ∙ ap (with_prefix prefix) (loop_done s b) ∙ ap (λ (xs : List A). Ok (xs, s)) (append-nil prefix)

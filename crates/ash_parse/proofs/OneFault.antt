@@ -77,7 +77,7 @@ leaves_less : (t : Meaning × Place) (a b : Tokens) → LeavesOpen t (a ++ b) �
 leaves_less t a b (inl e) = inl (no_first a b e)
 leaves_less t a b (inr d) = inr (d.0, b ++ d.1, d.2, subst (λ (l : Tokens). IsElement l d.2 []) (append_assoc a b d.1) d.3)
 
--- `t` is the word `array`, and `u` stands in its `"<" elem ">"`, after `mid`
+-- `t` is the word `array`, and `u` is in its `"<" elem ">"`, after `mid`
 abbrev StandsInside : Meaning × Place → Tokens → Meaning × Place → Type 0
 StandsInside t mid u = (t.0 ≡ reserved words.Array) × (tail : Tokens) × (of : Element) × IsElement (mid ++ u ∷ tail) of []
 
@@ -147,7 +147,7 @@ begun_on f g r mid more t e k none b =
     let d : Derives (length b.0) ((f ++ t ∷ mid) ++ b.0) b.1 = subst (λ (l : Tokens). Derives (length b.0) (l ++ b.0) b.1) e b.2 in
     subst (NoneGoesOn f) k none (length b.0) (mid ++ b.0) b.1 (subst (λ (l : Tokens). Derives (length b.0) l b.1) (append_assoc f (t ∷ mid) b.0) d)
 
--- where a fault stands
+-- where a fault is
 abbrev stands : (ts : Tokens) (h : Halt) → FirstFault ts h → (prefix : Tokens) × (ts ≡ prefix ++ left_at h) × Begun prefix
 stands ts (Unexpected rest) h = (h.0, h.1, h.2)
 stands ts (TooDeep []) h = absurd h
@@ -160,14 +160,14 @@ none_inside f g mid t u e s deep =
     let is : g ++ u ∷ tail ≡ f ++ t ∷ (mid ++ u ∷ tail) = ap (λ (l : Tokens). l ++ u ∷ tail) e ∙ append_assoc f (t ∷ mid) (u ∷ tail) in
     none_deep_inside f mid tail s.1 t u s.2 s.0 s.3 (ap module_at (sym is) ∙ cut_there g tail u deep.1 deep.2 deep.3 (module_cut (suc (length tail)) (g ++ u ∷ tail) deep.1 deep.2))
 
--- no fault stands where it is open what a token begins that is too deep
+-- no fault is where it is open what a token begins that is too deep
 module _ (f mid : Tokens) (t : Meaning × Place) (deep : GoesTooDeep f t) where
   open_deep : (ts : Tokens) (k : Halt) → (fault : FirstFault ts k) → (stands ts k fault).0 ≡ f ++ t ∷ mid → LeavesOpen t mid → ((u : Meaning × Place) (rest : Tokens) → left_at k ≡ u ∷ rest → GoesTooDeep (stands ts k fault).0 u → ⊥) → ⊥
   open_deep ts (Unexpected rest) fault e leaves cut = fault.4 f t mid e leaves deep
   open_deep ts (TooDeep []) fault e leaves cut = fault
   open_deep ts (TooDeep (u ∷ rest)) fault e leaves cut = cut u rest refl fault.3
 
-  -- where the token after reports, it is not too deep
+  -- where the token after it decides, it is not too deep
   none_next : (g : Tokens) (u : Meaning × Place) (rest : Tokens) → g ≡ f ++ t ∷ mid → NoneKeeps f t mid (u ∷ rest) → GoesTooDeep g u → ⊥
   none_next g u rest e none more =
       let is : g ++ u ∷ more.0 ≡ f ++ t ∷ (mid ++ u ∷ more.0) = ap (λ (l : Tokens). l ++ u ∷ more.0) e ∙ append_assoc f (t ∷ mid) (u ∷ more.0) in

@@ -18,26 +18,27 @@ use Rattle.ash_parse.proofs.Elements.{element_passed}
 use Rattle.ash_parse.proofs.BeginLaws.{Explained}
 use Rattle.ash_parse.proofs.BeginTypes.{begin_element}
 use Rattle.ash_parse.proofs.NeverDeep.{IsUncut, element_uncut}
-use Rattle.ash_parse.proofs.Keeps.{IsNoArray, sign_steady, stops_alike}
+use Rattle.ash_parse.proofs.Keeps.{IsNoArray, sign_steady}
+use Rattle.ash_parse.proofs.SameFaults.{stops_alike}
 use Rattle.ash_parse.proofs.Choices.{name_steady, element_lawful, left_of, passed_is_read}
 
--- of the tokens after `t`, `seen` leave open what it begins, and the first of those after them reports
+-- of the tokens after `t`, `seen` leave open what it begins, and the first of those after them decides
 pub record Opening (t : Meaning × Place) (rest : Tokens) : Type 0 where
   pub seen : Tokens
   pub after : Tokens
   pub all : rest ≡ seen ++ after
   pub leaves : LeavesOpen t seen
-  pub reports : (u : Meaning × Place) (more other : Tokens) → after ≡ u ∷ more → is_vars (t ∷ (seen ++ u ∷ more)) ≡ is_vars (t ∷ (seen ++ u ∷ other))
+  pub decides : (u : Meaning × Place) (more other : Tokens) → after ≡ u ∷ more → is_vars (t ∷ (seen ++ u ∷ more)) ≡ is_vars (t ∷ (seen ++ u ∷ other))
 
-plain_reports : (k : Option Primitive) (m : Meaning) (p : Place) (u : Meaning × Place) (more other : Tokens) → primitive m ≡ k → IsNoArray m → is_vars ((m, p) ∷ u ∷ more) ≡ is_vars ((m, p) ∷ u ∷ other)
+plain_decides : (k : Option Primitive) (m : Meaning) (p : Place) (u : Meaning × Place) (more other : Tokens) → primitive m ≡ k → IsNoArray m → is_vars ((m, p) ∷ u ∷ more) ≡ is_vars ((m, p) ∷ u ∷ other)
 unfolding is_vars is_name is_array
-plain_reports (Some k) m p u more other e a = rw (e, name_steady u more other []) refl
-plain_reports None (name text) p u more other e a = rw (e, name_steady u more other [], sign_steady signs.Handle u more other []) refl
-plain_reports None (reserved words.Array) p u more other e a = absurd a
-plain_reports None m p u more other e a = rw e refl
+plain_decides (Some k) m p u more other e a = rw (e, name_steady u more other []) refl
+plain_decides None (name text) p u more other e a = rw (e, name_steady u more other [], sign_steady signs.Handle u more other []) refl
+plain_decides None (reserved words.Array) p u more other e a = absurd a
+plain_decides None m p u more other e a = rw e refl
 
 plain : (m : Meaning) (p : Place) (rest : Tokens) → IsNoArray m → Opening (m, p) rest
-plain m p rest a = record { seen = []; after = rest; all = refl; leaves = inl refl; reports = λ u more other e. plain_reports (primitive m) m p u more other refl a }
+plain m p rest a = record { seen = []; after = rest; all = refl; leaves = inl refl; decides = λ u more other e. plain_decides (primitive m) m p u more other refl a }
 
 same_passed : (p : Place) (u : Meaning × Place) (more other some else : Tokens) → after_element some ≡ Some (u ∷ more) → after_element else ≡ Some (u ∷ other) → is_vars ((reserved words.Array, p) ∷ some) ≡ is_vars ((reserved words.Array, p) ∷ else)
 unfolding is_vars is_name is_array primitive
@@ -47,8 +48,8 @@ same_stopped : (p : Place) (some else : Tokens) → after_element some ≡ None 
 unfolding is_vars is_name is_array primitive
 same_stopped p some else h k = rw (h, k) refl
 
-stopped_reports : (p : Place) (seen : Tokens) (u : Meaning × Place) (more other : Tokens) → element_at (seen ++ u ∷ more) ≡ Err (Unexpected (u ∷ more)) → is_vars ((reserved words.Array, p) ∷ (seen ++ u ∷ more)) ≡ is_vars ((reserved words.Array, p) ∷ (seen ++ u ∷ other))
-stopped_reports p seen u more other h =
+stopped_decides : (p : Place) (seen : Tokens) (u : Meaning × Place) (more other : Tokens) → element_at (seen ++ u ∷ more) ≡ Err (Unexpected (u ∷ more)) → is_vars ((reserved words.Array, p) ∷ (seen ++ u ∷ more)) ≡ is_vars ((reserved words.Array, p) ∷ (seen ++ u ∷ other))
+stopped_decides p seen u more other h =
     let k : element_at (seen ++ u ∷ other) ≡ Err (Unexpected (u ∷ other)) = stops_alike u more other (element_lawful.keeps u more other seen) h in
     same_stopped p (seen ++ u ∷ more) (seen ++ u ∷ other) (passed_is_read (seen ++ u ∷ more) ∙ ap left_of h) (passed_is_read (seen ++ u ∷ other) ∙ ap left_of k)
 
@@ -58,15 +59,15 @@ array_opening p rest (Ok y) h e = record {
   after = y.1;
   all = e.all;
   leaves = inr (refl, [], y.0, e.is 0 []);
-  reports = λ u more other g. same_passed p u more other (e.taken ++ u ∷ more) (e.taken ++ u ∷ other) (element_passed (e.is 0 (u ∷ more))) (element_passed (e.is 0 (u ∷ other)));
+  decides = λ u more other g. same_passed p u more other (e.taken ++ u ∷ more) (e.taken ++ u ∷ other) (element_passed (e.is 0 (u ∷ more))) (element_passed (e.is 0 (u ∷ other)));
 }
 array_opening p rest (Err (Unexpected r)) h s = record {
   seen = s.prefix;
   after = r;
   all = s.all;
   leaves = inr (refl, s.tail, s.tree, subst (λ (l : Tokens). IsElement (s.prefix ++ l) s.tree []) (append-nil s.tail) (s.is []));
-  reports = λ u more other g.
-      stopped_reports p s.prefix u more other (ap element_at (sym (s.all ∙ ap (λ (l : Tokens). s.prefix ++ l) g)) ∙ h ∙ ap (λ (l : Tokens). Err (Unexpected l)) g);
+  decides = λ u more other g.
+      stopped_decides p s.prefix u more other (ap element_at (sym (s.all ∙ ap (λ (l : Tokens). s.prefix ++ l) g)) ∙ h ∙ ap (λ (l : Tokens). Err (Unexpected l)) g);
 }
 array_opening p rest (Err (TooDeep r)) h e = absurd (subst (λ o. IsUncut o) h (element_uncut rest))
 

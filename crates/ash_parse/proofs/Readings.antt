@@ -58,7 +58,7 @@ pub is_sign-refl : (s : Sign) → is_sign s (sign s) ≡ true
 unfolding is_sign
 is_sign-refl s = same_sign_refl s
 
--- a sign that is read stands in prefix
+-- a sign that is read is the first token
 pub expect_sound : (s : Sign) (ts : Tokens) (p : Place) (rest : Tokens) (Q : Tokens → Type 0) → expect_at s ts ≡ Ok (p, rest) → Q ((sign s, p) ∷ rest) → Q ts
 unfolding expect_at
 expect_sound s [] p rest Q h q = absurd (no_err (Unexpected []) (p, rest) h)
@@ -75,7 +75,7 @@ pub next_is_sign-again : (s : Sign) (p : Place) (ts : Tokens) → next_is_sign s
 unfolding next_is_sign
 next_is_sign-again s p ts = is_sign-refl s
 
--- a name that is read stands in prefix
+-- a name that is read is the first token
 pub name_sound : (ts : Tokens) (x : List ℕ × Place) (rest : Tokens) (Q : Tokens → Type 0) → name_at ts ≡ Ok (x, rest) → Q ((name x.0, x.1) ∷ rest) → Q ts
 unfolding name_at
 name_sound [] x rest Q h q = absurd (no_err (Unexpected []) (x, rest) h)

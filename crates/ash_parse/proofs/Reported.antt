@@ -1,11 +1,11 @@
--- A fault that is reported is where reading stops.
+-- The fault that is returned is where reading stops.
 use Rattle.std.proofs.Common.{◌≡◌, List, [], ◌∷◌, Option, Some, Err, sym, ap, subst}
 use Rattle.std.specs.List.{slice_get}
 use Rattle.ash_lex.specs.Tokens.{meaning_of}
 use Rattle.ash_lex.specs.declared.tokens.Token.{Token}
 use Rattle.ash_tree.specs.Tokens.{tokens_of}
 use Rattle.ash_parse.specs.declared.error.ParseError.{ParseError}
-use Rattle.ash_parse.specs.declared.error.ParseError.TheVariants as stops
+use Rattle.ash_parse.specs.declared.error.ParseError.TheVariants as errors
 use Rattle.ash_parse.specs.declared.faults.ParseFault.{ParseFault}
 use Rattle.ash_parse.specs.declared.faults.ParseFault.TheVariants as faults
 use Rattle.ash_parse.specs.Readers.{Halt, Unexpected, TooDeep, ParseResult, Fails}
@@ -19,11 +19,11 @@ reports_fault A all (faults.TooDeep at) e h = h
 reports_fault A all faults.NoMemory e h = tt
 
 pub reported_is_fault : {A : Type 0} (all : List Token) (f : ParseFault) (s : ParseError) (read : ParseResult A) → Fails s read → IsReported all f s → IsFault all f read
-reported_is_fault {A} all f (stops.Unexpected rest) read r t = subst (λ (x : ParseResult A). IsFault all f x) (sym r) (reports_fault A all f (Unexpected (tokens_of rest.now)) t)
-reported_is_fault {A} all f (stops.TooDeep rest) read r t = subst (λ (x : ParseResult A). IsFault all f x) (sym r) (reports_fault A all f (TooDeep (tokens_of rest.now)) t)
-reported_is_fault {A} all f stops.NoMemory read r t = subst (λ x. IsFault all x read) (sym t) tt
+reported_is_fault {A} all f (errors.Unexpected rest) read r t = subst (λ (x : ParseResult A). IsFault all f x) (sym r) (reports_fault A all f (Unexpected (tokens_of rest.now)) t)
+reported_is_fault {A} all f (errors.TooDeep rest) read r t = subst (λ (x : ParseResult A). IsFault all f x) (sym r) (reports_fault A all f (TooDeep (tokens_of rest.now)) t)
+reported_is_fault {A} all f errors.NoMemory read r t = subst (λ x. IsFault all x read) (sym t) tt
 
--- what is reported of the first of the tokens that are left
+-- the fault at the first of the tokens that are left
 pub reported_first : (all rest : List Token) (t : Token) (part : Option UnsupportedPart) → slice_get rest 0 ≡ Some t → part ≡ part_of (meaning_of t.kind) → fault_at t.from part ≡ fault_before (end_of all) (tokens_of rest)
 reported_first all [] t part h e = absurd (cc)
 reported_first all (next ∷ more) t part h e =

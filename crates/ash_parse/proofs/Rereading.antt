@@ -1,4 +1,4 @@
--- How readings go together to one that reads a whole phrase, or is cut where a token stands too deep.
+-- How readings go together to one that reads a whole phrase, or is cut where a token is too deep.
 use Rattle.std.proofs.Common.{◌≡◌, ℕ, zero, suc, ◌<◌, ◌≤◌, List, [], ◌∷◌, length, Bool, true, false, Option, Some, None, Ok, Err, ◌⊎◌, inl, inr, refl, sym, subst, arith}
 use Rattle.ash_lex.specs.Tokens.{Meaning}
 use Rattle.ash_tree.specs.declared.tree.places.Place.{Place}

@@ -1,4 +1,4 @@
--- What is in the grammar of statements is read, or reading is cut where a token stands too deep.
+-- What is in the grammar of statements is read, or reading is cut where a token is too deep.
 use Rattle.std.proofs.Common.{◌≡◌, ℕ, zero, suc, ◌+◌, ◌<◌, ◌≤◌, List, [], ◌∷◌, length, Bool, true, false, not, Option, Some, None, Ok, refl, ap, arith}
 use Rattle.ash_lex.specs.Tokens.{Meaning, number, sign, reserved}
 use Rattle.ash_lex.specs.declared.signs.Sign.TheVariants as signs
@@ -10,22 +10,23 @@ use Rattle.ash_tree.specs.Tokens.{Tokens}
 use Rattle.ash_tree.specs.Operators.{primitive, unary_operator}
 use Rattle.ash_tree.specs.Expressions.{DEPTH}
 use Rattle.ash_tree.specs.Statements.{IsFirst, no_first, first_vars, first_expr, IsTest, no_test, test, IsResult, no_result, value, IsLabel, case, case_minus, default, IsNested, nested, AreLocals, no_locals, local_vars, local_stmt, IsBlock, block, IsStmt, inner_block, empty, evaluate, if_only, if_else, while, do_while, for, switch, break, continue, return, AreCases, no_cases, more_cases, AreStmts, no_stmts, more_stmts}
-use Rattle.ash_parse.specs.declared.statements.Leading.{Leading}
-use Rattle.ash_parse.specs.declared.statements.Leading.TheVariants as leads
+use Rattle.ash_parse.specs.declared.stmt_tokens.StmtToken.{StmtToken}
+use Rattle.ash_parse.specs.declared.stmt_tokens.StmtToken.TheVariants as stmt_tokens
 use Rattle.ash_parse.specs.Signs.{is_sign, same_sign}
 use Rattle.ash_parse.specs.Readers.{next_is, next_is_sign}
 use Rattle.ash_parse.specs.ExpressionReader.{Below, begins, exprs_with, assign_with, below_at}
 use Rattle.ash_parse.specs.TypeReader.{is_array}
-use Rattle.ash_parse.specs.StatementReader.{Nested, is_name, is_vars, declared_with, first_with, test_with, result_with, leading, begins_by, begins_stmt, stmt_limit_at, is_end, ends_case, goes_on, case_goes_on, evaluate_with, is_else, else_with, if_with, while_with, while_at, do_with, for_with, number_at, case_value_at, label_at, stmts_with, case_with, cases_with, switch_with, local_with, locals_with, block_with, stmt_with, nested_at}
+use Rattle.ash_parse.specs.StatementReader.{Nested, is_name, is_vars, vars_statement_with, first_with, test_with, return_value_with, stmt_token, begins_by, begins_stmt, stmt_limit_at, is_end, ends_case, goes_on, case_goes_on, evaluate_with, is_else, else_with, if_with, while_with, while_at, do_with, for_with, number_at, case_value_at, label_at, stmts_with, case_with, cases_with, switch_with, local_with, locals_with, block_with, stmt_with, nested_at}
 use Rattle.ash_parse.proofs.Readings.{expect_again, next_is_sign-again}
 use Rattle.ash_parse.proofs.StatementSound.{Closes}
 use Rattle.ash_parse.proofs.StatementShorter.{vars_shorter, nested_shorter, stmts_shorter}
 use Rattle.ash_parse.proofs.Rereading.{no_true, Reads, whole, cut, as_read, then_reads, ReadsAll, none_again, one_again}
-use Rattle.ash_parse.proofs.ExpressionComplete.{ends_expr, Ends, past, assign_begins, inner_begins, bracketed_again, inner_read, exprs_read, assign_read}
+use Rattle.ash_parse.proofs.ExpressionComplete.{past, bracketed_again, inner_read, exprs_read, assign_read}
+use Rattle.ash_parse.proofs.ExpressionBounds.{ends_expr, Ends, assign_begins, inner_begins}
 use Rattle.ash_parse.proofs.VarsComplete.{ends_follow, assign_no_vars, inner_no_vars, vars_vars, vars_begin, declared_read}
 
-begins_leads : (m : Meaning) → begins m ≡ true → (leading m ≡ leads.Other) × (is_sign signs.Semicolon m ≡ false)
-unfolding begins leading is_sign same_sign primitive unary_operator
+begins_leads : (m : Meaning) → begins m ≡ true → (stmt_token m ≡ stmt_tokens.Other) × (is_sign signs.Semicolon m ≡ false)
+unfolding begins stmt_token is_sign same_sign primitive unary_operator
 begins_leads (sign signs.OpenBrace) h = absurd (no_true h)
 begins_leads (sign signs.CloseBrace) h = absurd (no_true h)
 begins_leads (sign signs.Semicolon) h = absurd (no_true h)
@@ -53,34 +54,34 @@ unfolding begins_stmt
 begins_both [] h = h
 begins_both ((m, p) ∷ ts) h = rw ((begins_leads m h).0, h) refl
 
-leads_on : (l : Leading) (b : Bool) → begins_by l b ≡ true → (is_end l ≡ false) × (ends_case l ≡ false) × (is_else l ≡ false)
-leads_on leads.Block b h = (refl, refl, refl)
-leads_on leads.End b h = absurd (no_true h)
-leads_on leads.Empty b h = (refl, refl, refl)
-leads_on leads.If b h = (refl, refl, refl)
-leads_on leads.Else b h = absurd (no_true h)
-leads_on leads.While b h = (refl, refl, refl)
-leads_on leads.Do b h = (refl, refl, refl)
-leads_on leads.For b h = (refl, refl, refl)
-leads_on leads.Switch b h = (refl, refl, refl)
-leads_on leads.Case b h = absurd (no_true h)
-leads_on leads.Default b h = absurd (no_true h)
-leads_on leads.Break b h = (refl, refl, refl)
-leads_on leads.Continue b h = (refl, refl, refl)
-leads_on leads.Return b h = (refl, refl, refl)
-leads_on leads.Other b h = (refl, refl, refl)
+leads_on : (l : StmtToken) (b : Bool) → begins_by l b ≡ true → (is_end l ≡ false) × (ends_case l ≡ false) × (is_else l ≡ false)
+leads_on stmt_tokens.Block b h = (refl, refl, refl)
+leads_on stmt_tokens.End b h = absurd (no_true h)
+leads_on stmt_tokens.Empty b h = (refl, refl, refl)
+leads_on stmt_tokens.If b h = (refl, refl, refl)
+leads_on stmt_tokens.Else b h = absurd (no_true h)
+leads_on stmt_tokens.While b h = (refl, refl, refl)
+leads_on stmt_tokens.Do b h = (refl, refl, refl)
+leads_on stmt_tokens.For b h = (refl, refl, refl)
+leads_on stmt_tokens.Switch b h = (refl, refl, refl)
+leads_on stmt_tokens.Case b h = absurd (no_true h)
+leads_on stmt_tokens.Default b h = absurd (no_true h)
+leads_on stmt_tokens.Break b h = (refl, refl, refl)
+leads_on stmt_tokens.Continue b h = (refl, refl, refl)
+leads_on stmt_tokens.Return b h = (refl, refl, refl)
+leads_on stmt_tokens.Other b h = (refl, refl, refl)
 
--- no `else` stands here
+-- no `else` is next
 abbrev pub NoElse : Tokens → Type 0
-NoElse ts = next_is (λ m. is_else (leading m)) ts ≡ false
+NoElse ts = next_is (λ m. is_else (stmt_token m)) ts ≡ false
 
 pub goes_further : (ts : Tokens) → next_is begins_stmt ts ≡ true → (goes_on ts ≡ true) × (case_goes_on ts ≡ true) × NoElse ts
 unfolding goes_on case_goes_on begins_stmt
 goes_further [] h = absurd (no_true h)
-goes_further ((m, p) ∷ ts) h = let q = leads_on (leading m) (begins m) h in (ap not q.0, ap not q.1, q.2)
+goes_further ((m, p) ∷ ts) h = let q = leads_on (stmt_token m) (begins m) h in (ap not q.0, ap not q.1, q.2)
 
-starts_leads : (m : Meaning) → begins m ≡ true → (leading m ≡ leads.Other) × (is_sign signs.Semicolon m ≡ false)
-unfolding begins leading is_sign same_sign primitive unary_operator
+starts_leads : (m : Meaning) → begins m ≡ true → (stmt_token m ≡ stmt_tokens.Other) × (is_sign signs.Semicolon m ≡ false)
+unfolding begins stmt_token is_sign same_sign primitive unary_operator
 starts_leads (sign signs.OpenBrace) h = absurd (no_true h)
 starts_leads (sign signs.CloseBrace) h = absurd (no_true h)
 starts_leads (sign signs.Semicolon) h = absurd (no_true h)
@@ -109,7 +110,7 @@ starts_further [] h = absurd (no_true h)
 starts_further ((m, p) ∷ ts) h = rw (starts_leads m h).0 (refl, refl, refl)
 
 stmt_begins : {free depth : ℕ} {from left : Tokens} {s : Stmt} → IsStmt free depth from s left → next_is begins_stmt from ≡ true
-unfolding begins_stmt leading
+unfolding begins_stmt stmt_token
 stmt_begins (inner_block b) = refl
 stmt_begins empty = refl
 stmt_begins (evaluate {from = from} a) = begins_both from (assign_begins a)
@@ -148,7 +149,7 @@ never : (b : Bool) → b ≡ false → b ≡ true → ⊥
 never b h e = cc
 
 pub closes_where : (s : Stmt) (ts : Tokens) → NoElse ts → Closes s ts
-closes_where s ts h e = absurd (never (next_is (λ m. is_else (leading m)) ts) h e)
+closes_where s ts h e = absurd (never (next_is (λ m. is_else (stmt_token m)) ts) h e)
 
 locals_no_else : {free depth : ℕ} {from left : Tokens} {ss : List Stmt} → AreLocals free depth from ss left → NoElse left → NoElse from
 locals_no_else no_locals s = s
@@ -160,7 +161,7 @@ stmts_no_else no_stmts s = s
 stmts_no_else (more_stmts {from = from} a b) s = (goes_further from (nested_begins a)).2
 
 label_begins : {from left : Tokens} {p : Place} {l : Label} → IsLabel from p l left → (goes_on from ≡ true) × (case_goes_on from ≡ false) × NoElse from
-unfolding goes_on case_goes_on leading
+unfolding goes_on case_goes_on stmt_token
 label_begins case = (refl, refl, refl)
 label_begins case_minus = (refl, refl, refl)
 label_begins default = (refl, refl, refl)
@@ -174,7 +175,7 @@ cases_rest no_cases s = s
 cases_rest (more_cases l a b) s = let q = label_begins l in (q.1, q.2)
 
 label_read : {from left : Tokens} {p : Place} {l : Label} → IsLabel from p l left → label_at from ≡ Ok ((l, p), left)
-unfolding label_at leading case_value_at number_at next_is_sign is_sign same_sign
+unfolding label_at stmt_token case_value_at number_at next_is_sign is_sign same_sign
 label_read (case {r = r} {left = left}) = rw (expect_again signs.Colon r left) refl
 label_read (case_minus {o = o} {q = q} {r = r} {n = n} {left = left}) = rw (expect_again signs.Minus o ((number n, q) ∷ (sign signs.Colon, r) ∷ left), expect_again signs.Colon r left) refl
 label_read (default {r = r} {left = left}) = rw (expect_again signs.Colon r left) refl
@@ -197,7 +198,7 @@ module _ (below : Below) where
   unfolding first_with
   no_first_again p left = rw (next_is_sign-again signs.Semicolon p left, expect_again signs.Semicolon p left) refl
 
-  first_vars_again : {free : ℕ} (from left : Tokens) (v : Vars) → next_is begins from ≡ true → is_vars from ≡ true → Reads Vars free (declared_with below from) (v, left) → Reads Stmt free (first_with below from) (Declare (place_of_type v.of) v, left)
+  first_vars_again : {free : ℕ} (from left : Tokens) (v : Vars) → next_is begins from ≡ true → is_vars from ≡ true → Reads Vars free (vars_statement_with below from) (v, left) → Reads Stmt free (first_with below from) (Declare (place_of_type v.of) v, left)
   unfolding first_with
   first_vars_again from left v b i h = rw (starts_no_semicolon from b, i) (then_reads _ h whole)
 
@@ -213,12 +214,12 @@ module _ (below : Below) where
   unfolding test_with
   test_again p from left e b h = rw (begins_no_semicolon from b) (then_reads _ h (rw (expect_again signs.Semicolon p left) whole))
 
-  no_result_again : (p : Place) (left : Tokens) → result_with below ((sign signs.Semicolon, p) ∷ left) ≡ Ok (None, left)
-  unfolding result_with
+  no_result_again : (p : Place) (left : Tokens) → return_value_with below ((sign signs.Semicolon, p) ∷ left) ≡ Ok (None, left)
+  unfolding return_value_with
   no_result_again p left = rw (next_is_sign-again signs.Semicolon p left, expect_again signs.Semicolon p left) refl
 
-  result_again : {free : ℕ} (p : Place) (from left : Tokens) (e : Expr) → next_is begins from ≡ true → Reads Expr free (assign_with below from) (e, (sign signs.Semicolon, p) ∷ left) → Reads (Option Expr) free (result_with below from) (Some e, left)
-  unfolding result_with
+  result_again : {free : ℕ} (p : Place) (from left : Tokens) (e : Expr) → next_is begins from ≡ true → Reads Expr free (assign_with below from) (e, (sign signs.Semicolon, p) ∷ left) → Reads (Option Expr) free (return_value_with below from) (Some e, left)
+  unfolding return_value_with
   result_again p from left e b h = rw (begins_no_semicolon from b) (then_reads _ h (rw (expect_again signs.Semicolon p left) whole))
 
   evaluate_again : {free : ℕ} (p : Place) (from left : Tokens) (e : Expr) → Reads Expr free (assign_with below from) (e, (sign signs.Semicolon, p) ∷ left) → Reads Stmt free (evaluate_with below from) (Evaluate (place_of e) e, left)
@@ -236,7 +237,7 @@ test_read : {free depth : ℕ} {from left : Tokens} {c : Option Expr} → IsTest
 test_read (no_test {p = p} {left = left}) room d = as_read (no_test_again (below_at room) p left)
 test_read (test {p = p} {from = from} {left = left} {e = e} a) room d = test_again (below_at room) p from left e (inner_begins a) (inner_read a room d (semicolon_ends p left))
 
-result_read : {free depth : ℕ} {from left : Tokens} {c : Option Expr} → IsResult free depth from c left → (room : ℕ) → depth + room ≡ DEPTH → Reads (Option Expr) free (result_with (below_at room) from) (c, left)
+result_read : {free depth : ℕ} {from left : Tokens} {c : Option Expr} → IsResult free depth from c left → (room : ℕ) → depth + room ≡ DEPTH → Reads (Option Expr) free (return_value_with (below_at room) from) (c, left)
 result_read (no_result {p = p} {left = left}) room d = as_read (no_result_again (below_at room) p left)
 result_read (value {p = p} {from = from} {left = left} {e = e} a) room d = result_again (below_at room) p from left e (assign_begins a) (assign_read a room d (semicolon_ends p left))
 
@@ -245,7 +246,7 @@ only_true true h = h refl
 only_true false h = refl
 
 module _ (below : Below) (deeper : Nested) where
-  local_vars_again : {free : ℕ} (from left : Tokens) (v : Vars) → is_vars from ≡ true → Reads Vars free (declared_with below from) (v, left) → Reads Stmt free (local_with below deeper from) (Declare (place_of_type v.of) v, left)
+  local_vars_again : {free : ℕ} (from left : Tokens) (v : Vars) → is_vars from ≡ true → Reads Vars free (vars_statement_with below from) (v, left) → Reads Stmt free (local_with below deeper from) (Declare (place_of_type v.of) v, left)
   unfolding local_with
   local_vars_again from left v i h = rw i (then_reads _ h whole)
 
@@ -258,7 +259,7 @@ module _ (below : Below) (deeper : Nested) where
   block_again p q from left ss r = rw (expect_again signs.OpenBrace p from) (then_reads _ (r (length from) (omega arith)) (rw (expect_again signs.CloseBrace q left) whole))
 
   inner_block_again : {free : ℕ} (p : Place) (from left : Tokens) (ss : List Stmt) → Reads (List Stmt) free (block_with below deeper ((sign signs.OpenBrace, p) ∷ from)) (ss, left) → Reads Stmt free (stmt_with below deeper ((sign signs.OpenBrace, p) ∷ from)) (Block p (stmts ss), left)
-  unfolding stmt_with leading
+  unfolding stmt_with stmt_token
   inner_block_again p from left ss h = then_reads _ h whole
 
   alone_again : (from : Tokens) → next_is begins from ≡ true → stmt_with below deeper from ≡ evaluate_with below from
@@ -272,23 +273,23 @@ module _ (below : Below) (deeper : Nested) where
   no_else_again p c s ((m, o) ∷ ts) h = rw h refl
 
   if_again : {free : ℕ} (p q r : Place) (from after left : Tokens) (c : Expr) (s : Stmt) → Reads Expr free (below true from) (c, (sign signs.CloseParenthesis, r) ∷ after) → Reads Stmt free (deeper after) (s, left) → NoElse left → Reads Stmt free (stmt_with below deeper ((reserved words.If, p) ∷ (sign signs.OpenParenthesis, q) ∷ from)) (If p c s, left)
-  unfolding stmt_with leading if_with
+  unfolding stmt_with stmt_token if_with
   if_again p q r from after left c s h i n = then_reads _ (bracketed_again below q r from after c h) (then_reads _ i (as_read (no_else_again p c s left n)))
 
   if_else_again : {free : ℕ} (p q r o : Place) (from after other left : Tokens) (c : Expr) (s t : Stmt) → Reads Expr free (below true from) (c, (sign signs.CloseParenthesis, r) ∷ after) → Reads Stmt free (deeper after) (s, (reserved words.Else, o) ∷ other) → Reads Stmt free (deeper other) (t, left) → Reads Stmt free (stmt_with below deeper ((reserved words.If, p) ∷ (sign signs.OpenParenthesis, q) ∷ from)) (IfElse p c s t, left)
-  unfolding stmt_with leading if_with else_with
+  unfolding stmt_with stmt_token if_with else_with
   if_else_again p q r o from after other left c s t h i j = then_reads _ (bracketed_again below q r from after c h) (then_reads _ i (then_reads _ j whole))
 
   while_again : {free : ℕ} (p q r : Place) (from after left : Tokens) (c : Expr) (s : Stmt) → Reads Expr free (below true from) (c, (sign signs.CloseParenthesis, r) ∷ after) → Reads Stmt free (deeper after) (s, left) → Reads Stmt free (stmt_with below deeper ((reserved words.While, p) ∷ (sign signs.OpenParenthesis, q) ∷ from)) (While p c s, left)
-  unfolding stmt_with leading while_with
+  unfolding stmt_with stmt_token while_with
   while_again p q r from after left c s h i = then_reads _ (bracketed_again below q r from after c h) (then_reads _ i whole)
 
   do_again : {free : ℕ} (p q r o w : Place) (from after left : Tokens) (c : Expr) (s : Stmt) → Reads Stmt free (deeper from) (s, (reserved words.While, w) ∷ (sign signs.OpenParenthesis, q) ∷ after) → Reads Expr free (below true after) (c, (sign signs.CloseParenthesis, r) ∷ (sign signs.Semicolon, o) ∷ left) → Reads Stmt free (stmt_with below deeper ((reserved words.Do, p) ∷ from)) (DoWhile p s c, left)
-  unfolding stmt_with leading do_with while_at
+  unfolding stmt_with stmt_token do_with while_at
   do_again p q r o w from after left c s i h = then_reads _ i (then_reads _ (bracketed_again below q r after ((sign signs.Semicolon, o) ∷ left) c h) (rw (expect_again signs.Semicolon o left) whole))
 
   for_again : {free : ℕ} (p q r : Place) (from second third after left : Tokens) (f s : Stmt) (c : Option Expr) (es : List Expr) → Reads Stmt free (first_with below from) (f, second) → Reads (Option Expr) free (test_with below second) (c, third) → Reads (List Expr) free (exprs_with below third) (es, (sign signs.CloseParenthesis, r) ∷ after) → Reads Stmt free (deeper after) (s, left) → Reads Stmt free (stmt_with below deeper ((reserved words.For, p) ∷ (sign signs.OpenParenthesis, q) ∷ from)) (For p f c es s, left)
-  unfolding stmt_with leading for_with
+  unfolding stmt_with stmt_token for_with
   for_again p q r from second third after left f s c es h i j k = rw (expect_again signs.OpenParenthesis q from) (then_reads _ h (then_reads _ i (then_reads _ j (rw (expect_again signs.CloseParenthesis r after) (then_reads _ k whole)))))
 
   case_again : {free : ℕ} (from first after : Tokens) (p : Place) (l : Label) (ss : List Stmt) → label_at from ≡ Ok ((l, p), first) → ReadsAll free case_goes_on deeper first ss after → Reads Case free (case_with deeper from) (labelled p l (stmts ss), after)
@@ -296,27 +297,27 @@ module _ (below : Below) (deeper : Nested) where
   case_again from first after p l ss h r = rw h (then_reads _ (r (length first) (omega arith)) whole)
 
   switch_again : {free : ℕ} (p q r o w : Place) (from after left : Tokens) (e : Expr) (cs : List Case) → Reads Expr free (below true from) (e, (sign signs.CloseParenthesis, r) ∷ (sign signs.OpenBrace, o) ∷ after) → ReadsAll free goes_on (case_with deeper) after cs ((sign signs.CloseBrace, w) ∷ left) → Reads Stmt free (stmt_with below deeper ((reserved words.Switch, p) ∷ (sign signs.OpenParenthesis, q) ∷ from)) (Switch p e (cases cs), left)
-  unfolding stmt_with leading switch_with cases_with
+  unfolding stmt_with stmt_token switch_with cases_with
   switch_again p q r o w from after left e cs h c = then_reads _ (bracketed_again below q r from ((sign signs.OpenBrace, o) ∷ after) e h) (rw (expect_again signs.OpenBrace o after) (then_reads _ (c (length after) (omega arith)) (rw (expect_again signs.CloseBrace w left) whole)))
 
   break_again : (p q : Place) (left : Tokens) → stmt_with below deeper ((reserved words.Break, p) ∷ (sign signs.Semicolon, q) ∷ left) ≡ Ok (Break p, left)
-  unfolding stmt_with leading
+  unfolding stmt_with stmt_token
   break_again p q left = rw (expect_again signs.Semicolon q left) refl
 
   continue_again : (p q : Place) (left : Tokens) → stmt_with below deeper ((reserved words.Continue, p) ∷ (sign signs.Semicolon, q) ∷ left) ≡ Ok (Continue p, left)
-  unfolding stmt_with leading
+  unfolding stmt_with stmt_token
   continue_again p q left = rw (expect_again signs.Semicolon q left) refl
 
-  return_again : {free : ℕ} (p : Place) (from left : Tokens) (c : Option Expr) → Reads (Option Expr) free (result_with below from) (c, left) → Reads Stmt free (stmt_with below deeper ((reserved words.Return, p) ∷ from)) (Return p c, left)
-  unfolding stmt_with leading
+  return_again : {free : ℕ} (p : Place) (from left : Tokens) (c : Option Expr) → Reads (Option Expr) free (return_value_with below from) (c, left) → Reads Stmt free (stmt_with below deeper ((reserved words.Return, p) ∷ from)) (Return p c, left)
+  unfolding stmt_with stmt_token
   return_again p from left c h = then_reads _ h whole
 
 pub brace_rests : (p : Place) (left : Tokens) → (goes_on ((sign signs.CloseBrace, p) ∷ left) ≡ false) × (case_goes_on ((sign signs.CloseBrace, p) ∷ left) ≡ false) × NoElse ((sign signs.CloseBrace, p) ∷ left)
-unfolding goes_on case_goes_on leading
+unfolding goes_on case_goes_on stmt_token
 brace_rests p left = (refl, refl, refl)
 
 while_no_else : (p : Place) (left : Tokens) → NoElse ((reserved words.While, p) ∷ left)
-unfolding leading
+unfolding stmt_token
 while_no_else p left = refl
 
 -- where no deeper statement may begin
@@ -326,7 +327,7 @@ stmt_limit_cuts free [] left s b l = absurd (no_true b)
 stmt_limit_cuts free ((m, p) ∷ ts) left s b l = rw b (cut {free = free} {more = ts} (omega arith))
 
 mutual
-  unfolding nested_at stmt_with leading
+  unfolding nested_at stmt_with stmt_token
 
   pub nested_read : {free depth : ℕ} {from left : Tokens} {s : Stmt} → IsNested free depth from s left → (room : ℕ) → depth + room ≡ DEPTH → Closes s left → Reads Stmt free (nested_at room from) (s, left)
   nested_read (nested {free = free} {depth = depth} {from = from} {left = left} {s = s} w a) zero d c = stmt_limit_cuts free from left s (stmt_begins a) (past free (length from) depth w d)
@@ -350,7 +351,7 @@ mutual
   stmt_read empty room d k = whole
   stmt_read (evaluate {p = p} {from = from} {left = left} {e = e} a) room d k = rw (alone_again (below_at room) (nested_at room) from (assign_begins a)) (evaluate_again (below_at room) p from left e (assign_read a room d (semicolon_ends p left)))
   stmt_read (if_only {p = p} {q = q} {r = r} {from = from} {after = after} {left = left} {c = c} {s = s} a b) room d k =
-      let n = only_true (next_is (λ m. is_else (leading m)) left) k in
+      let n = only_true (next_is (λ m. is_else (stmt_token m)) left) k in
       if_again (below_at room) (nested_at room) p q r from after left c s (inner_read a room d (close_ends r after)) (nested_read b room d (closes_where s left n)) n
   stmt_read (if_else {p = p} {q = q} {r = r} {o = o} {from = from} {after = after} {other = other} {left = left} {c = c} {s = s} {t = t} a b n f) room d k =
       if_else_again (below_at room) (nested_at room) p q r o from after other left c s t (inner_read a room d (close_ends r after)) (nested_read b room d (λ e. n)) (nested_read f room d k)

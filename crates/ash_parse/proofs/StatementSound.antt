@@ -10,18 +10,18 @@ use Rattle.ash_tree.specs.Tree.{Prim, Expr, Initializer, Default, Value, Argumen
 use Rattle.ash_tree.specs.Tokens.{Tokens}
 use Rattle.ash_tree.specs.Expressions.{IsInner, AreExprs, IsAssign}
 use Rattle.ash_tree.specs.Statements.{IsDecl, bare, valued, made, AreMoreDecls, no_more_decls, more_decls, IsVars, vars, IsFirst, no_first, first_vars, first_expr, IsTest, no_test, test, IsResult, no_result, value, IsLabel, case, case_minus, default, is_open, IsNested, nested, AreLocals, no_locals, local_vars, local_stmt, IsBlock, block, IsStmt, inner_block, empty, evaluate, if_only, if_else, while, do_while, for, switch, break, continue, return, AreCases, no_cases, more_cases, AreStmts, no_stmts, more_stmts}
-use Rattle.ash_parse.specs.declared.statements.Leading.{Leading}
-use Rattle.ash_parse.specs.declared.statements.Leading.TheVariants as leads
+use Rattle.ash_parse.specs.declared.stmt_tokens.StmtToken.{StmtToken}
+use Rattle.ash_parse.specs.declared.stmt_tokens.StmtToken.TheVariants as stmt_tokens
 use Rattle.ash_parse.specs.Readers.{Unexpected, TooDeep, ◌>>=◌, put, next_is, next_is_sign, expect_at, name_at}
 use Rattle.ash_parse.specs.ExpressionReader.{Below, arguments_with, bracketed_with, exprs_with, assign_with, below_at}
-use Rattle.ash_parse.specs.StatementReader.{Nested, type_at, is_vars, initializer_with, decl_with, next_decl_with, more_decls_with, decls_with, vars_with, declared_with, first_with, test_with, result_with, leading, begins_stmt, stmt_limit_at, goes_on, case_goes_on, evaluate_with, is_else, else_with, if_with, while_with, is_while, while_at, do_with, for_with, number_at, case_value_at, label_by, label_at, stmts_with, case_with, cases_with, switch_with, local_with, locals_with, block_with, stmt_by, stmt_with, nested_at}
+use Rattle.ash_parse.specs.StatementReader.{Nested, type_at, is_vars, initializer_with, decl_with, next_decl_with, more_decls_with, decls_with, vars_with, vars_statement_with, first_with, test_with, return_value_with, stmt_token, begins_stmt, stmt_limit_at, goes_on, case_goes_on, evaluate_with, is_else, else_with, if_with, while_with, is_while, while_at, do_with, for_with, number_at, case_value_at, label_by, label_at, stmts_with, case_with, cases_with, switch_with, local_with, locals_with, block_with, stmt_by, stmt_with, nested_at}
 use Rattle.ash_parse.proofs.Readings.{no_err, bind_ok, at_pair, if_elim, put_ok, Finds, repeat_sound, expect_sound, name_sound}
 use Rattle.ash_parse.proofs.Types.{ends_in, type_sound}
 use Rattle.ash_parse.proofs.ExpressionSound.{IsPart, args_sound, bracketed_sound, exprs_sound, assign_sound, whole_sound, part_sound}
 
 -- a statement before an `else` is not one that the `else` could belong to
 abbrev pub Closes : Stmt → Tokens → Type 0
-Closes s left = next_is (λ m. is_else (leading m)) left ≡ true → is_open s ≡ false
+Closes s left = next_is (λ m. is_else (stmt_token m)) left ≡ true → is_open s ≡ false
 
 module _ (free depth : ℕ) (below : Below) (whole : Finds (below true) (IsInner free depth)) (part : Finds (below false) (IsPart free depth)) where
   -- a decl after its name
@@ -69,8 +69,8 @@ module _ (free depth : ℕ) (below : Below) (whole : Finds (below true) (IsInner
       (put_ok (d.0).0 (more_decls_with below (d.0).1) (ds.0).0 (ds.0).1 (λ ys r. IsVars free depth ts (record { of = (t.0).0; decls = ys }) r) d.2
       (λ ys left m. vars (type_sound ts (t.0).0 (t.0).1 t.1) (decl_sound (t.0).1 (d.0).0 (d.0).1 d.1) (more_decls_sound (d.0).1 ys left m)))
 
-  pub declared_sound : (ts : Tokens) (x : Vars) (rest : Tokens) → declared_with below ts ≡ Ok (x, rest) → (p : Place) × IsVars free depth ts x ((sign signs.Semicolon, p) ∷ rest)
-  unfolding declared_with
+  pub declared_sound : (ts : Tokens) (x : Vars) (rest : Tokens) → vars_statement_with below ts ≡ Ok (x, rest) → (p : Place) × IsVars free depth ts x ((sign signs.Semicolon, p) ∷ rest)
+  unfolding vars_statement_with
   declared_sound ts x rest h =
       let v = bind_ok (vars_with below ts) (λ v. expect_at signs.Semicolon v.1 >>= λ s. Ok (v.0, s.1)) (x, rest) h in
       let s = bind_ok (expect_at signs.Semicolon (v.0).1) (λ s. Ok ((v.0).0, s.1)) (x, rest) v.2 in
@@ -80,11 +80,11 @@ module _ (free depth : ℕ) (below : Below) (whole : Finds (below true) (IsInner
   pub first_sound : Finds (first_with below) (IsFirst free depth)
   unfolding first_with
   first_sound ts x rest h =
-      if_elim (next_is_sign signs.Semicolon ts) (expect_at signs.Semicolon ts >>= λ s. Ok (Empty s.0, s.1)) (cond (is_vars ts) (declared_with below ts >>= λ v. Ok (Declare (place_of_type (v.0).of) v.0, v.1)) (below true ts >>= λ e. expect_at signs.Semicolon e.1 >>= λ s. Ok (Evaluate (place_of e.0) e.0, s.1))) (Ok (x, rest)) (IsFirst free depth ts x rest) h
+      if_elim (next_is_sign signs.Semicolon ts) (expect_at signs.Semicolon ts >>= λ s. Ok (Empty s.0, s.1)) (cond (is_vars ts) (vars_statement_with below ts >>= λ v. Ok (Declare (place_of_type (v.0).of) v.0, v.1)) (below true ts >>= λ e. expect_at signs.Semicolon e.1 >>= λ s. Ok (Evaluate (place_of e.0) e.0, s.1))) (Ok (x, rest)) (IsFirst free depth ts x rest) h
       (λ b k. let s = bind_ok (expect_at signs.Semicolon ts) (λ s. Ok (Empty s.0, s.1)) (x, rest) k in
       at_pair (λ y r. IsFirst free depth ts y r) (Empty (s.0).0) (s.0).1 x rest s.2 (expect_sound signs.Semicolon ts (s.0).0 (s.0).1 (λ r. IsFirst free depth r (Empty (s.0).0) (s.0).1) s.1 no_first))
-      (λ b k. if_elim (is_vars ts) (declared_with below ts >>= λ v. Ok (Declare (place_of_type (v.0).of) v.0, v.1)) (below true ts >>= λ e. expect_at signs.Semicolon e.1 >>= λ s. Ok (Evaluate (place_of e.0) e.0, s.1)) (Ok (x, rest)) (IsFirst free depth ts x rest) k
-      (λ c l. let v = bind_ok (declared_with below ts) (λ v. Ok (Declare (place_of_type (v.0).of) v.0, v.1)) (x, rest) l in
+      (λ b k. if_elim (is_vars ts) (vars_statement_with below ts >>= λ v. Ok (Declare (place_of_type (v.0).of) v.0, v.1)) (below true ts >>= λ e. expect_at signs.Semicolon e.1 >>= λ s. Ok (Evaluate (place_of e.0) e.0, s.1)) (Ok (x, rest)) (IsFirst free depth ts x rest) k
+      (λ c l. let v = bind_ok (vars_statement_with below ts) (λ v. Ok (Declare (place_of_type (v.0).of) v.0, v.1)) (x, rest) l in
       at_pair (λ y r. IsFirst free depth ts y r) (Declare (place_of_type ((v.0).0).of) (v.0).0) (v.0).1 x rest v.2 (first_vars (declared_sound ts (v.0).0 (v.0).1 v.1).1))
       (λ c l. let e = bind_ok (below true ts) (λ e. expect_at signs.Semicolon e.1 >>= λ s. Ok (Evaluate (place_of e.0) e.0, s.1)) (x, rest) l in
       let s = bind_ok (expect_at signs.Semicolon (e.0).1) (λ s. Ok (Evaluate (place_of (e.0).0) (e.0).0, s.1)) (x, rest) e.2 in
@@ -100,8 +100,8 @@ module _ (free depth : ℕ) (below : Below) (whole : Finds (below true) (IsInner
       let s = bind_ok (expect_at signs.Semicolon (e.0).1) (λ s. Ok (Some (e.0).0, s.1)) (x, rest) e.2 in
       at_pair (λ y r. IsTest free depth ts y r) (Some (e.0).0) (s.0).1 x rest s.2 (test (ends_in signs.Semicolon (e.0).1 (s.0).0 (s.0).1 (λ r. IsInner free depth ts (e.0).0 r) s.1 (whole ts (e.0).0 (e.0).1 e.1))))
 
-  pub result_sound : Finds (result_with below) (IsResult free depth)
-  unfolding result_with
+  pub result_sound : Finds (return_value_with below) (IsResult free depth)
+  unfolding return_value_with
   result_sound ts x rest h =
       if_elim (next_is_sign signs.Semicolon ts) (expect_at signs.Semicolon ts >>= λ s. Ok (None, s.1)) (assign_with below ts >>= λ e. expect_at signs.Semicolon e.1 >>= λ s. Ok (Some e.0, s.1)) (Ok (x, rest)) (IsResult free depth ts x rest) h
       (λ b k. let s = bind_ok (expect_at signs.Semicolon ts) (λ s. Ok (None, s.1)) (x, rest) k in
@@ -118,25 +118,25 @@ module _ (free depth : ℕ) (below : Below) (whole : Finds (below true) (IsInner
       at_pair (λ y r. IsStmt free depth ts y r × Closes y r) (Evaluate (place_of (e.0).0) (e.0).0) (s.0).1 x rest s.2 (evaluate (ends_in signs.Semicolon (e.0).1 (s.0).0 (s.0).1 (λ r. IsAssign free depth ts (e.0).0 r) s.1 (assign_sound free depth below whole part ts (e.0).0 (e.0).1 e.1)), λ w. refl)
 
 -- the words and signs that lead a statement
-abbrev pub Leads : Leading → Meaning → Type 0
-Leads leads.Block m = m ≡ sign signs.OpenBrace
-Leads leads.End m = m ≡ sign signs.CloseBrace
-Leads leads.Empty m = m ≡ sign signs.Semicolon
-Leads leads.If m = m ≡ reserved words.If
-Leads leads.Else m = m ≡ reserved words.Else
-Leads leads.While m = m ≡ reserved words.While
-Leads leads.Do m = m ≡ reserved words.Do
-Leads leads.For m = m ≡ reserved words.For
-Leads leads.Switch m = m ≡ reserved words.Switch
-Leads leads.Case m = m ≡ reserved words.Case
-Leads leads.Default m = m ≡ reserved words.Default
-Leads leads.Break m = m ≡ reserved words.Break
-Leads leads.Continue m = m ≡ reserved words.Continue
-Leads leads.Return m = m ≡ reserved words.Return
-Leads leads.Other m = Unit {0}
+abbrev pub Leads : StmtToken → Meaning → Type 0
+Leads stmt_tokens.Block m = m ≡ sign signs.OpenBrace
+Leads stmt_tokens.End m = m ≡ sign signs.CloseBrace
+Leads stmt_tokens.Empty m = m ≡ sign signs.Semicolon
+Leads stmt_tokens.If m = m ≡ reserved words.If
+Leads stmt_tokens.Else m = m ≡ reserved words.Else
+Leads stmt_tokens.While m = m ≡ reserved words.While
+Leads stmt_tokens.Do m = m ≡ reserved words.Do
+Leads stmt_tokens.For m = m ≡ reserved words.For
+Leads stmt_tokens.Switch m = m ≡ reserved words.Switch
+Leads stmt_tokens.Case m = m ≡ reserved words.Case
+Leads stmt_tokens.Default m = m ≡ reserved words.Default
+Leads stmt_tokens.Break m = m ≡ reserved words.Break
+Leads stmt_tokens.Continue m = m ≡ reserved words.Continue
+Leads stmt_tokens.Return m = m ≡ reserved words.Return
+Leads stmt_tokens.Other m = Unit {0}
 
-pub leads_to : (m : Meaning) → Leads (leading m) m
-unfolding leading
+pub leads_to : (m : Meaning) → Leads (stmt_token m) m
+unfolding stmt_token
 leads_to (sign signs.OpenBrace) = refl
 leads_to (sign signs.CloseBrace) = refl
 leads_to (sign signs.Semicolon) = refl
@@ -153,46 +153,46 @@ leads_to (reserved words.Continue) = refl
 leads_to (reserved words.Return) = refl
 leads_to _ = tt
 
-pub while_leads : (l : Leading) (m : Meaning) → Leads l m → is_while l ≡ true → m ≡ reserved words.While
-while_leads leads.While m d h = d
-while_leads leads.Block m d h = cc
-while_leads leads.End m d h = cc
-while_leads leads.Empty m d h = cc
-while_leads leads.If m d h = cc
-while_leads leads.Else m d h = cc
-while_leads leads.Do m d h = cc
-while_leads leads.For m d h = cc
-while_leads leads.Switch m d h = cc
-while_leads leads.Case m d h = cc
-while_leads leads.Default m d h = cc
-while_leads leads.Break m d h = cc
-while_leads leads.Continue m d h = cc
-while_leads leads.Return m d h = cc
-while_leads leads.Other m d h = cc
+pub while_leads : (l : StmtToken) (m : Meaning) → Leads l m → is_while l ≡ true → m ≡ reserved words.While
+while_leads stmt_tokens.While m d h = d
+while_leads stmt_tokens.Block m d h = cc
+while_leads stmt_tokens.End m d h = cc
+while_leads stmt_tokens.Empty m d h = cc
+while_leads stmt_tokens.If m d h = cc
+while_leads stmt_tokens.Else m d h = cc
+while_leads stmt_tokens.Do m d h = cc
+while_leads stmt_tokens.For m d h = cc
+while_leads stmt_tokens.Switch m d h = cc
+while_leads stmt_tokens.Case m d h = cc
+while_leads stmt_tokens.Default m d h = cc
+while_leads stmt_tokens.Break m d h = cc
+while_leads stmt_tokens.Continue m d h = cc
+while_leads stmt_tokens.Return m d h = cc
+while_leads stmt_tokens.Other m d h = cc
 
-pub else_leads : (l : Leading) (m : Meaning) → Leads l m → is_else l ≡ true → m ≡ reserved words.Else
-else_leads leads.Else m d h = d
-else_leads leads.Block m d h = cc
-else_leads leads.End m d h = cc
-else_leads leads.Empty m d h = cc
-else_leads leads.If m d h = cc
-else_leads leads.While m d h = cc
-else_leads leads.Do m d h = cc
-else_leads leads.For m d h = cc
-else_leads leads.Switch m d h = cc
-else_leads leads.Case m d h = cc
-else_leads leads.Default m d h = cc
-else_leads leads.Break m d h = cc
-else_leads leads.Continue m d h = cc
-else_leads leads.Return m d h = cc
-else_leads leads.Other m d h = cc
+pub else_leads : (l : StmtToken) (m : Meaning) → Leads l m → is_else l ≡ true → m ≡ reserved words.Else
+else_leads stmt_tokens.Else m d h = d
+else_leads stmt_tokens.Block m d h = cc
+else_leads stmt_tokens.End m d h = cc
+else_leads stmt_tokens.Empty m d h = cc
+else_leads stmt_tokens.If m d h = cc
+else_leads stmt_tokens.While m d h = cc
+else_leads stmt_tokens.Do m d h = cc
+else_leads stmt_tokens.For m d h = cc
+else_leads stmt_tokens.Switch m d h = cc
+else_leads stmt_tokens.Case m d h = cc
+else_leads stmt_tokens.Default m d h = cc
+else_leads stmt_tokens.Break m d h = cc
+else_leads stmt_tokens.Continue m d h = cc
+else_leads stmt_tokens.Return m d h = cc
+else_leads stmt_tokens.Other m d h = cc
 
 while_sound : (ts : Tokens) (p : Place) (rest : Tokens) (Q : Tokens → Type 0) → while_at ts ≡ Ok (p, rest) → Q ts → Q ((reserved words.While, p) ∷ rest)
 unfolding while_at
 while_sound [] p rest Q h q = absurd (no_err (Unexpected []) (p, rest) h)
 while_sound ((m, o) ∷ ts) p rest Q h q =
-    if_elim (is_while (leading m)) (Ok (o, ts)) (Err (Unexpected ((m, o) ∷ ts))) (Ok (p, rest)) (Q ((reserved words.While, p) ∷ rest)) h
-    (λ b e. at_pair (λ x r. Q ((reserved words.While, x) ∷ r)) o ts p rest e (subst (λ w. Q ((w, o) ∷ ts)) (while_leads (leading m) m (leads_to m) b) q))
+    if_elim (is_while (stmt_token m)) (Ok (o, ts)) (Err (Unexpected ((m, o) ∷ ts))) (Ok (p, rest)) (Q ((reserved words.While, p) ∷ rest)) h
+    (λ b e. at_pair (λ x r. Q ((reserved words.While, x) ∷ r)) o ts p rest e (subst (λ w. Q ((w, o) ∷ ts)) (while_leads (stmt_token m) m (leads_to m) b) q))
     (λ b e. absurd (no_err (Unexpected ((m, o) ∷ ts)) (p, rest) e))
 
 number_sound : (ts : Tokens) (x : ℕ × Place) (rest : Tokens) (Q : Tokens → Type 0) → number_at ts ≡ Ok (x, rest) → Q ((number x.0, x.1) ∷ rest) → Q ts
@@ -225,9 +225,9 @@ case_value_sound p ts l rest h =
 abbrev Labelled : Tokens → Label × Place → Tokens → Type 0
 Labelled ts x rest = IsLabel ts x.1 x.0 rest
 
-label_by_sound : (k : Leading) (m : Meaning) (p : Place) (ts : Tokens) (x : Label × Place) (rest : Tokens) → Leads k m → label_by k m p ts ≡ Ok (x, rest) → Labelled ((m, p) ∷ ts) x rest
-label_by_sound leads.Case m p ts x rest d h = subst (λ w. IsLabel ((w, p) ∷ ts) x.1 x.0 rest) (sym d) (case_value_sound p ts x rest h)
-label_by_sound leads.Default m p ts x rest d h =
+label_by_sound : (k : StmtToken) (m : Meaning) (p : Place) (ts : Tokens) (x : Label × Place) (rest : Tokens) → Leads k m → label_by k m p ts ≡ Ok (x, rest) → Labelled ((m, p) ∷ ts) x rest
+label_by_sound stmt_tokens.Case m p ts x rest d h = subst (λ w. IsLabel ((w, p) ∷ ts) x.1 x.0 rest) (sym d) (case_value_sound p ts x rest h)
+label_by_sound stmt_tokens.Default m p ts x rest d h =
     let c = bind_ok (expect_at signs.Colon ts) (λ c. Ok ((labels.Default, p), c.1)) (x, rest) h in
     at_pair (λ y r. Labelled ((m, p) ∷ ts) y r) (labels.Default, p) (c.0).1 x rest c.2 (subst (λ w. IsLabel ((w, p) ∷ ts) p labels.Default (c.0).1) (sym d) (expect_sound signs.Colon ts (c.0).0 (c.0).1 (λ r. IsLabel ((reserved words.Default, p) ∷ r) p labels.Default (c.0).1) c.1 default))
 label_by_sound _ m p ts x rest d h = absurd (no_err (Unexpected ((m, p) ∷ ts)) (x, rest) h)
@@ -235,7 +235,7 @@ label_by_sound _ m p ts x rest d h = absurd (no_err (Unexpected ((m, p) ∷ ts))
 label_sound : Finds label_at Labelled
 unfolding label_at
 label_sound [] x rest h = absurd (no_err (Unexpected []) (x, rest) h)
-label_sound ((m, p) ∷ ts) x rest h = label_by_sound (leading m) m p ts x rest (leads_to m) h
+label_sound ((m, p) ∷ ts) x rest h = label_by_sound (stmt_token m) m p ts x rest (leads_to m) h
 
 abbrev pub IsClosed : (ℕ → ℕ → Tokens → Stmt → Tokens → Type 0) → ℕ → ℕ → Tokens → Stmt → Tokens → Type 0
 IsClosed P free depth from s left = P free depth from s left × Closes s left
@@ -244,8 +244,8 @@ module _ (free depth : ℕ) (below : Below) (deeper : Nested) (whole : Finds (be
   pub local_sound : (from after left : Tokens) (x : Stmt) (xs : List Stmt) → local_with below deeper from ≡ Ok (x, after) → AreLocals free depth after xs left → AreLocals free depth from (x ∷ xs) left
   unfolding local_with
   local_sound from after left x xs h more =
-      if_elim (is_vars from) (declared_with below from >>= λ v. Ok (Declare (place_of_type (v.0).of) v.0, v.1)) (deeper from) (Ok (x, after)) (AreLocals free depth from (x ∷ xs) left) h
-      (λ b k. let v = bind_ok (declared_with below from) (λ v. Ok (Declare (place_of_type (v.0).of) v.0, v.1)) (x, after) k in
+      if_elim (is_vars from) (vars_statement_with below from >>= λ v. Ok (Declare (place_of_type (v.0).of) v.0, v.1)) (deeper from) (Ok (x, after)) (AreLocals free depth from (x ∷ xs) left) h
+      (λ b k. let v = bind_ok (vars_statement_with below from) (λ v. Ok (Declare (place_of_type (v.0).of) v.0, v.1)) (x, after) k in
       at_pair (λ y r. AreLocals free depth r xs left → AreLocals free depth from (y ∷ xs) left) (Declare (place_of_type ((v.0).0).of) (v.0).0) (v.0).1 x after v.2 (λ m. local_vars (declared_sound free depth below whole part from (v.0).0 (v.0).1 v.1).1 m) more)
       (λ b k. local_stmt (one from x after k).0 more)
 
@@ -288,11 +288,11 @@ module _ (free depth : ℕ) (below : Below) (deeper : Nested) (whole : Finds (be
   unfolding else_with S
   else_sound p o q r after c s [] x rest i n d h = at_pair (λ y l. IsStmt free depth ((reserved words.If, p) ∷ (sign signs.OpenParenthesis, o) ∷ r) y l × Closes y l) (If p c s) [] x rest h (if_only i n, λ e. sym e)
   else_sound p o q r after c s ((m, a) ∷ ts) x rest i n d h =
-      if_elim (is_else (leading m)) (deeper ts >>= λ t. Ok (IfElse p c s t.0, t.1)) (Ok (If p c s, (m, a) ∷ ts)) (Ok (x, rest)) (IsStmt free depth ((reserved words.If, p) ∷ (sign signs.OpenParenthesis, o) ∷ r) x rest × Closes x rest) h
+      if_elim (is_else (stmt_token m)) (deeper ts >>= λ t. Ok (IfElse p c s t.0, t.1)) (Ok (If p c s, (m, a) ∷ ts)) (Ok (x, rest)) (IsStmt free depth ((reserved words.If, p) ∷ (sign signs.OpenParenthesis, o) ∷ r) x rest × Closes x rest) h
       (λ b k. let t = bind_ok (deeper ts) (λ t. Ok (IfElse p c s t.0, t.1)) (x, rest) k in
       let u = one ts (t.0).0 (t.0).1 t.1 in
       at_pair (λ y l. IsStmt free depth ((reserved words.If, p) ∷ (sign signs.OpenParenthesis, o) ∷ r) y l × Closes y l) (IfElse p c s (t.0).0) (t.0).1 x rest t.2
-      (if_else i (subst (λ w. IsNested free depth after s ((w, a) ∷ ts)) (else_leads (leading m) m (leads_to m) b) n) (d b) u.0, u.1))
+      (if_else i (subst (λ w. IsNested free depth after s ((w, a) ∷ ts)) (else_leads (stmt_token m) m (leads_to m) b) n) (d b) u.0, u.1))
       (λ b k. at_pair (λ y l. IsStmt free depth ((reserved words.If, p) ∷ (sign signs.OpenParenthesis, o) ∷ r) y l × Closes y l) (If p c s) ((m, a) ∷ ts) x rest k (if_only i n, λ e. sym e ∙ b))
 
   if_sound : (p : Place) (ts : Tokens) (x : Stmt) (rest : Tokens) → if_with below deeper p ts ≡ Ok (x, rest) → S ((reserved words.If, p) ∷ ts) x rest
@@ -359,34 +359,34 @@ module _ (free depth : ℕ) (below : Below) (deeper : Nested) (whole : Finds (be
         λ w. refl,
       )
 
-  stmt_by_sound : (k : Leading) (m : Meaning) (p : Place) (ts : Tokens) (x : Stmt) (rest : Tokens) → Leads k m → stmt_by k below deeper m p ts ≡ Ok (x, rest) → S ((m, p) ∷ ts) x rest
+  stmt_by_sound : (k : StmtToken) (m : Meaning) (p : Place) (ts : Tokens) (x : Stmt) (rest : Tokens) → Leads k m → stmt_by k below deeper m p ts ≡ Ok (x, rest) → S ((m, p) ∷ ts) x rest
   unfolding S
-  stmt_by_sound leads.Block m p ts x rest d h =
+  stmt_by_sound stmt_tokens.Block m p ts x rest d h =
       let b = bind_ok (block_with below deeper ((m, p) ∷ ts)) (λ b. Ok (Block p (stmts b.0), b.1)) (x, rest) h in
       let k : IsBlock free depth ((sign signs.OpenBrace, p) ∷ ts) (b.0).0 (b.0).1 = subst (λ w. IsBlock free depth ((w, p) ∷ ts) (b.0).0 (b.0).1) d (block_sound ((m, p) ∷ ts) (b.0).0 (b.0).1 b.1) in
       at_pair (λ y l. IsStmt free depth ((m, p) ∷ ts) y l × Closes y l) (Block p (stmts (b.0).0)) (b.0).1 x rest b.2 (subst (λ w. IsStmt free depth ((w, p) ∷ ts) (Block p (stmts (b.0).0)) (b.0).1) (sym d) (inner_block k), λ e. refl)
-  stmt_by_sound leads.Empty m p ts x rest d h = at_pair (λ y l. IsStmt free depth ((m, p) ∷ ts) y l × Closes y l) (Empty p) ts x rest h (subst (λ w. IsStmt free depth ((w, p) ∷ ts) (Empty p) ts) (sym d) empty, λ e. refl)
-  stmt_by_sound leads.If m p ts x rest d h = subst (λ w. S ((w, p) ∷ ts) x rest) (sym d) (if_sound p ts x rest h)
-  stmt_by_sound leads.While m p ts x rest d h = subst (λ w. S ((w, p) ∷ ts) x rest) (sym d) (while_loop_sound p ts x rest h)
-  stmt_by_sound leads.Do m p ts x rest d h = subst (λ w. S ((w, p) ∷ ts) x rest) (sym d) (do_sound p ts x rest h)
-  stmt_by_sound leads.For m p ts x rest d h = subst (λ w. S ((w, p) ∷ ts) x rest) (sym d) (for_sound p ts x rest h)
-  stmt_by_sound leads.Switch m p ts x rest d h = subst (λ w. S ((w, p) ∷ ts) x rest) (sym d) (switch_sound p ts x rest h)
-  stmt_by_sound leads.Break m p ts x rest d h =
+  stmt_by_sound stmt_tokens.Empty m p ts x rest d h = at_pair (λ y l. IsStmt free depth ((m, p) ∷ ts) y l × Closes y l) (Empty p) ts x rest h (subst (λ w. IsStmt free depth ((w, p) ∷ ts) (Empty p) ts) (sym d) empty, λ e. refl)
+  stmt_by_sound stmt_tokens.If m p ts x rest d h = subst (λ w. S ((w, p) ∷ ts) x rest) (sym d) (if_sound p ts x rest h)
+  stmt_by_sound stmt_tokens.While m p ts x rest d h = subst (λ w. S ((w, p) ∷ ts) x rest) (sym d) (while_loop_sound p ts x rest h)
+  stmt_by_sound stmt_tokens.Do m p ts x rest d h = subst (λ w. S ((w, p) ∷ ts) x rest) (sym d) (do_sound p ts x rest h)
+  stmt_by_sound stmt_tokens.For m p ts x rest d h = subst (λ w. S ((w, p) ∷ ts) x rest) (sym d) (for_sound p ts x rest h)
+  stmt_by_sound stmt_tokens.Switch m p ts x rest d h = subst (λ w. S ((w, p) ∷ ts) x rest) (sym d) (switch_sound p ts x rest h)
+  stmt_by_sound stmt_tokens.Break m p ts x rest d h =
       let s = bind_ok (expect_at signs.Semicolon ts) (λ s. Ok (Break p, s.1)) (x, rest) h in
       at_pair (λ y l. IsStmt free depth ((m, p) ∷ ts) y l × Closes y l) (Break p) (s.0).1 x rest s.2 (subst (λ w. IsStmt free depth ((w, p) ∷ ts) (Break p) (s.0).1) (sym d) (expect_sound signs.Semicolon ts (s.0).0 (s.0).1 (λ r. IsStmt free depth ((reserved words.Break, p) ∷ r) (Break p) (s.0).1) s.1 break), λ e. refl)
-  stmt_by_sound leads.Continue m p ts x rest d h =
+  stmt_by_sound stmt_tokens.Continue m p ts x rest d h =
       let s = bind_ok (expect_at signs.Semicolon ts) (λ s. Ok (Continue p, s.1)) (x, rest) h in
       at_pair (λ y l. IsStmt free depth ((m, p) ∷ ts) y l × Closes y l) (Continue p) (s.0).1 x rest s.2 (subst (λ w. IsStmt free depth ((w, p) ∷ ts) (Continue p) (s.0).1) (sym d) (expect_sound signs.Semicolon ts (s.0).0 (s.0).1 (λ r. IsStmt free depth ((reserved words.Continue, p) ∷ r) (Continue p) (s.0).1) s.1 continue), λ e. refl)
-  stmt_by_sound leads.Return m p ts x rest d h =
-      let e = bind_ok (result_with below ts) (λ e. Ok (Return p e.0, e.1)) (x, rest) h in
+  stmt_by_sound stmt_tokens.Return m p ts x rest d h =
+      let e = bind_ok (return_value_with below ts) (λ e. Ok (Return p e.0, e.1)) (x, rest) h in
       at_pair (λ y l. IsStmt free depth ((m, p) ∷ ts) y l × Closes y l) (Return p (e.0).0) (e.0).1 x rest e.2 (subst (λ w. IsStmt free depth ((w, p) ∷ ts) (Return p (e.0).0) (e.0).1) (sym d) (return (result_sound free depth below whole part ts (e.0).0 (e.0).1 e.1)), λ w. refl)
-  stmt_by_sound leads.Other m p ts x rest d h = evaluate_sound free depth below whole part ((m, p) ∷ ts) x rest h
+  stmt_by_sound stmt_tokens.Other m p ts x rest d h = evaluate_sound free depth below whole part ((m, p) ∷ ts) x rest h
   stmt_by_sound _ m p ts x rest d h = absurd (no_err (Unexpected ((m, p) ∷ ts)) (x, rest) h)
 
   pub stmt_sound : Finds (stmt_with below deeper) (IsClosed IsStmt free depth)
   unfolding stmt_with S
   stmt_sound [] x rest h = absurd (no_err (Unexpected []) (x, rest) h)
-  stmt_sound ((m, p) ∷ ts) x rest h = stmt_by_sound (leading m) m p ts x rest (leads_to m) h
+  stmt_sound ((m, p) ∷ ts) x rest h = stmt_by_sound (stmt_token m) m p ts x rest (leads_to m) h
 
 limit_is_no_ok : (ts : Tokens) (x : Stmt × Tokens) → stmt_limit_at ts ≡ Ok x → ⊥
 unfolding stmt_limit_at

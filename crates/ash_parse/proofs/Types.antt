@@ -15,7 +15,7 @@ use Rattle.ash_parse.specs.TypeReader.{elem_by, elem_at, element_at, target_at}
 use Rattle.ash_parse.specs.StatementReader.{handle_by, type_by, type_at}
 use Rattle.ash_parse.proofs.Readings.{no_err, bind_ok, at_pair, if_elim, Finds, expect_sound, name_sound}
 
--- the sign that is expected stands where a phrase ends
+-- the sign that is expected is where a phrase ends
 pub ends_in : (s : Sign) (ts : Tokens) (p : Place) (rest : Tokens) (Q : Tokens → Type 0) → expect_at s ts ≡ Ok (p, rest) → Q ts → Q ((sign s, p) ∷ rest)
 ends_in s ts p rest Q h = expect_sound s ts p rest (λ r. Q r → Q ((sign s, p) ∷ rest)) h (λ d. d)
 

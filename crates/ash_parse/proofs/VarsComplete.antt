@@ -1,4 +1,4 @@
--- What is in the grammar of types and of declarations of variables is read, or reading is cut where a token stands too
+-- What is in the grammar of types and of declarations of variables is read, or reading is cut where a token is too
 -- deep, and no expression begins as they do.
 use Rattle.std.proofs.Common.{◌≡◌, ℕ, ◌+◌, List, [], ◌∷◌, length, Bool, true, false, Some, None, Ok, refl, arith}
 use Rattle.ash_lex.specs.Tokens.{Meaning, name, sign, reserved}
@@ -18,14 +18,15 @@ use Rattle.ash_parse.specs.Signs.{is_sign, same_sign}
 use Rattle.ash_parse.specs.Readers.{next_is, next_is_sign}
 use Rattle.ash_parse.specs.ExpressionReader.{Below, begins, arguments_with, assign_with, below_at}
 use Rattle.ash_parse.specs.TypeReader.{is_array}
-use Rattle.ash_parse.specs.StatementReader.{is_name, next_is_name, type_at, is_vars, initializer_with, decl_with, next_decl_with, more_decls_with, decls_with, vars_with, declared_with}
+use Rattle.ash_parse.specs.StatementReader.{is_name, next_is_name, type_at, is_vars, initializer_with, decl_with, next_decl_with, more_decls_with, decls_with, vars_with, vars_statement_with}
 use Rattle.ash_parse.proofs.Readings.{expect_again, next_is_sign-again, name_again}
 use Rattle.ash_parse.proofs.Elements.{element_read, element_passed}
 use Rattle.ash_parse.proofs.StatementShorter.{decl_shorter}
 use Rattle.ash_parse.proofs.Rereading.{no_some, no_true, Reads, whole, as_read, then_reads, put_reads, ReadsAll, none_again, one_again}
-use Rattle.ash_parse.proofs.ExpressionComplete.{ends_expr, Ends, primitive_begins, args_read, assign_read}
+use Rattle.ash_parse.proofs.ExpressionComplete.{args_read, assign_read}
+use Rattle.ash_parse.proofs.ExpressionBounds.{ends_expr, Ends, primitive_begins}
 
--- what stands in prefix is no type: neither a name nor a handle follows
+-- what they begin with is no type: neither a name nor a handle follows
 abbrev pub Follows : Tokens → Type 0
 Follows left = (next_is_name left ≡ false) × (next_is_sign signs.Handle left ≡ false)
 
@@ -152,7 +153,7 @@ vars_vars (vars t d ds) = type_vars t (decl_begins d).0
 pub vars_begin : {free depth : ℕ} {from left : Tokens} {v : Vars} → IsVars free depth from v left → next_is begins from ≡ true
 vars_begin (vars t d ds) = type_begins t
 
--- what stands after one of several variables
+-- what is after one of several variables
 unfoldable pub ends_decl : Meaning → Bool
 ends_decl (sign signs.Comma) = true
 ends_decl (sign signs.Semicolon) = true
@@ -211,8 +212,8 @@ module _ (below : Below) where
   unfolding vars_with decls_with more_decls_with
   vars_again from first after left t d ds h i r = rw h (then_reads _ (then_reads _ i (put_reads d (r (length after) (omega arith)))) whole)
 
-  declared_again : {free : ℕ} (p : Place) (from left : Tokens) (v : Vars) → Reads Vars free (vars_with below from) (v, (sign signs.Semicolon, p) ∷ left) → Reads Vars free (declared_with below from) (v, left)
-  unfolding declared_with
+  declared_again : {free : ℕ} (p : Place) (from left : Tokens) (v : Vars) → Reads Vars free (vars_with below from) (v, (sign signs.Semicolon, p) ∷ left) → Reads Vars free (vars_statement_with below from) (v, left)
+  unfolding vars_statement_with
   declared_again p from left v h = then_reads _ h (rw (expect_again signs.Semicolon p left) whole)
 
 decl_read : {free depth : ℕ} {from left : Tokens} {d : Decl} → IsDecl free depth from d left → (room : ℕ) → depth + room ≡ DEPTH → Next left → Reads Decl free (decl_with (below_at room) from) (d, left)
@@ -231,5 +232,5 @@ vars_read (vars {from = from} {first = first} {after = after} {left = left} {t =
     vars_again (below_at room) from first after left t x xs (type_read a (decl_begins b).1) (decl_read b room d (decls_next c s)) (more_decls_read c room d s)
 
 -- variables with their ";"
-pub declared_read : {free depth : ℕ} {from : Tokens} {v : Vars} (p : Place) (left : Tokens) → IsVars free depth from v ((sign signs.Semicolon, p) ∷ left) → (room : ℕ) → depth + room ≡ DEPTH → Reads Vars free (declared_with (below_at room) from) (v, left)
+pub declared_read : {free depth : ℕ} {from : Tokens} {v : Vars} (p : Place) (left : Tokens) → IsVars free depth from v ((sign signs.Semicolon, p) ∷ left) → (room : ℕ) → depth + room ≡ DEPTH → Reads Vars free (vars_statement_with (below_at room) from) (v, left)
 declared_read {from = from} {v = v} p left a room d = declared_again (below_at room) p from left v (vars_read a room d (next_is_sign-again signs.Semicolon p left))

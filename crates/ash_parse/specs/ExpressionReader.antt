@@ -1,6 +1,7 @@
--- ParseResult an expression, one function for each phrase. `below` reads what stands one deeper: a whole expression where it
--- is reported `true`, and the operand of a unary operator where it is reported `false`.
-use Rattle.std.specs.Prelude.{ℕ, zero, suc, List, [], ◌∷◌, ◌==◌, Bool, true, false, Option, Some, None, is_some, Ok, Err, if◌then◌else◌}
+-- Reading an expression, one function for each phrase. `below` reads what is one deeper: a whole expression where it is
+-- given `true`, and the operand of a unary operator where it is given `false`.
+use Rattle.std.specs.Prelude.{ℕ, zero, suc, List, [], ◌∷◌, ◌==◌, Bool, true, false, Option, Some, None, is_some, Ok}
+use Rattle.std.specs.Prelude.{Err, if◌then◌else◌}
 use Rattle.ash_lex.specs.Tokens.{Meaning, name, number, sign, reserved}
 use Rattle.ash_lex.specs.declared.signs.Sign.TheVariants as signs
 use Rattle.ash_lex.specs.declared.words.ReservedWord.TheVariants as words
@@ -9,11 +10,14 @@ use Rattle.ash_tree.specs.declared.tree.types.Primitive.{Primitive}
 use Rattle.ash_tree.specs.declared.tree.operators.UnaryOp.{UnaryOp}
 use Rattle.ash_tree.specs.declared.tree.operators.BinaryOp.{BinaryOp}
 use Rattle.ash_tree.specs.declared.tree.operators.AssignOp.{AssignOp}
-use Rattle.ash_tree.specs.Tree.{Expr, Number, Truth, Null, This, Name, Call, Brackets, Convert, NewArray, Cast, Unary, Conditional, Assign, Suffix, Field, Method, Index, Increment, Decrement, Operation, place_of, exprs, chained, suffixed}
+use Rattle.ash_tree.specs.Tree.{Expr, Number, Truth, Null, This, Name, Call, Brackets, Convert, NewArray, Cast, Unary}
+use Rattle.ash_tree.specs.Tree.{Conditional, Assign, Suffix, Field, Method, Index, Increment, Decrement, Operation}
+use Rattle.ash_tree.specs.Tree.{place_of, exprs, chained, suffixed}
 use Rattle.ash_tree.specs.Tokens.{Tokens}
 use Rattle.ash_tree.specs.Operators.{primitive, unary_operator, binary_operator, level, LEVELS, assign_operator}
 use Rattle.ash_parse.specs.Signs.{is_sign}
-use Rattle.ash_parse.specs.Readers.{ParseResult, Unexpected, TooDeep, ◌>>=◌, put, loop, next_is, next_is_sign, expect_at, name_at}
+use Rattle.ash_parse.specs.Readers.{ParseResult, Unexpected, TooDeep, ◌>>=◌, put, loop, next_is, next_is_sign}
+use Rattle.ash_parse.specs.Readers.{expect_at, name_at}
 use Rattle.ash_parse.specs.TypeReader.{element_at, target_at}
 
 abbrev pub Below : Type 0
@@ -48,7 +52,8 @@ more_exprs_with below ts = loop (next_is_sign signs.Comma) (next_expr_with below
 -- [ assign { "," assign } ] before a ")"
 unfoldable pub exprs_with : Below → Tokens → ParseResult (List Expr)
 exprs_with below ts =
-    if next_is_sign signs.CloseParenthesis ts then Ok ([], ts) else (below true ts >>= λ first. put first.0 (more_exprs_with below first.1))
+    if next_is_sign signs.CloseParenthesis ts then Ok ([], ts)
+    else (below true ts >>= λ first. put first.0 (more_exprs_with below first.1))
 
 unfoldable pub arguments_with : Below → Tokens → ParseResult (List Expr)
 arguments_with below ts = do
@@ -66,9 +71,11 @@ bracketed_with below ts = do
   Ok (e.0, closed.1)
 
 -- NAME [args], after the name
-unfoldable pub named_with : Below → Place → List ℕ → Tokens → ParseResult Expr
-named_with below p text ts =
-    if next_is_sign signs.OpenParenthesis ts then (arguments_with below ts >>= λ es. Ok (Call p text (exprs es.0), es.1)) else Ok (Name p text, ts)
+unfoldable pub name_or_call_with : Below → Place → List ℕ → Tokens → ParseResult Expr
+name_or_call_with below p text ts =
+    if next_is_sign signs.OpenParenthesis ts
+    then (arguments_with below ts >>= λ es. Ok (Call p text (exprs es.0), es.1))
+    else Ok (Name p text, ts)
 
 -- "<" elem ">" args, after the word `array`
 unfoldable pub new_array_with : Below → Place → Tokens → ParseResult Expr
@@ -86,9 +93,10 @@ cast_with below p ts = do
 
 abbrev pub primary_by : Below → Option Primitive → Meaning → Place → Tokens → ParseResult Expr
 primary_by below (Some k) m p ts = bracketed_with below ts >>= λ e. Ok (Convert p k e.0, e.1)
-primary_by below None (name text) p ts = named_with below p text ts
+primary_by below None (name text) p ts = name_or_call_with below p text ts
 primary_by below None (number n) p ts = Ok (Number p n, ts)
-primary_by below None (sign signs.OpenParenthesis) p ts = bracketed_with below ((sign signs.OpenParenthesis, p) ∷ ts) >>= λ e. Ok (Brackets p e.0, e.1)
+primary_by below None (sign signs.OpenParenthesis) p ts =
+    bracketed_with below ((sign signs.OpenParenthesis, p) ∷ ts) >>= λ e. Ok (Brackets p e.0, e.1)
 primary_by below None (reserved words.True) p ts = Ok (Truth p true, ts)
 primary_by below None (reserved words.False) p ts = Ok (Truth p false, ts)
 primary_by below None (reserved words.Null) p ts = Ok (Null p, ts)
@@ -114,7 +122,9 @@ is_suffix ts = next_is begins_suffix ts
 -- NAME [args], after the "."
 unfoldable pub member_with : Below → Tokens → ParseResult Suffix
 member_with below ts =
-    name_at ts >>= λ n. if next_is_sign signs.OpenParenthesis n.1 then (arguments_with below n.1 >>= λ es. Ok (Method (n.0).1 (n.0).0 (exprs es.0), es.1)) else Ok (Field (n.0).1 (n.0).0, n.1)
+    name_at ts >>= λ n. if next_is_sign signs.OpenParenthesis n.1
+    then (arguments_with below n.1 >>= λ es. Ok (Method (n.0).1 (n.0).0 (exprs es.0), es.1))
+    else Ok (Field (n.0).1 (n.0).0, n.1)
 
 -- assign "]", after the "["
 unfoldable pub index_with : Below → Tokens → ParseResult Suffix
@@ -161,7 +171,7 @@ abbrev pub level_by : Option BinaryOp → ℕ
 level_by None = 0
 level_by (Some operator) = level operator
 
--- the level of the operator that stands next; 0 where none does
+-- the level of the operator that is next; 0 where none is
 unfoldable pub next_level : Tokens → ℕ
 next_level [] = 0
 next_level ((m, p) ∷ ts) = level_by (binary_operator m)
@@ -210,10 +220,11 @@ abbrev pub assign_by : Below → Expr → Option AssignOp → Meaning → Place 
 assign_by below e None m p ts = Ok (e, (m, p) ∷ ts)
 assign_by below e (Some operator) m p ts = below true ts >>= λ v. Ok (Assign (place_of e) e operator v.0, v.1)
 
--- what stands after the first operand of an `assign`
+-- what is after the first operand of an `assign`
 unfoldable pub assign_from : Below → Expr → Tokens → ParseResult Expr
 assign_from below e [] = Ok (e, [])
-assign_from below e ((m, p) ∷ ts) = if is_sign signs.Question m then branches_with below e ts else assign_by below e (assign_operator m) m p ts
+assign_from below e ((m, p) ∷ ts) =
+    if is_sign signs.Question m then branches_with below e ts else assign_by below e (assign_operator m) m p ts
 
 unfoldable pub assign_with : Below → Tokens → ParseResult Expr
 assign_with below ts = binary_with below LEVELS ts >>= λ e. assign_from below e.0 e.1

@@ -1,4 +1,4 @@
--- What is reported where reading stops.
+-- The fault that is returned where reading stops.
 use Rattle.std.specs.Prelude.{◌≡◌, ℕ, List, [], ◌∷◌, Option, Some, None, Ok, Err, ◌-◌, length, codes, if◌then◌else◌}
 use Rattle.std.specs.List.{slice_get}
 use Rattle.ash_lex.specs.Tokens.{Meaning, sign, unsupported}
@@ -8,7 +8,7 @@ use Rattle.ash_lex.specs.declared.tokens.Token.{Token}
 use Rattle.ash_tree.specs.Tree.{Declaration}
 use Rattle.ash_tree.specs.Tokens.{Tokens, tokens_of}
 use Rattle.ash_parse.specs.declared.error.ParseError.{ParseError}
-use Rattle.ash_parse.specs.declared.error.ParseError.TheVariants as stops
+use Rattle.ash_parse.specs.declared.error.ParseError.TheVariants as errors
 use Rattle.ash_parse.specs.declared.faults.UnsupportedPart.{UnsupportedPart}
 use Rattle.ash_parse.specs.declared.faults.UnsupportedPart.TheVariants as parts
 use Rattle.ash_parse.specs.declared.faults.ParseFault.{ParseFault}
@@ -37,7 +37,7 @@ end_by (Some t) = t.to
 abbrev pub end_of : List Token → ℕ
 end_of ts = end_by (slice_get ts (length ts - 1))
 
--- where the first of the tokens from the fault on stands, or where all of the tokens end
+-- where the first of the tokens from the fault on is, or where all of the tokens end
 abbrev pub start : ℕ → Tokens → ℕ
 start end [] = end
 start end ((m, p) ∷ rest) = p.at
@@ -47,7 +47,7 @@ abbrev pub fault_at : ℕ → Option UnsupportedPart → ParseFault
 fault_at at None = faults.Unexpected at
 fault_at at (Some part) = faults.Unsupported part at
 
--- the fault that stands at the first of these tokens, where all tokens end at a place
+-- the fault at the first of these tokens, where all tokens end at a place
 abbrev pub fault_before : ℕ → Tokens → ParseFault
 fault_before end [] = faults.Unexpected end
 fault_before end ((m, p) ∷ rest) = fault_at p.at (part_of m)
@@ -57,14 +57,14 @@ abbrev pub fault_of : ℕ → Halt → ParseFault
 fault_of end (Unexpected rest) = fault_before end rest
 fault_of end (TooDeep rest) = faults.TooDeep (start end rest)
 
--- what is reported, of why reading stops
+-- the fault is that of why reading stops
 abbrev pub Reports : List Token → ParseFault → Halt → Type 0
 Reports all fault halt = fault ≡ fault_of (end_of all) halt
 
 abbrev pub IsReported : List Token → ParseFault → ParseError → Type 0
-IsReported all fault (stops.Unexpected rest) = Reports all fault (Unexpected (tokens_of rest.now))
-IsReported all fault (stops.TooDeep rest) = Reports all fault (TooDeep (tokens_of rest.now))
-IsReported all fault stops.NoMemory = fault ≡ faults.NoMemory
+IsReported all fault (errors.Unexpected rest) = Reports all fault (Unexpected (tokens_of rest.now))
+IsReported all fault (errors.TooDeep rest) = Reports all fault (TooDeep (tokens_of rest.now))
+IsReported all fault errors.NoMemory = fault ≡ faults.NoMemory
 
 -- the fault is what reading stops at, or memory ran out
 abbrev pub IsFault : {A : Type 0} → List Token → ParseFault → ParseResult A → Type 0

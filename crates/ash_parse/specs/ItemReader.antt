@@ -1,17 +1,20 @@
--- ParseResult modules and registered declarations, one function for each phrase.
+-- Reading modules and registered declarations, one function for each phrase.
 use Rattle.std.specs.Prelude.{ℕ, List, [], ◌∷◌, Bool, true, false, Option, Some, None, Ok, Err, if◌then◌else◌}
 use Rattle.ash_lex.specs.Tokens.{Meaning, reserved}
 use Rattle.ash_lex.specs.declared.signs.Sign.TheVariants as signs
 use Rattle.ash_lex.specs.declared.words.ReservedWord.TheVariants as words
 use Rattle.ash_tree.specs.declared.tree.places.Place.{Place}
-use Rattle.ash_tree.specs.Tree.{Named, TypeName, Vars, Stmt, Parameter, Function, Constructor, Member, AMethod, AField, AConstructor, Class, InterfaceMethod, Interface, Item, AClass, AnInterface, AFunction, AGlobal, Declaration, ASignature, AProperty}
+use Rattle.ash_tree.specs.Tree.{Named, TypeName, Vars, Stmt, Parameter, Function, Constructor, Member, AMethod}
+use Rattle.ash_tree.specs.Tree.{AField, AConstructor, Class, InterfaceMethod, Interface, Item, AClass, AnInterface}
+use Rattle.ash_tree.specs.Tree.{AFunction, AGlobal, Declaration, ASignature, AProperty}
 use Rattle.ash_tree.specs.Tokens.{Tokens}
 use Rattle.ash_tree.specs.Expressions.{DEPTH}
 use Rattle.ash_parse.specs.Signs.{is_sign}
 use Rattle.ash_parse.specs.Readers.{ParseResult, Unexpected, ◌>>=◌, put, loop, next_is_sign, expect_at, name_at}
 use Rattle.ash_parse.specs.TypeReader.{is_array, after_element}
 use Rattle.ash_parse.specs.ExpressionReader.{below_at}
-use Rattle.ash_parse.specs.StatementReader.{next_is_name, type_at, is_vars, declared_with, goes_on, block_with, nested_at}
+use Rattle.ash_parse.specs.StatementReader.{next_is_name, type_at, is_vars, vars_statement_with, goes_on, block_with}
+use Rattle.ash_parse.specs.StatementReader.{nested_at}
 
 unfoldable pub is_void : Meaning → Bool
 is_void (reserved words.Void) = true
@@ -47,7 +50,9 @@ more_parameters_at ts = loop (next_is_sign signs.Comma) next_parameter_at ts
 
 -- [ type NAME { "," type NAME } ] before a ")"
 unfoldable pub parameter_list_at : Tokens → ParseResult (List Parameter)
-parameter_list_at ts = if next_is_sign signs.CloseParenthesis ts then Ok ([], ts) else (parameter_at ts >>= λ x. put x.0 (more_parameters_at x.1))
+parameter_list_at ts =
+    if next_is_sign signs.CloseParenthesis ts then Ok ([], ts)
+    else (parameter_at ts >>= λ x. put x.0 (more_parameters_at x.1))
 
 unfoldable pub parameters_at : Tokens → ParseResult (List Parameter)
 parameters_at ts = do
@@ -70,12 +75,12 @@ function_at ts = do
 
 -- vars ";" outside functions
 unfoldable pub globals_at : Tokens → ParseResult Vars
-globals_at ts = declared_with (below_at DEPTH) ts
+globals_at ts = vars_statement_with (below_at DEPTH) ts
 
 -- all but the first token
-unfoldable pub after : Tokens → Tokens
-after [] = []
-after (t ∷ ts) = ts
+unfoldable pub without_first : Tokens → Tokens
+without_first [] = []
+without_first (t ∷ ts) = ts
 
 -- after the "(" of a function's parameters, and not of arguments
 unfoldable pub opens_body : Tokens → Bool
@@ -85,11 +90,13 @@ opens_body ((m, p) ∷ ts) = if is_sign signs.CloseParenthesis m then next_is_si
 -- NAME "(" and what begins parameters
 unfoldable pub names_function : Tokens → Bool
 names_function ts =
-    if next_is_name ts then (if next_is_sign signs.OpenParenthesis (after ts) then (if is_vars (after (after ts)) then true else opens_body (after (after ts))) else false) else false
+    if next_is_name ts then (if next_is_sign signs.OpenParenthesis (without_first ts)
+    then (if is_vars (without_first (without_first ts)) then true else opens_body (without_first (without_first ts)))
+    else false) else false
 
 -- ["@"], and after it NAME "(" and what begins parameters
 unfoldable pub handle_names_function : Tokens → Bool
-handle_names_function ts = if next_is_sign signs.Handle ts then names_function (after ts) else names_function ts
+handle_names_function ts = if next_is_sign signs.Handle ts then names_function (without_first ts) else names_function ts
 
 abbrev pub array_names_function : Option Tokens → Bool
 array_names_function None = false
@@ -98,10 +105,12 @@ array_names_function (Some ts) = handle_names_function ts
 -- the tokens begin a function, and no declaration of variables
 unfoldable pub is_function : Tokens → Bool
 is_function [] = false
-is_function ((m, p) ∷ ts) = if is_void m then true else (if is_array m then array_names_function (after_element ts) else handle_names_function ts)
+is_function ((m, p) ∷ ts) =
+    if is_void m then true
+    else (if is_array m then array_names_function (after_element ts) else handle_names_function ts)
 
 unfoldable pub is_constructor : Tokens → Bool
-is_constructor ts = if next_is_name ts then next_is_sign signs.OpenParenthesis (after ts) else false
+is_constructor ts = if next_is_name ts then next_is_sign signs.OpenParenthesis (without_first ts) else false
 
 unfoldable pub constructor_at : Tokens → ParseResult Constructor
 constructor_at ts = do
@@ -113,7 +122,8 @@ constructor_at ts = do
 unfoldable pub member_at : Tokens → ParseResult Member
 member_at ts =
     if is_constructor ts then (constructor_at ts >>= λ f. Ok (AConstructor f.0, f.1))
-    else (if is_function ts then (function_at ts >>= λ f. Ok (AMethod f.0, f.1)) else (globals_at ts >>= λ v. Ok (AField v.0, v.1)))
+    else (if is_function ts then (function_at ts >>= λ f. Ok (AMethod f.0, f.1))
+    else (globals_at ts >>= λ v. Ok (AField v.0, v.1)))
 
 unfoldable pub members_at : Tokens → ParseResult (List Member)
 members_at ts = loop goes_on member_at ts
@@ -134,7 +144,8 @@ listed_interfaces_at ts = name_at ts >>= λ n. put (record { place = (n.0).1; na
 
 -- [ ":" NAME { "," NAME } ]
 unfoldable pub interfaces_at : Tokens → ParseResult (List TypeName)
-interfaces_at ts = if next_is_sign signs.Colon ts then (expect_at signs.Colon ts >>= λ c. listed_interfaces_at c.1) else Ok ([], ts)
+interfaces_at ts =
+    if next_is_sign signs.Colon ts then (expect_at signs.Colon ts >>= λ c. listed_interfaces_at c.1) else Ok ([], ts)
 
 -- a class after the word `class`
 unfoldable pub class_at : Tokens → ParseResult Class
@@ -169,7 +180,9 @@ interface_at ts = do
 
 -- a function or variables, whichever the tokens begin
 abbrev pub other_item_at : Tokens → ParseResult Item
-other_item_at ts = if is_function ts then (function_at ts >>= λ f. Ok (AFunction f.0, f.1)) else (globals_at ts >>= λ v. Ok (AGlobal v.0, v.1))
+other_item_at ts =
+    if is_function ts then (function_at ts >>= λ f. Ok (AFunction f.0, f.1))
+    else (globals_at ts >>= λ v. Ok (AGlobal v.0, v.1))
 
 unfoldable pub item_at : Tokens → ParseResult Item
 item_at [] = Err (Unexpected [])
@@ -177,7 +190,7 @@ item_at ((m, p) ∷ ts) =
     if is_class m then (class_at ts >>= λ c. Ok (AClass c.0, c.1))
     else (if is_interface m then (interface_at ts >>= λ i. Ok (AnInterface i.0, i.1)) else other_item_at ((m, p) ∷ ts))
 
--- after each ";" in prefix
+-- the tokens after each ";" that they begin with
 unfoldable pub strip : Tokens → Tokens
 strip [] = []
 strip ((m, p) ∷ ts) = if is_sign signs.Semicolon m then strip ts else (m, p) ∷ ts
@@ -199,7 +212,7 @@ module_at ts = entries_at (strip ts)
 
 -- type [NAME]
 unfoldable pub unnamed_at : Tokens → ParseResult Named
-unnamed_at ts = type_at ts >>= λ t. Ok (t.0, if next_is_name t.1 then after t.1 else t.1)
+unnamed_at ts = type_at ts >>= λ t. Ok (t.0, if next_is_name t.1 then without_first t.1 else t.1)
 
 unfoldable pub next_unnamed_at : Tokens → ParseResult Named
 next_unnamed_at ts = do
@@ -210,7 +223,9 @@ unfoldable pub more_unnamed_at : Tokens → ParseResult (List Named)
 more_unnamed_at ts = loop (next_is_sign signs.Comma) next_unnamed_at ts
 
 unfoldable pub unnamed_list_at : Tokens → ParseResult (List Named)
-unnamed_list_at ts = if next_is_sign signs.CloseParenthesis ts then Ok ([], ts) else (unnamed_at ts >>= λ x. put x.0 (more_unnamed_at x.1))
+unnamed_list_at ts =
+    if next_is_sign signs.CloseParenthesis ts then Ok ([], ts)
+    else (unnamed_at ts >>= λ x. put x.0 (more_unnamed_at x.1))
 
 -- "(" [ type [NAME] { "," type [NAME] } ] ")"
 unfoldable pub unnamed_parameters_at : Tokens → ParseResult (List Named)
@@ -225,10 +240,12 @@ abbrev pub property_by : Option Named → Place → List ℕ → Tokens → Pars
 property_by (Some t) p text ts = Ok (AProperty (record { place = p; of = t; name = text }), ts)
 property_by None p text ts = Err (Unexpected ts)
 
--- what stands after the name of a declaration
+-- what is after the name of a declaration
 unfoldable pub declaration_after : Option Named → Place → List ℕ → Tokens → ParseResult Declaration
 declaration_after r p text ts =
-    if next_is_sign signs.OpenParenthesis ts then (unnamed_parameters_at ts >>= λ xs. Ok (ASignature (record { place = p; result = r; name = text; parameters = xs.0 }), xs.1)) else property_by r p text ts
+    if next_is_sign signs.OpenParenthesis ts then (unnamed_parameters_at ts
+    >>= λ xs. Ok (ASignature (record { place = p; result = r; name = text; parameters = xs.0 }), xs.1))
+    else property_by r p text ts
 
 unfoldable pub declaration_at : Tokens → ParseResult Declaration
 declaration_at ts = do

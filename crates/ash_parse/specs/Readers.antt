@@ -1,15 +1,17 @@
--- ParseResult tokens from left to right, as a function. What is read comes with the tokens that are left; a reader that
--- stops reports the tokens from the fault on.
+-- Reading tokens from left to right, as a function. What is read comes with the tokens that are left; a reader that
+-- stops gives the tokens from the fault on.
 use Rattle.std.specs.Prelude.{◌≡◌, ℕ, zero, suc, List, [], ◌∷◌, length, Bool, false, Result, Ok, Err, if◌then◌else◌}
+use Rattle.std.specs.Borrow.{Bor}
 use Rattle.ash_lex.specs.Tokens.{Meaning, name}
 use Rattle.ash_lex.specs.declared.signs.Sign.{Sign}
+use Rattle.ash_lex.specs.declared.tokens.Token.{Token}
 use Rattle.ash_tree.specs.declared.tree.places.Place.{Place}
 use Rattle.ash_tree.specs.Tokens.{Tokens, tokens_of}
 use Rattle.ash_parse.specs.declared.error.ParseError.{ParseError}
-use Rattle.ash_parse.specs.declared.error.ParseError.TheVariants as stops
+use Rattle.ash_parse.specs.declared.error.ParseError.TheVariants as errors
 use Rattle.ash_parse.specs.Signs.{is_sign}
 
--- why reading stops, and the tokens from there on: the first of them fits nowhere, or stands too deep
+-- why reading stops, and the tokens from there on: the first of them fits nowhere, or is too deep
 pub data Halt : Type 0 where
   Unexpected : Tokens → Halt
   TooDeep : Tokens → Halt
@@ -22,17 +24,18 @@ abbrev pub ◌>>=◌ : {A B : Type 0} → ParseResult A → (A × Tokens → Par
 (Ok x) >>= f = f x
 (Err e) >>= f = Err e
 
--- what a function returned, seen by `view`, is what reading gives, unless memory ran out
+-- the error is why `read` stops, or memory ran out
 abbrev pub Fails : {Y : Type 0} → ParseError → ParseResult Y → Type 0
-Fails (stops.Unexpected rest) read = read ≡ Err (Unexpected (tokens_of rest.now))
-Fails (stops.TooDeep rest) read = read ≡ Err (TooDeep (tokens_of rest.now))
-Fails stops.NoMemory read = Unit {0}
+Fails (errors.Unexpected rest) read = read ≡ Err (Unexpected (tokens_of rest.now))
+Fails (errors.TooDeep rest) read = read ≡ Err (TooDeep (tokens_of rest.now))
+Fails errors.NoMemory read = Unit {0}
 
-abbrev pub ParsesAs : {X Y : Type 0} → (X → Y × Tokens) → Result X ParseError → ParseResult Y → Type 0
-ParsesAs view (Ok x) read = read ≡ Ok (view x)
+-- what a function returned, seen by `view`, is what `read` gives, with the same tokens left; or memory ran out
+abbrev pub ParsesAs : {X Y : Type 0} → (X → Y) → Result (X × Bor (List Token)) ParseError → ParseResult Y → Type 0
+ParsesAs view (Ok x) read = read ≡ Ok (view x.0, tokens_of x.1.now)
 ParsesAs view (Err e) read = Fails e read
 
--- one more before what is read
+-- what is read, with one more before it
 abbrev pub put : {A : Type 0} → A → ParseResult (List A) → ParseResult (List A)
 put x (Ok y) = Ok (x ∷ y.0, y.1)
 put x (Err e) = Err e

@@ -2,7 +2,17 @@
 use Rattle.std.specs.Prelude.{ℕ, ◌==◌, Bool, false}
 use Rattle.ash_lex.specs.Tokens.{Meaning, sign}
 use Rattle.ash_lex.specs.declared.signs.Sign.{Sign}
-use Rattle.ash_lex.specs.declared.signs.Sign.TheVariants.{OpenParenthesis, CloseParenthesis, OpenBrace, CloseBrace, OpenBracket, CloseBracket, Semicolon, Comma, Colon, Question, Dot, Handle, BitNot, LogicalNot, NotIs, Assign, Equal, NotEqual, Less, LessOrEqual, Greater, GreaterOrEqual, Plus, Increment, PlusAssign, Minus, Decrement, MinusAssign, Star, StarAssign, Slash, SlashAssign, Percent, PercentAssign, BitAnd, LogicalAnd, BitAndAssign, BitOr, LogicalOr, BitOrAssign, BitXor, LogicalXor, BitXorAssign, ShiftLeft, ShiftLeftAssign, ShiftRight, ShiftRightAssign, ShiftRightArithmetic, ShiftRightArithmeticAssign, Power, Scope}
+use Rattle.ash_lex.specs.declared.signs.Sign.TheVariants.{OpenParenthesis, CloseParenthesis, OpenBrace, CloseBrace}
+use Rattle.ash_lex.specs.declared.signs.Sign.TheVariants.{OpenBracket, CloseBracket, Semicolon, Comma, Colon}
+use Rattle.ash_lex.specs.declared.signs.Sign.TheVariants.{Question, Dot, Handle, BitNot, LogicalNot, NotIs, Assign}
+use Rattle.ash_lex.specs.declared.signs.Sign.TheVariants.{Equal, NotEqual, Less, LessOrEqual, Greater, GreaterOrEqual}
+use Rattle.ash_lex.specs.declared.signs.Sign.TheVariants.{Plus, Increment, PlusAssign, Minus, Decrement, MinusAssign}
+use Rattle.ash_lex.specs.declared.signs.Sign.TheVariants.{Star, StarAssign, Slash, SlashAssign, Percent}
+use Rattle.ash_lex.specs.declared.signs.Sign.TheVariants.{PercentAssign, BitAnd, LogicalAnd, BitAndAssign, BitOr}
+use Rattle.ash_lex.specs.declared.signs.Sign.TheVariants.{LogicalOr, BitOrAssign, BitXor, LogicalXor, BitXorAssign}
+use Rattle.ash_lex.specs.declared.signs.Sign.TheVariants.{ShiftLeft, ShiftLeftAssign, ShiftRight, ShiftRightAssign}
+use Rattle.ash_lex.specs.declared.signs.Sign.TheVariants.{ShiftRightArithmetic, ShiftRightArithmeticAssign, Power}
+use Rattle.ash_lex.specs.declared.signs.Sign.TheVariants.{Scope}
 
 -- the signs counted through
 abbrev pub count : Sign → ℕ

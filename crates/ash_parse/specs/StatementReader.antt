@@ -1,6 +1,7 @@
--- ParseResult types, declarations of variables and statements, one function for each phrase. `below` reads an expression one
--- deeper, and `nested` a statement one deeper.
-use Rattle.std.specs.Prelude.{ℕ, zero, suc, List, [], ◌∷◌, Bool, true, false, not, Option, Some, None, is_some, Ok, Err, if◌then◌else◌}
+-- Reading types, declarations of variables and statements, one function for each phrase. `below` reads an expression
+-- one deeper, and `nested` a statement one deeper.
+use Rattle.std.specs.Prelude.{ℕ, zero, suc, List, [], ◌∷◌, Bool, true, false, not, Option, Some, None, is_some, Ok}
+use Rattle.std.specs.Prelude.{Err, if◌then◌else◌}
 use Rattle.ash_lex.specs.Tokens.{Meaning, name, number, sign, reserved}
 use Rattle.ash_lex.specs.declared.signs.Sign.TheVariants as signs
 use Rattle.ash_lex.specs.declared.words.ReservedWord.TheVariants as words
@@ -8,14 +9,19 @@ use Rattle.ash_tree.specs.declared.tree.places.Place.{Place}
 use Rattle.ash_tree.specs.declared.tree.types.Primitive.{Primitive}
 use Rattle.ash_tree.specs.declared.tree.statements.Label.{Label}
 use Rattle.ash_tree.specs.declared.tree.statements.Label.TheVariants as labels
-use Rattle.ash_tree.specs.Tree.{Named, Prim, Object, Handle, Array, ArrayHandle, Expr, Initializer, Default, Value, Arguments, Decl, Vars, Stmt, Empty, Declare, Evaluate, Block, If, IfElse, While, DoWhile, For, Switch, Break, Continue, Return, Case, labelled, place_of, place_of_type, stmts, cases}
+use Rattle.ash_tree.specs.Tree.{Named, Prim, Object, Handle, Array, ArrayHandle, Expr, Initializer, Default, Value}
+use Rattle.ash_tree.specs.Tree.{Arguments, Decl, Vars, Stmt, Empty, Declare, Evaluate, Block, If, IfElse, While}
+use Rattle.ash_tree.specs.Tree.{DoWhile, For, Switch, Break, Continue, Return, Case, labelled, place_of}
+use Rattle.ash_tree.specs.Tree.{place_of_type, stmts, cases}
 use Rattle.ash_tree.specs.Tokens.{Tokens}
 use Rattle.ash_tree.specs.Operators.{primitive}
-use Rattle.ash_parse.specs.declared.statements.Leading.{Leading}
-use Rattle.ash_parse.specs.declared.statements.Leading.TheVariants as leads
-use Rattle.ash_parse.specs.Readers.{ParseResult, Unexpected, TooDeep, ◌>>=◌, put, loop, next_is, next_is_sign, expect_at, name_at}
+use Rattle.ash_parse.specs.declared.stmt_tokens.StmtToken.{StmtToken}
+use Rattle.ash_parse.specs.declared.stmt_tokens.StmtToken.TheVariants as stmt_tokens
+use Rattle.ash_parse.specs.Readers.{ParseResult, Unexpected, TooDeep, ◌>>=◌, put, loop, next_is, next_is_sign}
+use Rattle.ash_parse.specs.Readers.{expect_at, name_at}
 use Rattle.ash_parse.specs.TypeReader.{is_array, element_at, after_element}
-use Rattle.ash_parse.specs.ExpressionReader.{Below, begins, exprs_with, arguments_with, bracketed_with, assign_with, below_at}
+use Rattle.ash_parse.specs.ExpressionReader.{Below, begins, exprs_with, arguments_with, bracketed_with, assign_with}
+use Rattle.ash_parse.specs.ExpressionReader.{below_at}
 
 unfoldable pub is_name : Meaning → Bool
 is_name (name text) = true
@@ -26,7 +32,8 @@ next_is_name ts = next_is is_name ts
 
 -- ["@"] after what is then a handle
 abbrev pub handle_by : Named → Named → Tokens → ParseResult Named
-handle_by plain handle ts = if next_is_sign signs.Handle ts then (expect_at signs.Handle ts >>= λ h. Ok (handle, h.1)) else Ok (plain, ts)
+handle_by plain handle ts =
+    if next_is_sign signs.Handle ts then (expect_at signs.Handle ts >>= λ h. Ok (handle, h.1)) else Ok (plain, ts)
 
 abbrev pub type_by : Option Primitive → Meaning → Place → Tokens → ParseResult Named
 type_by (Some k) m p ts = Ok (Prim p k, ts)
@@ -51,12 +58,16 @@ array_names_vars (Some ts) = names_vars ts
 unfoldable pub is_vars : Tokens → Bool
 is_vars [] = false
 is_vars ((m, p) ∷ ts) =
-    if is_some (primitive m) then next_is_name ts else (if is_name m then names_vars ts else (if is_array m then array_names_vars (after_element ts) else false))
+    if is_some (primitive m) then next_is_name ts
+    else (if is_name m then names_vars ts
+    else (if is_array m then array_names_vars (after_element ts) else false))
 
 unfoldable pub initializer_with : Below → Tokens → ParseResult Initializer
 initializer_with below ts =
-    if next_is_sign signs.Assign ts then (expect_at signs.Assign ts >>= λ a. assign_with below a.1 >>= λ e. Ok (Value e.0, e.1))
-    else (if next_is_sign signs.OpenParenthesis ts then (arguments_with below ts >>= λ es. Ok (Arguments es.0, es.1)) else Ok (Default, ts))
+    if next_is_sign signs.Assign ts
+    then (expect_at signs.Assign ts >>= λ a. assign_with below a.1 >>= λ e. Ok (Value e.0, e.1))
+    else (if next_is_sign signs.OpenParenthesis ts
+    then (arguments_with below ts >>= λ es. Ok (Arguments es.0, es.1)) else Ok (Default, ts))
 
 unfoldable pub decl_with : Below → Tokens → ParseResult Decl
 decl_with below ts = do
@@ -82,8 +93,8 @@ vars_with below ts = do
   Ok (record { of = t.0; decls = ds.0 }, ds.1)
 
 -- vars ";"
-unfoldable pub declared_with : Below → Tokens → ParseResult Vars
-declared_with below ts = do
+unfoldable pub vars_statement_with : Below → Tokens → ParseResult Vars
+vars_statement_with below ts = do
   v ← vars_with below ts
   s ← expect_at signs.Semicolon v.1
   Ok (v.0, s.1)
@@ -92,7 +103,7 @@ declared_with below ts = do
 unfoldable pub first_with : Below → Tokens → ParseResult Stmt
 first_with below ts =
     if next_is_sign signs.Semicolon ts then (expect_at signs.Semicolon ts >>= λ s. Ok (Empty s.0, s.1))
-    else (if is_vars ts then (declared_with below ts >>= λ v. Ok (Declare (place_of_type (v.0).of) v.0, v.1))
+    else (if is_vars ts then (vars_statement_with below ts >>= λ v. Ok (Declare (place_of_type (v.0).of) v.0, v.1))
     else (below true ts >>= λ e. expect_at signs.Semicolon e.1 >>= λ s. Ok (Evaluate (place_of e.0) e.0, s.1)))
 
 -- the second part of the head of a `for`, with its ";"
@@ -101,62 +112,62 @@ test_with below ts =
     if next_is_sign signs.Semicolon ts then (expect_at signs.Semicolon ts >>= λ s. Ok (None, s.1))
     else (below true ts >>= λ e. expect_at signs.Semicolon e.1 >>= λ s. Ok (Some e.0, s.1))
 
--- what stands after `return`, with its ";"
-unfoldable pub result_with : Below → Tokens → ParseResult (Option Expr)
-result_with below ts =
+-- what is after `return`, with its ";"
+unfoldable pub return_value_with : Below → Tokens → ParseResult (Option Expr)
+return_value_with below ts =
     if next_is_sign signs.Semicolon ts then (expect_at signs.Semicolon ts >>= λ s. Ok (None, s.1))
     else (assign_with below ts >>= λ e. expect_at signs.Semicolon e.1 >>= λ s. Ok (Some e.0, s.1))
 
 -- what a statement that begins with a token is
-unfoldable pub leading : Meaning → Leading
-leading (sign signs.OpenBrace) = leads.Block
-leading (sign signs.CloseBrace) = leads.End
-leading (sign signs.Semicolon) = leads.Empty
-leading (reserved words.If) = leads.If
-leading (reserved words.Else) = leads.Else
-leading (reserved words.While) = leads.While
-leading (reserved words.Do) = leads.Do
-leading (reserved words.For) = leads.For
-leading (reserved words.Switch) = leads.Switch
-leading (reserved words.Case) = leads.Case
-leading (reserved words.Default) = leads.Default
-leading (reserved words.Break) = leads.Break
-leading (reserved words.Continue) = leads.Continue
-leading (reserved words.Return) = leads.Return
-leading _ = leads.Other
+unfoldable pub stmt_token : Meaning → StmtToken
+stmt_token (sign signs.OpenBrace) = stmt_tokens.Block
+stmt_token (sign signs.CloseBrace) = stmt_tokens.End
+stmt_token (sign signs.Semicolon) = stmt_tokens.Empty
+stmt_token (reserved words.If) = stmt_tokens.If
+stmt_token (reserved words.Else) = stmt_tokens.Else
+stmt_token (reserved words.While) = stmt_tokens.While
+stmt_token (reserved words.Do) = stmt_tokens.Do
+stmt_token (reserved words.For) = stmt_tokens.For
+stmt_token (reserved words.Switch) = stmt_tokens.Switch
+stmt_token (reserved words.Case) = stmt_tokens.Case
+stmt_token (reserved words.Default) = stmt_tokens.Default
+stmt_token (reserved words.Break) = stmt_tokens.Break
+stmt_token (reserved words.Continue) = stmt_tokens.Continue
+stmt_token (reserved words.Return) = stmt_tokens.Return
+stmt_token _ = stmt_tokens.Other
 
-abbrev pub begins_by : Leading → Bool → Bool
-begins_by leads.Other b = b
-begins_by leads.Else b = false
-begins_by leads.End b = false
-begins_by leads.Case b = false
-begins_by leads.Default b = false
+abbrev pub begins_by : StmtToken → Bool → Bool
+begins_by stmt_tokens.Other b = b
+begins_by stmt_tokens.Else b = false
+begins_by stmt_tokens.End b = false
+begins_by stmt_tokens.Case b = false
+begins_by stmt_tokens.Default b = false
 begins_by _ b = true
 
 -- the token begins a statement
 unfoldable pub begins_stmt : Meaning → Bool
-begins_stmt m = begins_by (leading m) (begins m)
+begins_stmt m = begins_by (stmt_token m) (begins m)
 
 unfoldable pub stmt_limit_at : Tokens → ParseResult Stmt
 stmt_limit_at ts = if next_is begins_stmt ts then Err (TooDeep ts) else Err (Unexpected ts)
 
-abbrev pub is_end : Leading → Bool
-is_end leads.End = true
+abbrev pub is_end : StmtToken → Bool
+is_end stmt_tokens.End = true
 is_end _ = false
 
-abbrev pub ends_case : Leading → Bool
-ends_case leads.End = true
-ends_case leads.Case = true
-ends_case leads.Default = true
+abbrev pub ends_case : StmtToken → Bool
+ends_case stmt_tokens.End = true
+ends_case stmt_tokens.Case = true
+ends_case stmt_tokens.Default = true
 ends_case _ = false
 
 -- a block goes on: it doesn't end here
 unfoldable pub goes_on : Tokens → Bool
-goes_on ts = next_is (λ m. not (is_end (leading m))) ts
+goes_on ts = next_is (λ m. not (is_end (stmt_token m))) ts
 
 -- the statements after a label go on
 unfoldable pub case_goes_on : Tokens → Bool
-case_goes_on ts = next_is (λ m. not (ends_case (leading m))) ts
+case_goes_on ts = next_is (λ m. not (ends_case (stmt_token m))) ts
 
 abbrev pub Nested : Type 0
 Nested = Tokens → ParseResult Stmt
@@ -168,14 +179,15 @@ evaluate_with below ts = do
   s ← expect_at signs.Semicolon e.1
   Ok (Evaluate (place_of e.0) e.0, s.1)
 
-abbrev pub is_else : Leading → Bool
-is_else leads.Else = true
+abbrev pub is_else : StmtToken → Bool
+is_else stmt_tokens.Else = true
 is_else _ = false
 
 -- after the first branch of an `if`
 unfoldable pub else_with : Nested → Place → Expr → Stmt → Tokens → ParseResult Stmt
 else_with nested p c s [] = Ok (If p c s, [])
-else_with nested p c s ((m, o) ∷ ts) = if is_else (leading m) then (nested ts >>= λ t. Ok (IfElse p c s t.0, t.1)) else Ok (If p c s, (m, o) ∷ ts)
+else_with nested p c s ((m, o) ∷ ts) =
+    if is_else (stmt_token m) then (nested ts >>= λ t. Ok (IfElse p c s t.0, t.1)) else Ok (If p c s, (m, o) ∷ ts)
 
 unfoldable pub if_with : Below → Nested → Place → Tokens → ParseResult Stmt
 if_with below nested p ts = do
@@ -189,14 +201,14 @@ while_with below nested p ts = do
   s ← nested c.1
   Ok (While p c.0 s.0, s.1)
 
-abbrev pub is_while : Leading → Bool
-is_while leads.While = true
+abbrev pub is_while : StmtToken → Bool
+is_while stmt_tokens.While = true
 is_while _ = false
 
 -- the word `while`
 unfoldable pub while_at : Tokens → ParseResult Place
 while_at [] = Err (Unexpected [])
-while_at ((m, p) ∷ ts) = if is_while (leading m) then Ok (p, ts) else Err (Unexpected ((m, p) ∷ ts))
+while_at ((m, p) ∷ ts) = if is_while (stmt_token m) then Ok (p, ts) else Err (Unexpected ((m, p) ∷ ts))
 
 -- "while" "(" assign ")" ";" after the body of a `do`
 unfoldable pub do_end_with : Below → Place → Stmt → Tokens → ParseResult Stmt
@@ -232,17 +244,18 @@ number_at ((m, p) ∷ ts) = Err (Unexpected ((m, p) ∷ ts))
 -- ["-"] NUMBER ":"
 unfoldable pub case_value_at : Tokens → ParseResult (Label × Place)
 case_value_at ts =
-    if next_is_sign signs.Minus ts then (expect_at signs.Minus ts >>= λ o. number_at o.1 >>= λ n. expect_at signs.Colon n.1 >>= λ c. Ok ((labels.CaseMinus (n.0).0, o.0), c.1))
+    if next_is_sign signs.Minus ts then (expect_at signs.Minus ts >>= λ o. number_at o.1
+    >>= λ n. expect_at signs.Colon n.1 >>= λ c. Ok ((labels.CaseMinus (n.0).0, o.0), c.1))
     else (number_at ts >>= λ n. expect_at signs.Colon n.1 >>= λ c. Ok ((labels.Case (n.0).0, (n.0).1), c.1))
 
-abbrev pub label_by : Leading → Meaning → Place → Tokens → ParseResult (Label × Place)
-label_by leads.Case m p ts = case_value_at ts
-label_by leads.Default m p ts = expect_at signs.Colon ts >>= λ c. Ok ((labels.Default, p), c.1)
+abbrev pub label_by : StmtToken → Meaning → Place → Tokens → ParseResult (Label × Place)
+label_by stmt_tokens.Case m p ts = case_value_at ts
+label_by stmt_tokens.Default m p ts = expect_at signs.Colon ts >>= λ c. Ok ((labels.Default, p), c.1)
 label_by _ m p ts = Err (Unexpected ((m, p) ∷ ts))
 
 unfoldable pub label_at : Tokens → ParseResult (Label × Place)
 label_at [] = Err (Unexpected [])
-label_at ((m, p) ∷ ts) = label_by (leading m) m p ts
+label_at ((m, p) ∷ ts) = label_by (stmt_token m) m p ts
 
 unfoldable pub stmts_with : Nested → Tokens → ParseResult (List Stmt)
 stmts_with nested ts = loop case_goes_on nested ts
@@ -270,7 +283,9 @@ switch_with below nested p ts = do
 
 -- vars ";" | stmt
 unfoldable pub local_with : Below → Nested → Tokens → ParseResult Stmt
-local_with below nested ts = if is_vars ts then (declared_with below ts >>= λ v. Ok (Declare (place_of_type (v.0).of) v.0, v.1)) else nested ts
+local_with below nested ts =
+    if is_vars ts then (vars_statement_with below ts >>= λ v. Ok (Declare (place_of_type (v.0).of) v.0, v.1))
+    else nested ts
 
 unfoldable pub locals_with : Below → Nested → Tokens → ParseResult (List Stmt)
 locals_with below nested ts = loop goes_on (local_with below nested) ts
@@ -282,23 +297,24 @@ block_with below nested ts = do
   z ← expect_at signs.CloseBrace ss.1
   Ok (ss.0, z.1)
 
-abbrev pub stmt_by : Leading → Below → Nested → Meaning → Place → Tokens → ParseResult Stmt
-stmt_by leads.Block below nested m p ts = block_with below nested ((m, p) ∷ ts) >>= λ b. Ok (Block p (stmts b.0), b.1)
-stmt_by leads.Empty below nested m p ts = Ok (Empty p, ts)
-stmt_by leads.If below nested m p ts = if_with below nested p ts
-stmt_by leads.While below nested m p ts = while_with below nested p ts
-stmt_by leads.Do below nested m p ts = do_with below nested p ts
-stmt_by leads.For below nested m p ts = for_with below nested p ts
-stmt_by leads.Switch below nested m p ts = switch_with below nested p ts
-stmt_by leads.Break below nested m p ts = expect_at signs.Semicolon ts >>= λ s. Ok (Break p, s.1)
-stmt_by leads.Continue below nested m p ts = expect_at signs.Semicolon ts >>= λ s. Ok (Continue p, s.1)
-stmt_by leads.Return below nested m p ts = result_with below ts >>= λ e. Ok (Return p e.0, e.1)
-stmt_by leads.Other below nested m p ts = evaluate_with below ((m, p) ∷ ts)
+abbrev pub stmt_by : StmtToken → Below → Nested → Meaning → Place → Tokens → ParseResult Stmt
+stmt_by stmt_tokens.Block below nested m p ts =
+    block_with below nested ((m, p) ∷ ts) >>= λ b. Ok (Block p (stmts b.0), b.1)
+stmt_by stmt_tokens.Empty below nested m p ts = Ok (Empty p, ts)
+stmt_by stmt_tokens.If below nested m p ts = if_with below nested p ts
+stmt_by stmt_tokens.While below nested m p ts = while_with below nested p ts
+stmt_by stmt_tokens.Do below nested m p ts = do_with below nested p ts
+stmt_by stmt_tokens.For below nested m p ts = for_with below nested p ts
+stmt_by stmt_tokens.Switch below nested m p ts = switch_with below nested p ts
+stmt_by stmt_tokens.Break below nested m p ts = expect_at signs.Semicolon ts >>= λ s. Ok (Break p, s.1)
+stmt_by stmt_tokens.Continue below nested m p ts = expect_at signs.Semicolon ts >>= λ s. Ok (Continue p, s.1)
+stmt_by stmt_tokens.Return below nested m p ts = return_value_with below ts >>= λ e. Ok (Return p e.0, e.1)
+stmt_by stmt_tokens.Other below nested m p ts = evaluate_with below ((m, p) ∷ ts)
 stmt_by _ below nested m p ts = Err (Unexpected ((m, p) ∷ ts))
 
 unfoldable pub stmt_with : Below → Nested → Tokens → ParseResult Stmt
 stmt_with below nested [] = Err (Unexpected [])
-stmt_with below nested ((m, p) ∷ ts) = stmt_by (leading m) below nested m p ts
+stmt_with below nested ((m, p) ∷ ts) = stmt_by (stmt_token m) below nested m p ts
 
 -- with room for so many deeper phrases, one in the other
 unfoldable pub nested_at : ℕ → Nested

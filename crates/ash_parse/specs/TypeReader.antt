@@ -1,4 +1,4 @@
--- ParseResult the type of an array's elements and the type that a cast names, and passing the former.
+-- Reading the type of an array's elements and the type that a cast names, and passing the former.
 use Rattle.std.specs.Prelude.{[], ◌∷◌, Bool, true, false, Option, Some, None, Ok, Err, if◌then◌else◌}
 use Rattle.ash_lex.specs.Tokens.{Meaning, name, reserved}
 use Rattle.ash_lex.specs.declared.signs.Sign.{Sign}
@@ -42,7 +42,7 @@ target_at ts = do
   z ← expect_at signs.Greater n.1
   Ok (record { place = (n.0).1; name = (n.0).0 }, z.1)
 
--- after this sign, where it stands
+-- after this sign, where it is next
 unfoldable pub after_sign : Sign → Tokens → Option Tokens
 after_sign s [] = None
 after_sign s ((m, p) ∷ ts) = if is_sign s m then Some ts else None
@@ -52,7 +52,7 @@ after_elem_by (Some k) m ts = Some ts
 after_elem_by None (name text) ts = after_sign signs.Handle ts
 after_elem_by None m ts = None
 
--- after an elem, where one stands
+-- after an elem, where one is next
 unfoldable pub after_elem : Tokens → Option Tokens
 after_elem [] = None
 after_elem ((m, p) ∷ ts) = after_elem_by (primitive m) m ts
@@ -61,6 +61,7 @@ abbrev pub and_after : Option Tokens → (Tokens → Option Tokens) → Option T
 and_after None f = None
 and_after (Some ts) f = f ts
 
--- after "<" elem ">", where it stands
+-- after "<" elem ">", where it is next
 unfoldable pub after_element : Tokens → Option Tokens
-after_element ts = and_after (after_sign signs.Less ts) (λ o. and_after (after_elem o) (λ e. after_sign signs.Greater e))
+after_element ts =
+    and_after (after_sign signs.Less ts) (λ o. and_after (after_elem o) (λ e. after_sign signs.Greater e))

@@ -28,12 +28,15 @@ HasNotBoth ts = (items : List Item) (halt : Halt) → Derives 0 ts items → Fir
 
 -- two first faults of these tokens, as a declaration, are one
 abbrev pub HasOneDeclarationFault : Tokens → Type 0
-HasOneDeclarationFault ts = (first second : Halt) → FirstDeclarationFault ts first → FirstDeclarationFault ts second → first ≡ second
+HasOneDeclarationFault ts =
+    (first second : Halt) → FirstDeclarationFault ts first → FirstDeclarationFault ts second → first ≡ second
 
 -- these tokens derive a declaration, or have a first fault as one
 abbrev pub HasDeclarationOrFault : Tokens → Type 0
-HasDeclarationOrFault ts = ((declared : Declaration) × Declares ts declared) ⊎ ((halt : Halt) × FirstDeclarationFault ts halt)
+HasDeclarationOrFault ts =
+    ((declared : Declaration) × Declares ts declared) ⊎ ((halt : Halt) × FirstDeclarationFault ts halt)
 
 -- and not both
 abbrev pub HasNotBothDeclared : Tokens → Type 0
-HasNotBothDeclared ts = (declared : Declaration) (halt : Halt) → Declares ts declared → FirstDeclarationFault ts halt → ⊥
+HasNotBothDeclared ts =
+    (declared : Declaration) (halt : Halt) → Declares ts declared → FirstDeclarationFault ts halt → ⊥

@@ -5,8 +5,9 @@ ghost use Rattle.ash_lex.specs.Tokens.{meaning_of};
 ghost use Rattle.ash_tree.specs.Tokens.{tokens_of, place_of_token};
 ghost use Rattle.ash_parse.specs.Signs as signs;
 ghost use Rattle.ash_parse.specs.Readers as reading;
+ghost use Rattle.ash_parse.specs.ItemReader as item_reader;
 
-use crate::error::{ParseResult, ParseError};
+use crate::error::{ParseError, ParseResult};
 use ash_lex::{Sign, Token, TokenKind};
 use ash_tree::Place;
 use std::alloc::Global;
@@ -42,7 +43,7 @@ pub fn is_sign(sign: Sign, token: &Token) -> bool
     }
 }
 
-#[tactic(auto, unfolding(crate::specs::ParseResult::next_is_sign))]
+#[tactic(auto, unfolding(crate::specs::Readers::next_is_sign))]
 pub fn next_is_sign(sign: Sign, tokens: &[Token]) -> bool
     ensures { result ≡ reading.next_is_sign sign (tokens_of tokens.now) }
 {
@@ -53,9 +54,9 @@ pub fn next_is_sign(sign: Sign, tokens: &[Token]) -> bool
 }
 
 /// This sign, and what is after it.
-#[tactic(auto, unfolding(crate::specs::ParseResult::expect_at))]
+#[tactic(auto, unfolding(crate::specs::Readers::expect_at))]
 pub fn expect(sign: Sign, tokens: &[Token]) -> ParseResult<'_, Place>
-    ensures { reading.ParsesAs (λ x. (x.0, tokens_of x.1.now)) result (reading.expect_at sign (tokens_of tokens.now)) }
+    ensures { reading.ParsesAs (λ x. x) result (reading.expect_at sign (tokens_of tokens.now)) }
 {
     let Some((next, rest)) = tokens.split_first() else {
         return Err(ParseError::Unexpected(tokens));
@@ -68,9 +69,10 @@ pub fn expect(sign: Sign, tokens: &[Token]) -> ParseResult<'_, Place>
 }
 
 /// A name with its place, and what is after it.
-#[tactic(auto, unfolding(crate::specs::ParseResult::name_at))]
+#[tactic(auto, unfolding(crate::specs::Readers::name_at))]
 pub fn name(alloc: Global, tokens: &[Token]) -> ParseResult<'_, (String, Place)>
-    ensures { reading.ParsesAs (λ x. ((string_bytes (x.0).0, (x.0).1), tokens_of x.1.now)) result (reading.name_at (tokens_of tokens.now)) }
+    ensures { reading.ParsesAs (λ x. (string_bytes x.0, x.1)) result
+        (reading.name_at (tokens_of tokens.now)) }
 {
     let Some((next, rest)) = tokens.split_first() else {
         return Err(ParseError::Unexpected(tokens));
@@ -81,5 +83,16 @@ pub fn name(alloc: Global, tokens: &[Token]) -> ParseResult<'_, (String, Place)>
             Ok(((text, place(next)), rest))
         }
         _ => Err(ParseError::Unexpected(tokens)),
+    }
+}
+
+/// All but the first token.
+#[tactic(auto, unfolding(crate::specs::ItemReader::without_first))]
+pub fn without_first(tokens: &[Token]) -> &[Token]
+    ensures { tokens_of result.now ≡ item_reader.without_first (tokens_of tokens.now) }
+{
+    match tokens.split_first() {
+        Some((_, rest)) => rest,
+        None => tokens,
     }
 }

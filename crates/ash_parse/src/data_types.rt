@@ -1,6 +1,6 @@
-//! ParseResult types.
+//! Reads types.
 //!
-//! Each function reads the phrase that stands above it.
+//! Each function reads the phrase that is written above it.
 
 ghost use Rattle.std.specs.Prelude.{◌≡◌, option_map};
 ghost use Rattle.ash_lex.specs.Tokens.{meaning_of};
@@ -12,8 +12,8 @@ ghost use Rattle.ash_parse.specs.TypeReader as types;
 ghost use Rattle.ash_parse.specs.StatementReader as reader;
 
 use crate::cursor::{expect, is_sign, name, next_is_sign, place};
+use crate::error::{ParseError, ParseResult};
 use crate::operators::primitive;
-use crate::error::{ParseResult, ParseError};
 use ash_lex::{ReservedWord, Sign, Token, TokenKind};
 use ash_tree::{Element, ElementKind, Place, Type, TypeKind, TypeName};
 use std::alloc::Global;
@@ -28,7 +28,7 @@ pub fn is_array(kind: &TokenKind) -> bool
 /// `prim | NAME "@"`
 #[tactic(auto, unfolding(crate::specs::TypeReader::elem_at))]
 fn elem(alloc: Global, tokens: &[Token]) -> ParseResult<'_, Element>
-    ensures { ParsesAs (λ x. (element_of x.0, tokens_of x.1.now)) result (types.elem_at (tokens_of tokens.now)) }
+    ensures { ParsesAs element_of result (types.elem_at (tokens_of tokens.now)) }
 {
     let Some((next, rest)) = tokens.split_first() else {
         return Err(ParseError::Unexpected(tokens));
@@ -50,7 +50,7 @@ fn elem(alloc: Global, tokens: &[Token]) -> ParseResult<'_, Element>
 /// `"<" elem ">"`
 #[tactic(auto, unfolding(crate::specs::TypeReader::element_at))]
 pub fn element(alloc: Global, tokens: &[Token]) -> ParseResult<'_, Element>
-    ensures { ParsesAs (λ x. (element_of x.0, tokens_of x.1.now)) result (types.element_at (tokens_of tokens.now)) }
+    ensures { ParsesAs element_of result (types.element_at (tokens_of tokens.now)) }
 {
     let (_, rest) = expect(Sign::Less, tokens)?;
     let (element, rest) = elem(alloc, rest)?;
@@ -61,7 +61,7 @@ pub fn element(alloc: Global, tokens: &[Token]) -> ParseResult<'_, Element>
 /// `"<" NAME ">"`
 #[tactic(auto, unfolding(crate::specs::TypeReader::target_at))]
 pub fn target(alloc: Global, tokens: &[Token]) -> ParseResult<'_, TypeName>
-    ensures { ParsesAs (λ x. (type_name_of x.0, tokens_of x.1.now)) result (types.target_at (tokens_of tokens.now)) }
+    ensures { ParsesAs type_name_of result (types.target_at (tokens_of tokens.now)) }
 {
     let (_, rest) = expect(Sign::Less, tokens)?;
     let ((name, place), rest) = name(alloc, rest)?;
@@ -69,10 +69,11 @@ pub fn target(alloc: Global, tokens: &[Token]) -> ParseResult<'_, TypeName>
     Ok((TypeName { place, name }, rest))
 }
 
-/// What is after this sign, where it stands.
+/// What is after this sign, where it is next.
 #[tactic(auto, unfolding(crate::specs::TypeReader::after_sign))]
 fn after_sign(sign: Sign, tokens: &[Token]) -> Option<&[Token]>
-    ensures { option_map (λ x. tokens_of x.now) result ≡ types.after_sign sign (tokens_of tokens.now) }
+    ensures { option_map (λ x. tokens_of x.now) result
+        ≡ types.after_sign sign (tokens_of tokens.now) }
 {
     let (next, rest) = tokens.split_first()?;
     if is_sign(sign, next) {
@@ -82,7 +83,7 @@ fn after_sign(sign: Sign, tokens: &[Token]) -> Option<&[Token]>
     }
 }
 
-/// What is after an `elem`, where one stands.
+/// What is after an `elem`, where one is next.
 #[tactic(auto, unfolding(crate::specs::TypeReader::after_elem))]
 fn after_elem(tokens: &[Token]) -> Option<&[Token]>
     ensures { option_map (λ x. tokens_of x.now) result ≡ types.after_elem (tokens_of tokens.now) }
@@ -97,10 +98,11 @@ fn after_elem(tokens: &[Token]) -> Option<&[Token]>
     }
 }
 
-/// What is after `"<" elem ">"`, where it stands.
+/// What is after `"<" elem ">"`, where it is next.
 #[tactic(auto, unfolding(crate::specs::TypeReader::after_element))]
 pub fn after_element(tokens: &[Token]) -> Option<&[Token]>
-    ensures { option_map (λ x. tokens_of x.now) result ≡ types.after_element (tokens_of tokens.now) }
+    ensures { option_map (λ x. tokens_of x.now) result
+        ≡ types.after_element (tokens_of tokens.now) }
 {
     let rest = after_sign(Sign::Less, tokens)?;
     let rest = after_elem(rest)?;
@@ -124,7 +126,7 @@ pub fn next_is_name(tokens: &[Token]) -> bool
     is_name(&next.kind)
 }
 
-/// Whether a declaration goes on so after the name of an object type, and no expression.
+/// Whether these tokens, after the name of an object type, go on with a declaration and no expression.
 fn names_vars(tokens: &[Token]) -> bool
     ensures { result ≡ reader.names_vars (tokens_of tokens.now) }
 {
@@ -157,7 +159,9 @@ pub fn is_vars(tokens: &[Token]) -> bool
 
 /// `["@"]` after an array's type
 fn array_type<'a>(place: Place, element: Element, tokens: &'a [Token]) -> ParseResult<'a, Type>
-    ensures { ParsesAs (λ x. (type_of x.0, tokens_of x.1.now)) result (reader.handle_by (Array place (element_of element)) (ArrayHandle place (element_of element)) (tokens_of tokens.now)) }
+    ensures { ParsesAs type_of result
+        (reader.handle_by (Array place (element_of element))
+        (ArrayHandle place (element_of element)) (tokens_of tokens.now)) }
 {
     if !next_is_sign(Sign::Handle, tokens) {
         let kind = TypeKind::Array(element);
@@ -171,7 +175,7 @@ fn array_type<'a>(place: Place, element: Element, tokens: &'a [Token]) -> ParseR
 /// `prim | NAME ["@"] | "array" "<" elem ">" ["@"]`
 #[tactic(auto, unfolding(crate::specs::StatementReader::type_at))]
 pub fn type_name(alloc: Global, tokens: &[Token]) -> ParseResult<'_, Type>
-    ensures { ParsesAs (λ x. (type_of x.0, tokens_of x.1.now)) result (reader.type_at (tokens_of tokens.now)) }
+    ensures { ParsesAs type_of result (reader.type_at (tokens_of tokens.now)) }
 {
     let Some((next, rest)) = tokens.split_first() else {
         return Err(ParseError::Unexpected(tokens));
@@ -198,7 +202,8 @@ fn object_type<'a>(
     text: &str,
     tokens: &'a [Token],
 ) -> ParseResult<'a, Type>
-    ensures { ParsesAs (λ x. (type_of x.0, tokens_of x.1.now)) result (reader.handle_by (Object place text.now) (Handle place text.now) (tokens_of tokens.now)) }
+    ensures { ParsesAs type_of result
+        (reader.handle_by (Object place text.now) (Handle place text.now) (tokens_of tokens.now)) }
 {
     let text = String::from_str(alloc, text)?;
     if !next_is_sign(Sign::Handle, tokens) {

@@ -11,7 +11,7 @@ use std::alloc::{AllocError, AllocFailed};
 pub enum ParseError<'a> {
     /// No phrase goes on with the first of these tokens, or with the end where there is none.
     Unexpected(&'a [Token]),
-    /// The first of these tokens stands too deep.
+    /// The first of these tokens is too deep.
     TooDeep(&'a [Token]),
     /// Memory ran out.
     NoMemory,
@@ -21,7 +21,7 @@ pub enum ParseError<'a> {
 pub type ParseResult<'a, T> = Result<(T, &'a [Token]), ParseError<'a>>;
 
 impl<'a> From<AllocError> for ParseError<'a> {
-    ghost from_gives = { λ _ stop. stop ≡ NoMemory };
+    ghost from_gives = { λ _ error. error ≡ NoMemory };
 
     fn from(_error: AllocError) -> ParseError<'a> {
         ParseError::NoMemory
@@ -29,7 +29,7 @@ impl<'a> From<AllocError> for ParseError<'a> {
 }
 
 impl<'a, T: Drop> From<AllocFailed<T>> for ParseError<'a> {
-    ghost from_gives = { λ _ stop. stop ≡ NoMemory };
+    ghost from_gives = { λ _ error. error ≡ NoMemory };
 
     fn from(_error: AllocFailed<T>) -> ParseError<'a> {
         ParseError::NoMemory

@@ -1,7 +1,7 @@
-//! ParseResult an expression.
+//! Reads an expression.
 //!
-//! Each function reads the phrase that stands above it. `room` is how many phrases that count for the depth may still
-//! begin, one in the other.
+//! Each function reads the phrase that is written above it. `room` is how many phrases that count for the depth may
+//! still begin, one in the other.
 
 ghost use Rattle.std.specs.Prelude.{◌≡◌, ◌<◌, ◌≤◌, map, string_bytes, option_map, true, false, IfOk, Err};
 ghost use Rattle.ash_tree.specs.Tokens.{tokens_of, place_of_token};
@@ -12,19 +12,17 @@ ghost use Rattle.ash_parse.specs.ExpressionReader as reader;
 
 use crate::cursor::{expect, is_sign, name, next_is_sign, place};
 use crate::data_types::{element, target};
+use crate::error::{ParseError, ParseResult};
 use crate::operators::{
-    assign_operator, begins_expression, binary_operator, level, primitive, unary_operator,
+    MAX_LEVEL, assign_operator, begins_expression, begins_link, begins_suffix, next_level,
+    operator, primitive, unary_operator,
 };
-use crate::error::{ParseResult, ParseError};
 use ash_lex::{ReservedWord, Sign, Token, TokenKind};
-use ash_tree::{BinaryOp, Expr, ExprKind, Link, Place, Suffix, nodes};
+use ash_tree::{Expr, ExprKind, Link, Place, Suffix, nodes};
 use std::alloc::{AllocError, Global};
 
-/// How deep a token stands at most.
-pub const DEPTH: u32 = 64;
-
-/// The loosest level of operators.
-const LEVELS: u32 = 10;
+/// How deep a token is at most.
+pub const MAX_DEPTH: u32 = 64;
 
 /// Why a phrase can't begin where no deeper one may.
 #[tactic(auto, unfolding(crate::specs::ExpressionReader::limit_at))]
@@ -41,30 +39,39 @@ fn limit(tokens: &[Token]) -> ParseError<'_>
     }
 }
 
-/// What stands one deeper: an `assign`, or else a `unary`.
+/// An `assign` that is one deeper.
 #[cycle(expressions)]
-pub fn below<'a>(alloc: Global, whole: bool, room: u32, tokens: &'a [Token]) -> ParseResult<'a, Expr>
-    requires { room ≤ DEPTH }
-    ensures { ParsesAs (λ x. (expr_of x.0, tokens_of x.1.now)) result (reader.below_at room whole (tokens_of tokens.now)) }
+pub fn nested_assign(alloc: Global, room: u32, tokens: &[Token]) -> ParseResult<'_, Expr>
+    requires { room ≤ MAX_DEPTH }
+    ensures { ParsesAs expr_of result (reader.below_at room true (tokens_of tokens.now)) }
 {
     if room == 0 {
         return Err(limit(tokens));
     }
-    if whole {
-        assign(alloc, room - 1, tokens)
-    } else {
-        unary(alloc, room - 1, tokens)
+    assign(alloc, room - 1, tokens)
+}
+
+/// A `unary` that is one deeper.
+#[cycle(expressions)]
+fn nested_unary(alloc: Global, room: u32, tokens: &[Token]) -> ParseResult<'_, Expr>
+    requires { room ≤ MAX_DEPTH }
+    ensures { ParsesAs expr_of result (reader.below_at room false (tokens_of tokens.now)) }
+{
+    if room == 0 {
+        return Err(limit(tokens));
     }
+    unary(alloc, room - 1, tokens)
 }
 
 /// `cond [ aop assign ]`, where `cond` is `binary [ "?" assign ":" assign ]`
 #[cycle(expressions)]
 #[tactic(auto, unfolding(crate::specs::ExpressionReader::assign_with, crate::specs::ExpressionReader::assign_from))]
 pub fn assign(alloc: Global, room: u32, tokens: &[Token]) -> ParseResult<'_, Expr>
-    requires { room ≤ DEPTH }
-    ensures { ParsesAs (λ x. (expr_of x.0, tokens_of x.1.now)) result (reader.assign_with (reader.below_at room) (tokens_of tokens.now)) }
+    requires { room ≤ MAX_DEPTH }
+    ensures { ParsesAs expr_of result
+        (reader.assign_with (reader.below_at room) (tokens_of tokens.now)) }
 {
-    let (target, rest) = binary(alloc, LEVELS, room, tokens)?;
+    let (target, rest) = binary(alloc, MAX_LEVEL, room, tokens)?;
     let Some((next, after)) = rest.split_first() else {
         return Ok((target, rest));
     };
@@ -74,22 +81,40 @@ pub fn assign(alloc: Global, room: u32, tokens: &[Token]) -> ParseResult<'_, Exp
     let Some(operator) = assign_operator(&next.kind) else {
         return Ok((target, rest));
     };
-    let (value, rest) = below(alloc, true, room, after)?;
+    let (value, rest) = nested_assign(alloc, room, after)?;
     Ok((nodes::assign(alloc, target, operator, value)?, rest))
+}
+
+/// A condition with the first of its branches, and where they are.
+struct FirstBranch {
+    place: Place,
+    condition: Box<Expr>,
+    then: Box<Expr>,
 }
 
 /// `assign ":" assign`, after the `?`
 #[cycle(expressions)]
 #[tactic(auto, unfolding(crate::specs::ExpressionReader::branches_with, crate::specs::ExpressionReader::other_branch_with), using(ash_tree::proofs::Rows::place_is))]
-fn branches<'a>(alloc: Global, room: u32, condition: Expr, tokens: &'a [Token]) -> ParseResult<'a, Expr>
-    requires { room ≤ DEPTH }
-    ensures { ParsesAs (λ x. (expr_of x.0, tokens_of x.1.now)) result (reader.branches_with (reader.below_at room) (expr_of condition) (tokens_of tokens.now)) }
+fn branches<'a>(
+    alloc: Global,
+    room: u32,
+    condition: Expr,
+    tokens: &'a [Token],
+) -> ParseResult<'a, Expr>
+    requires { room ≤ MAX_DEPTH }
+    ensures { ParsesAs expr_of result
+        (reader.branches_with (reader.below_at room) (expr_of condition) (tokens_of tokens.now)) }
 {
     let place = condition.place;
     let condition = boxed(alloc, condition)?;
-    let (then, rest) = below(alloc, true, room, tokens)?;
+    let (then, rest) = nested_assign(alloc, room, tokens)?;
     let then = boxed(alloc, then)?;
-    other_branch(alloc, room, place, condition, then, rest)
+    let first = FirstBranch {
+        place,
+        condition,
+        then,
+    };
+    other_branch(alloc, room, first, rest)
 }
 
 /// `":" assign`, after the first branch
@@ -98,23 +123,29 @@ fn branches<'a>(alloc: Global, room: u32, condition: Expr, tokens: &'a [Token]) 
 fn other_branch<'a>(
     alloc: Global,
     room: u32,
-    place: Place,
-    condition: Box<Expr>,
-    then: Box<Expr>,
+    first: FirstBranch,
     tokens: &'a [Token],
 ) -> ParseResult<'a, Expr>
-    requires { room ≤ DEPTH }
-    ensures { ParsesAs (λ x. (expr_of x.0, tokens_of x.1.now)) result (reader.other_branch_with (reader.below_at room) place (expr_of condition.value) (expr_of then.value) (tokens_of tokens.now)) }
+    requires { room ≤ MAX_DEPTH }
+    ensures { ParsesAs expr_of result
+        (reader.other_branch_with (reader.below_at room) first.place (expr_of first.condition.value)
+        (expr_of first.then.value) (tokens_of tokens.now)) }
 {
+    let FirstBranch {
+        place,
+        condition,
+        then,
+    } = first;
     let (_, rest) = expect(Sign::Colon, tokens)?;
-    let (otherwise, rest) = below(alloc, true, room, rest)?;
+    let (otherwise, rest) = nested_assign(alloc, room, rest)?;
     let otherwise = boxed(alloc, otherwise)?;
     Ok((conditional(place, condition, then, otherwise), rest))
 }
 
 /// A condition with both its branches.
 fn conditional(place: Place, condition: Box<Expr>, then: Box<Expr>, otherwise: Box<Expr>) -> Expr
-    ensures { expr_of result ≡ Conditional place (expr_of condition.value) (expr_of then.value) (expr_of otherwise.value) }
+    ensures { expr_of result ≡ Conditional place (expr_of condition.value) (expr_of then.value)
+        (expr_of otherwise.value) }
 {
     Expr {
         place,
@@ -135,9 +166,10 @@ fn boxed(alloc: Global, operand: Expr) -> Result<Box<Expr>, AllocError>
 /// What operators up to this level join, from the tightest level on; without a level a `unary`.
 #[cycle(expressions)]
 fn binary(alloc: Global, level: u32, room: u32, tokens: &[Token]) -> ParseResult<'_, Expr>
-    requires loosest { level ≤ LEVELS }
-    requires room { room ≤ DEPTH }
-    ensures { ParsesAs (λ x. (expr_of x.0, tokens_of x.1.now)) result (reader.binary_with (reader.below_at room) level (tokens_of tokens.now)) }
+    requires loosest { level ≤ MAX_LEVEL }
+    requires room { room ≤ MAX_DEPTH }
+    ensures { ParsesAs expr_of result
+        (reader.binary_with (reader.below_at room) level (tokens_of tokens.now)) }
 {
     let (mut joined, mut rest) = unary(alloc, room, tokens)?;
     let mut reached = 0;
@@ -152,12 +184,14 @@ fn binary(alloc: Global, level: u32, room: u32, tokens: &[Token]) -> ParseResult
     Ok((joined, rest))
 }
 
-/// The operators that join operands of this level, each with its right operand: mostly one stands alone.
+/// The operators that join operands of this level, each with its right operand. Mostly there is one.
 #[cycle(expressions)]
 fn links(alloc: Global, level: u32, room: u32, tokens: &[Token]) -> ParseResult<'_, Vec<Link>>
-    requires loosest { level < LEVELS }
-    requires room { room ≤ DEPTH }
-    ensures { ParsesAs (λ x. (map operation_of x.0.items, tokens_of x.1.now)) result (reader.links_by level (reader.binary_with (reader.below_at room) level) (tokens_of tokens.now)) }
+    requires loosest { level < MAX_LEVEL }
+    requires room { room ≤ MAX_DEPTH }
+    ensures { ParsesAs (λ xs. map operation_of xs.items) result
+        (reader.links_by level (reader.binary_with (reader.below_at room) level)
+        (tokens_of tokens.now)) }
 {
     let mut links = Vec::with_capacity(alloc, 1)?;
     let mut rest = tokens;
@@ -172,9 +206,11 @@ fn links(alloc: Global, level: u32, room: u32, tokens: &[Token]) -> ParseResult<
 #[cycle(expressions)]
 #[tactic(auto, unfolding(crate::specs::ExpressionReader::link_by))]
 fn link(alloc: Global, level: u32, room: u32, tokens: &[Token]) -> ParseResult<'_, Link>
-    requires loosest { level < LEVELS }
-    requires room { room ≤ DEPTH }
-    ensures { ParsesAs (λ x. (operation_of x.0, tokens_of x.1.now)) result (reader.link_by level (reader.binary_with (reader.below_at room) level) (tokens_of tokens.now)) }
+    requires loosest { level < MAX_LEVEL }
+    requires room { room ≤ MAX_DEPTH }
+    ensures { ParsesAs operation_of result
+        (reader.link_by level (reader.binary_with (reader.below_at room) level)
+        (tokens_of tokens.now)) }
 {
     let Some((operator, rest)) = operator(level, tokens) else {
         return Err(ParseError::Unexpected(tokens));
@@ -183,49 +219,13 @@ fn link(alloc: Global, level: u32, room: u32, tokens: &[Token]) -> ParseResult<'
     Ok((Link { operator, operand }, rest))
 }
 
-/// The level of the operator that stands next; 0 where none does.
-#[tactic(auto, unfolding(crate::specs::ExpressionReader::next_level))]
-fn next_level(tokens: &[Token]) -> u32
-    ensures { result ≡ reader.next_level (tokens_of tokens.now) }
-{
-    let Some((next, _)) = tokens.split_first() else {
-        return 0;
-    };
-    match binary_operator(&next.kind) {
-        Some(operator) => level(operator),
-        None => 0,
-    }
-}
-
-/// An operator that joins operands of this level.
-#[tactic(auto, unfolding(crate::specs::ExpressionReader::operator_at))]
-fn operator(operands: u32, tokens: &[Token]) -> Option<(BinaryOp, &[Token])>
-    requires { operands < LEVELS }
-    ensures { option_map (λ x. (x.0, tokens_of x.1.now)) result ≡ reader.operator_at operands (tokens_of tokens.now) }
-{
-    let (next, rest) = tokens.split_first()?;
-    let operator = binary_operator(&next.kind)?;
-    if level(operator) == operands + 1 {
-        Some((operator, rest))
-    } else {
-        None
-    }
-}
-
-#[tactic(auto, unfolding(crate::specs::ExpressionReader::is_link))]
-fn begins_link(level: u32, tokens: &[Token]) -> bool
-    requires { level < LEVELS }
-    ensures { result ≡ reader.is_link level (tokens_of tokens.now) }
-{
-    operator(level, tokens).is_some()
-}
-
 /// `( + - ! ~ ++ -- @ ) unary | postfix`
 #[cycle(expressions)]
 #[tactic(auto, unfolding(crate::specs::ExpressionReader::unary_with))]
 fn unary(alloc: Global, room: u32, tokens: &[Token]) -> ParseResult<'_, Expr>
-    requires { room ≤ DEPTH }
-    ensures { ParsesAs (λ x. (expr_of x.0, tokens_of x.1.now)) result (reader.unary_with (reader.below_at room) (tokens_of tokens.now)) }
+    requires { room ≤ MAX_DEPTH }
+    ensures { ParsesAs expr_of result
+        (reader.unary_with (reader.below_at room) (tokens_of tokens.now)) }
 {
     let Some((next, rest)) = tokens.split_first() else {
         return Err(ParseError::Unexpected(tokens));
@@ -234,7 +234,7 @@ fn unary(alloc: Global, room: u32, tokens: &[Token]) -> ParseResult<'_, Expr>
         return postfix(alloc, room, tokens);
     };
     let place = place(next);
-    let (operand, rest) = below(alloc, false, room, rest)?;
+    let (operand, rest) = nested_unary(alloc, room, rest)?;
     Ok((nodes::unary(alloc, place, operator, operand)?, rest))
 }
 
@@ -242,8 +242,9 @@ fn unary(alloc: Global, room: u32, tokens: &[Token]) -> ParseResult<'_, Expr>
 #[cycle(expressions)]
 #[tactic(auto, unfolding(crate::specs::ExpressionReader::postfix_with))]
 fn postfix(alloc: Global, room: u32, tokens: &[Token]) -> ParseResult<'_, Expr>
-    requires { room ≤ DEPTH }
-    ensures { ParsesAs (λ x. (expr_of x.0, tokens_of x.1.now)) result (reader.postfix_with (reader.below_at room) (tokens_of tokens.now)) }
+    requires { room ≤ MAX_DEPTH }
+    ensures { ParsesAs expr_of result
+        (reader.postfix_with (reader.below_at room) (tokens_of tokens.now)) }
 {
     let (operand, rest) = primary(alloc, room, tokens)?;
     if !begins_suffix(rest) {
@@ -253,24 +254,12 @@ fn postfix(alloc: Global, room: u32, tokens: &[Token]) -> ParseResult<'_, Expr>
     Ok((nodes::postfix(alloc, operand, suffixes)?, rest))
 }
 
-#[tactic(auto, unfolding(crate::specs::ExpressionReader::is_suffix, crate::specs::ExpressionReader::begins_suffix))]
-fn begins_suffix(tokens: &[Token]) -> bool
-    ensures { result ≡ reader.is_suffix (tokens_of tokens.now) }
-{
-    let Some((next, _)) = tokens.split_first() else {
-        return false;
-    };
-    matches!(
-        &next.kind,
-        TokenKind::Sign(Sign::Dot | Sign::OpenBracket | Sign::Increment | Sign::Decrement)
-    )
-}
-
-/// `suffix { suffix }`: mostly one stands alone.
+/// `suffix { suffix }`. Mostly there is one.
 #[cycle(expressions)]
 fn suffixes(alloc: Global, room: u32, tokens: &[Token]) -> ParseResult<'_, Vec<Suffix>>
-    requires { room ≤ DEPTH }
-    ensures { ParsesAs (λ x. (map suffix_of x.0.items, tokens_of x.1.now)) result (reader.suffixes_with (reader.below_at room) (tokens_of tokens.now)) }
+    requires { room ≤ MAX_DEPTH }
+    ensures { ParsesAs (λ xs. map suffix_of xs.items) result
+        (reader.suffixes_with (reader.below_at room) (tokens_of tokens.now)) }
 {
     let mut suffixes = Vec::with_capacity(alloc, 1)?;
     let mut rest = tokens;
@@ -286,8 +275,9 @@ fn suffixes(alloc: Global, room: u32, tokens: &[Token]) -> ParseResult<'_, Vec<S
 #[cycle(expressions)]
 #[tactic(auto, unfolding(crate::specs::ExpressionReader::suffix_with))]
 fn suffix(alloc: Global, room: u32, tokens: &[Token]) -> ParseResult<'_, Suffix>
-    requires { room ≤ DEPTH }
-    ensures { ParsesAs (λ x. (suffix_of x.0, tokens_of x.1.now)) result (reader.suffix_with (reader.below_at room) (tokens_of tokens.now)) }
+    requires { room ≤ MAX_DEPTH }
+    ensures { ParsesAs suffix_of result
+        (reader.suffix_with (reader.below_at room) (tokens_of tokens.now)) }
 {
     let Some((next, rest)) = tokens.split_first() else {
         return Err(ParseError::Unexpected(tokens));
@@ -305,8 +295,9 @@ fn suffix(alloc: Global, room: u32, tokens: &[Token]) -> ParseResult<'_, Suffix>
 #[cycle(expressions)]
 #[tactic(auto, unfolding(crate::specs::ExpressionReader::member_with))]
 fn member(alloc: Global, room: u32, tokens: &[Token]) -> ParseResult<'_, Suffix>
-    requires { room ≤ DEPTH }
-    ensures { ParsesAs (λ x. (suffix_of x.0, tokens_of x.1.now)) result (reader.member_with (reader.below_at room) (tokens_of tokens.now)) }
+    requires { room ≤ MAX_DEPTH }
+    ensures { ParsesAs suffix_of result
+        (reader.member_with (reader.below_at room) (tokens_of tokens.now)) }
 {
     let ((name, place), rest) = name(alloc, tokens)?;
     if !next_is_sign(Sign::OpenParenthesis, rest) {
@@ -320,10 +311,11 @@ fn member(alloc: Global, room: u32, tokens: &[Token]) -> ParseResult<'_, Suffix>
 #[cycle(expressions)]
 #[tactic(auto, unfolding(crate::specs::ExpressionReader::index_with))]
 fn index(alloc: Global, room: u32, tokens: &[Token]) -> ParseResult<'_, Suffix>
-    requires { room ≤ DEPTH }
-    ensures { ParsesAs (λ x. (suffix_of x.0, tokens_of x.1.now)) result (reader.index_with (reader.below_at room) (tokens_of tokens.now)) }
+    requires { room ≤ MAX_DEPTH }
+    ensures { ParsesAs suffix_of result
+        (reader.index_with (reader.below_at room) (tokens_of tokens.now)) }
 {
-    let (value, rest) = below(alloc, true, room, tokens)?;
+    let (value, rest) = nested_assign(alloc, room, tokens)?;
     let (_, rest) = expect(Sign::CloseBracket, rest)?;
     Ok((nodes::index(alloc, value)?, rest))
 }
@@ -333,8 +325,9 @@ fn index(alloc: Global, room: u32, tokens: &[Token]) -> ParseResult<'_, Suffix>
 #[cycle(expressions)]
 #[tactic(auto, unfolding(crate::specs::ExpressionReader::primary_with))]
 fn primary(alloc: Global, room: u32, tokens: &[Token]) -> ParseResult<'_, Expr>
-    requires { room ≤ DEPTH }
-    ensures { ParsesAs (λ x. (expr_of x.0, tokens_of x.1.now)) result (reader.primary_with (reader.below_at room) (tokens_of tokens.now)) }
+    requires { room ≤ MAX_DEPTH }
+    ensures { ParsesAs expr_of result
+        (reader.primary_with (reader.below_at room) (tokens_of tokens.now)) }
 {
     let Some((next, rest)) = tokens.split_first() else {
         return Err(ParseError::Unexpected(tokens));
@@ -345,7 +338,7 @@ fn primary(alloc: Global, room: u32, tokens: &[Token]) -> ParseResult<'_, Expr>
         return Ok((nodes::convert(alloc, place, to, value)?, rest));
     }
     let kind = match &next.kind {
-        TokenKind::Name(text) => return named(alloc, room, place, text.as_str(), rest),
+        TokenKind::Name(text) => return name_or_call(alloc, room, place, text.as_str(), rest),
         TokenKind::Sign(Sign::OpenParenthesis) => {
             let (inner, rest) = bracketed(alloc, room, tokens)?;
             return Ok((nodes::brackets(alloc, place, inner)?, rest));
@@ -366,8 +359,9 @@ fn primary(alloc: Global, room: u32, tokens: &[Token]) -> ParseResult<'_, Expr>
 #[cycle(expressions)]
 #[tactic(auto, unfolding(crate::specs::ExpressionReader::new_array_with))]
 fn new_array(alloc: Global, room: u32, place: Place, tokens: &[Token]) -> ParseResult<'_, Expr>
-    requires { room ≤ DEPTH }
-    ensures { ParsesAs (λ x. (expr_of x.0, tokens_of x.1.now)) result (reader.new_array_with (reader.below_at room) place (tokens_of tokens.now)) }
+    requires { room ≤ MAX_DEPTH }
+    ensures { ParsesAs expr_of result
+        (reader.new_array_with (reader.below_at room) place (tokens_of tokens.now)) }
 {
     let (of, rest) = element(alloc, tokens)?;
     let (arguments, rest) = arguments(alloc, room, rest)?;
@@ -378,8 +372,9 @@ fn new_array(alloc: Global, room: u32, place: Place, tokens: &[Token]) -> ParseR
 #[cycle(expressions)]
 #[tactic(auto, unfolding(crate::specs::ExpressionReader::cast_with))]
 fn cast(alloc: Global, room: u32, place: Place, tokens: &[Token]) -> ParseResult<'_, Expr>
-    requires { room ≤ DEPTH }
-    ensures { ParsesAs (λ x. (expr_of x.0, tokens_of x.1.now)) result (reader.cast_with (reader.below_at room) place (tokens_of tokens.now)) }
+    requires { room ≤ MAX_DEPTH }
+    ensures { ParsesAs expr_of result
+        (reader.cast_with (reader.below_at room) place (tokens_of tokens.now)) }
 {
     let (to, rest) = target(alloc, tokens)?;
     let (value, rest) = bracketed(alloc, room, rest)?;
@@ -388,16 +383,17 @@ fn cast(alloc: Global, room: u32, place: Place, tokens: &[Token]) -> ParseResult
 
 /// `NAME [args]`, after the name
 #[cycle(expressions)]
-#[tactic(auto, unfolding(crate::specs::ExpressionReader::named_with))]
-fn named<'a>(
+#[tactic(auto, unfolding(crate::specs::ExpressionReader::name_or_call_with))]
+fn name_or_call<'a>(
     alloc: Global,
     room: u32,
     place: Place,
     text: &str,
     tokens: &'a [Token],
 ) -> ParseResult<'a, Expr>
-    requires { room ≤ DEPTH }
-    ensures { ParsesAs (λ x. (expr_of x.0, tokens_of x.1.now)) result (reader.named_with (reader.below_at room) place text.now (tokens_of tokens.now)) }
+    requires { room ≤ MAX_DEPTH }
+    ensures { ParsesAs expr_of result
+        (reader.name_or_call_with (reader.below_at room) place text.now (tokens_of tokens.now)) }
 {
     let name = String::from_str(alloc, text)?;
     if !next_is_sign(Sign::OpenParenthesis, tokens) {
@@ -412,11 +408,12 @@ fn named<'a>(
 #[cycle(expressions)]
 #[tactic(auto, unfolding(crate::specs::ExpressionReader::bracketed_with))]
 pub fn bracketed(alloc: Global, room: u32, tokens: &[Token]) -> ParseResult<'_, Expr>
-    requires { room ≤ DEPTH }
-    ensures { ParsesAs (λ x. (expr_of x.0, tokens_of x.1.now)) result (reader.bracketed_with (reader.below_at room) (tokens_of tokens.now)) }
+    requires { room ≤ MAX_DEPTH }
+    ensures { ParsesAs expr_of result
+        (reader.bracketed_with (reader.below_at room) (tokens_of tokens.now)) }
 {
     let (_, rest) = expect(Sign::OpenParenthesis, tokens)?;
-    let (inner, rest) = below(alloc, true, room, rest)?;
+    let (inner, rest) = nested_assign(alloc, room, rest)?;
     let (_, rest) = expect(Sign::CloseParenthesis, rest)?;
     Ok((inner, rest))
 }
@@ -425,8 +422,9 @@ pub fn bracketed(alloc: Global, room: u32, tokens: &[Token]) -> ParseResult<'_, 
 #[cycle(expressions)]
 #[tactic(auto, unfolding(crate::specs::ExpressionReader::arguments_with))]
 pub fn arguments(alloc: Global, room: u32, tokens: &[Token]) -> ParseResult<'_, Vec<Expr>>
-    requires { room ≤ DEPTH }
-    ensures { ParsesAs (λ x. (map expr_of x.0.items, tokens_of x.1.now)) result (reader.arguments_with (reader.below_at room) (tokens_of tokens.now)) }
+    requires { room ≤ MAX_DEPTH }
+    ensures { ParsesAs (λ xs. map expr_of xs.items) result
+        (reader.arguments_with (reader.below_at room) (tokens_of tokens.now)) }
 {
     let (_, rest) = expect(Sign::OpenParenthesis, tokens)?;
     let (arguments, rest) = expressions(alloc, room, rest)?;
@@ -438,13 +436,14 @@ pub fn arguments(alloc: Global, room: u32, tokens: &[Token]) -> ParseResult<'_, 
 #[cycle(expressions)]
 #[tactic(auto, unfolding(crate::specs::ExpressionReader::exprs_with))]
 pub fn expressions(alloc: Global, room: u32, tokens: &[Token]) -> ParseResult<'_, Vec<Expr>>
-    requires { room ≤ DEPTH }
-    ensures { ParsesAs (λ x. (map expr_of x.0.items, tokens_of x.1.now)) result (reader.exprs_with (reader.below_at room) (tokens_of tokens.now)) }
+    requires { room ≤ MAX_DEPTH }
+    ensures { ParsesAs (λ xs. map expr_of xs.items) result
+        (reader.exprs_with (reader.below_at room) (tokens_of tokens.now)) }
 {
     if next_is_sign(Sign::CloseParenthesis, tokens) {
         return Ok((Vec::new(alloc), tokens));
     }
-    let (first, rest) = below(alloc, true, room, tokens)?;
+    let (first, rest) = nested_assign(alloc, room, tokens)?;
     more_expressions(alloc, room, first, rest)
 }
 
@@ -456,8 +455,10 @@ fn more_expressions<'a>(
     first: Expr,
     tokens: &'a [Token],
 ) -> ParseResult<'a, Vec<Expr>>
-    requires { room ≤ DEPTH }
-    ensures { ParsesAs (λ x. (map expr_of x.0.items, tokens_of x.1.now)) result (put (expr_of first) (reader.more_exprs_with (reader.below_at room) (tokens_of tokens.now))) }
+    requires { room ≤ MAX_DEPTH }
+    ensures { ParsesAs (λ xs. map expr_of xs.items) result
+        (put (expr_of first)
+        (reader.more_exprs_with (reader.below_at room) (tokens_of tokens.now))) }
 {
     let mut all = Vec::with_capacity(alloc, 1)?;
     all.push(first)?;
@@ -474,9 +475,10 @@ fn more_expressions<'a>(
 #[cycle(expressions)]
 #[tactic(auto, unfolding(crate::specs::ExpressionReader::next_expr_with))]
 fn next_expression(alloc: Global, room: u32, tokens: &[Token]) -> ParseResult<'_, Expr>
-    requires { room ≤ DEPTH }
-    ensures { ParsesAs (λ x. (expr_of x.0, tokens_of x.1.now)) result (reader.next_expr_with (reader.below_at room) (tokens_of tokens.now)) }
+    requires { room ≤ MAX_DEPTH }
+    ensures { ParsesAs expr_of result
+        (reader.next_expr_with (reader.below_at room) (tokens_of tokens.now)) }
 {
     let (_, rest) = expect(Sign::Comma, tokens)?;
-    below(alloc, true, room, rest)
+    nested_assign(alloc, room, rest)
 }

@@ -10,7 +10,7 @@ use thiserror::Error;
 /// A part of AngelScript that this profile does not have.
 #[derive(Clone, Copy, Debug, PartialEq, Eq)]
 pub enum UnsupportedPart {
-    /// What this word stands for.
+    /// The part that this word names.
     Word(UnsupportedWord),
     /// The power sign `**`.
     Power,
@@ -41,8 +41,8 @@ impl fmt::Display for UnsupportedPart {
     }
 }
 
-/// Why tokens have no tree. `at` is a byte offset, from 0: that of a token's first byte, or of the end of the last token
-/// (0 without tokens) where the tokens end too early.
+/// Why tokens have no tree. `at` is a byte offset, from 0: that of a token's first byte, or of the end of the last
+/// token (0 without tokens) where the tokens end too early.
 #[derive(Clone, Copy, Debug, PartialEq, Eq, Error)]
 pub enum ParseFault {
     /// The first token that the tokens before it do not go on with, or the end.
@@ -51,7 +51,7 @@ pub enum ParseFault {
     /// The same, where this token is a word or sign that the profile does not have.
     #[error("105 Unsupported {word} {at}")]
     Unsupported { word: UnsupportedPart, at: usize },
-    /// The first token that stands deeper than 64.
+    /// The first token that is deeper than 64.
     #[error("106 TooDeep {at}")]
     TooDeep { at: usize },
     /// Memory ran out.

@@ -1,12 +1,16 @@
 //! Which tokens are operators, and which words name primitive types.
 
-ghost use Rattle.std.specs.Prelude.{◌≡◌};
+ghost use Rattle.std.specs.Prelude.{◌≡◌, ◌<◌, option_map};
 ghost use Rattle.ash_lex.specs.Tokens.{meaning_of};
+ghost use Rattle.ash_tree.specs.Tokens.{tokens_of};
 ghost use Rattle.ash_tree.specs.Operators as spec;
 ghost use Rattle.ash_parse.specs.ExpressionReader as reader;
 
-use ash_lex::{ReservedWord, Sign, TokenKind};
+use ash_lex::{ReservedWord, Sign, Token, TokenKind};
 use ash_tree::{AssignOp, BinaryOp, Primitive, UnaryOp};
+
+/// The loosest level of operators.
+pub const MAX_LEVEL: u32 = 10;
 
 /// The primitive type that a word names.
 #[tactic(auto, unfolding(ash_tree::specs::Operators::primitive))]
@@ -117,6 +121,57 @@ pub fn assign_operator(kind: &TokenKind) -> Option<AssignOp>
         _ => return None,
     };
     Some(operator)
+}
+
+/// The level of the operator that is next; 0 where none is.
+#[tactic(auto, unfolding(crate::specs::ExpressionReader::next_level))]
+pub fn next_level(tokens: &[Token]) -> u32
+    ensures { result ≡ reader.next_level (tokens_of tokens.now) }
+{
+    let Some((next, _)) = tokens.split_first() else {
+        return 0;
+    };
+    match binary_operator(&next.kind) {
+        Some(operator) => level(operator),
+        None => 0,
+    }
+}
+
+/// An operator that joins operands of this level.
+#[tactic(auto, unfolding(crate::specs::ExpressionReader::operator_at))]
+pub fn operator(operands: u32, tokens: &[Token]) -> Option<(BinaryOp, &[Token])>
+    requires { operands < MAX_LEVEL }
+    ensures { option_map (λ x. (x.0, tokens_of x.1.now)) result
+        ≡ reader.operator_at operands (tokens_of tokens.now) }
+{
+    let (next, rest) = tokens.split_first()?;
+    let operator = binary_operator(&next.kind)?;
+    if level(operator) == operands + 1 {
+        Some((operator, rest))
+    } else {
+        None
+    }
+}
+
+#[tactic(auto, unfolding(crate::specs::ExpressionReader::is_link))]
+pub fn begins_link(level: u32, tokens: &[Token]) -> bool
+    requires { level < MAX_LEVEL }
+    ensures { result ≡ reader.is_link level (tokens_of tokens.now) }
+{
+    operator(level, tokens).is_some()
+}
+
+#[tactic(auto, unfolding(crate::specs::ExpressionReader::is_suffix, crate::specs::ExpressionReader::begins_suffix))]
+pub fn begins_suffix(tokens: &[Token]) -> bool
+    ensures { result ≡ reader.is_suffix (tokens_of tokens.now) }
+{
+    let Some((next, _)) = tokens.split_first() else {
+        return false;
+    };
+    matches!(
+        &next.kind,
+        TokenKind::Sign(Sign::Dot | Sign::OpenBracket | Sign::Increment | Sign::Decrement)
+    )
 }
 
 /// Whether a token begins an expression.

@@ -9,12 +9,15 @@ ghost use Rattle.ash_tree.specs.Grammar.{Derives, Declares};
 ghost use Rattle.ash_parse.specs.Readers.{Unexpected, ParsesAs};
 ghost use Rattle.ash_parse.specs.declared.faults.ParseFault.TheVariants.{NoMemory};
 ghost use Rattle.ash_parse.specs.FirstFault.{FirstFault, FirstDeclarationFault, ReportsFirst};
-ghost use Rattle.ash_parse.specs.Unique.{HasOneModule, HasOneDeclaration, HasOneFault, HasTreeOrFault, HasNotBoth, HasOneDeclarationFault, HasDeclarationOrFault, HasNotBothDeclared};
+ghost use Rattle.ash_parse.specs.Unique.{HasOneModule, HasOneFault, HasTreeOrFault, HasNotBoth};
+ghost use Rattle.ash_parse.specs.Unique.{HasOneDeclaration, HasOneDeclarationFault};
+ghost use Rattle.ash_parse.specs.Unique.{HasDeclarationOrFault, HasNotBothDeclared};
 ghost use Rattle.ash_parse.specs.Faults.{Reports, part_of, end_of, start, IsReported, whole_declaration_at};
 
+use crate::declarations::declaration;
+use crate::error::{ParseError, ParseResult};
 use crate::faults::{ParseFault, UnsupportedPart};
-use crate::items::{declaration, is_left, items};
-use crate::error::{ParseResult, ParseError};
+use crate::items::{is_left, items};
 use ash_lex::{Sign, Token, TokenKind};
 use ash_tree::{Declaration, Module};
 use std::alloc::Global;
@@ -32,7 +35,7 @@ fn part_of(kind: &TokenKind) -> Option<UnsupportedPart>
     }
 }
 
-/// Where the first of the tokens from the fault on stands, or where all of the tokens end.
+/// Where the first of the tokens from the fault on begins, or where all of the tokens end.
 fn offset(tokens: &[Token], rest: &[Token]) -> usize
     ensures { result ≡ start (end_of tokens.now) (tokens_of rest.now) }
 {
@@ -53,10 +56,10 @@ fn end(tokens: &[Token]) -> usize
 }
 
 /// What is reported of why reading stopped.
-fn fault(tokens: &[Token], stop: ParseError) -> ParseFault
-    ensures { IsReported tokens.now result stop.entry }
+fn fault(tokens: &[Token], error: ParseError) -> ParseFault
+    ensures { IsReported tokens.now result error.entry }
 {
-    match stop {
+    match error {
         ParseError::Unexpected(rest) => unexpected(tokens, rest),
         ParseError::TooDeep(rest) => ParseFault::TooDeep {
             at: offset(tokens, rest),
@@ -86,20 +89,21 @@ fn unexpected(tokens: &[Token], rest: &[Token]) -> ParseFault
 /// # Errors
 ///
 /// Tokens that have no tree within depth 64 are refused with a fault: [`ParseFault::Unexpected`] or
-/// [`ParseFault::Unsupported`] at the first token that fits nowhere, [`ParseFault::TooDeep`] at the first that stands too
+/// [`ParseFault::Unsupported`] at the first token that fits nowhere, [`ParseFault::TooDeep`] at the first that is too
 /// deep, whichever comes first. Where memory runs out the answer is [`ParseFault::NoMemory`].
 #[tactic(auto, using(crate::proofs::ItemSound::module_sound, crate::proofs::Reported::reported_is_fault, crate::proofs::ItemComplete::items_are_one, crate::proofs::ItemComplete::module_memory, crate::proofs::FirstFaults::module_reported_first))]
 pub fn parse_module(alloc: Global, tokens: &[Token]) -> Result<Module, ParseFault>
     // What is answered is a tree that the tokens derive, all of them, within depth 64.
     ensures derived { IfOk result (λ tree. Derives 0 (tokens_of tokens.now) (module_of tree)) }
     // Whatever the tokens derive within depth 64 is what is answered, unless memory runs out.
-    ensures only { (derived : List Item) → Derives 0 (tokens_of tokens.now) derived → MatchResult result (λ tree. module_of tree ≡ derived) (λ fault. fault ≡ NoMemory) }
-    // A fault is the first by the grammar: what stands before it begins a module, and nothing that goes on with it is one.
+    ensures only { (derived : List Item) → Derives 0 (tokens_of tokens.now) derived
+        → MatchResult result (λ tree. module_of tree ≡ derived) (λ fault. fault ≡ NoMemory) }
+    // A fault is the first by the grammar: the tokens before it begin a module, and nothing that goes on with it is one.
     ensures first { IfErr result (λ fault. ReportsFirst FirstFault tokens.now fault) }
 {
     match items(alloc, tokens) {
         Ok((items, _)) => Ok(Module { items }),
-        Err(stop) => Err(fault(tokens, stop)),
+        Err(error) => Err(fault(tokens, error)),
     }
 }
 
@@ -113,20 +117,22 @@ pub fn parse_declaration(alloc: Global, tokens: &[Token]) -> Result<Declaration,
     // What is answered is a tree that the tokens derive, all of them.
     ensures derived { IfOk result (λ tree. Declares (tokens_of tokens.now) (declaration_of tree)) }
     // Whatever the tokens derive is what is answered, unless memory runs out.
-    ensures only { (derived : DeclarationTree) → Declares (tokens_of tokens.now) derived → MatchResult result (λ tree. declaration_of tree ≡ derived) (λ fault. fault ≡ NoMemory) }
-    // A fault is the first by the grammar: what stands before it begins a declaration, and nothing that goes on with it is one.
+    ensures only { (derived : DeclarationTree) → Declares (tokens_of tokens.now) derived
+        → MatchResult result (λ tree. declaration_of tree ≡ derived) (λ fault. fault ≡ NoMemory) }
+    // A fault is the first by the grammar: the tokens before it begin a declaration, and nothing that goes on with it
+    // is one.
     ensures first { IfErr result (λ fault. ReportsFirst FirstDeclarationFault tokens.now fault) }
 {
     match whole_declaration(alloc, tokens) {
         Ok((declaration, _)) => Ok(declaration),
-        Err(stop) => Err(fault(tokens, stop)),
+        Err(error) => Err(fault(tokens, error)),
     }
 }
 
 /// A declaration with nothing after it.
 #[tactic(auto, using(crate::proofs::ItemShorter::left_is_none), unfolding(crate::specs::Faults::whole_declaration_at))]
 fn whole_declaration(alloc: Global, tokens: &[Token]) -> ParseResult<'_, Declaration>
-    ensures read { ParsesAs (λ x. (declaration_of x.0, tokens_of x.1.now)) result (whole_declaration_at (tokens_of tokens.now)) }
+    ensures read { ParsesAs declaration_of result (whole_declaration_at (tokens_of tokens.now)) }
     ensures all { IfOk result (λ x. tokens_of x.1.now ≡ []) }
 {
     let (declaration, rest) = declaration(alloc, tokens)?;
@@ -152,8 +158,8 @@ pub fn has_one_declaration(tokens: &[Token])
     let _tokens = tokens;
 }
 
-/// That the tokens of a script have a tree or, if they have none, one first fault, by the grammar. It does nothing when it
-/// runs.
+/// That the tokens of a script have a tree or, if they have none, one first fault, by the grammar. It does nothing
+/// when it runs.
 #[tactic(auto, using(crate::proofs::OneFault::one_fault, crate::proofs::OneFault::not_both_had))]
 pub fn has_one_fault(tokens: &[Token])
     ensures one { HasOneFault (tokens_of tokens.now) }
@@ -163,8 +169,8 @@ pub fn has_one_fault(tokens: &[Token])
     let _tokens = tokens;
 }
 
-/// That the tokens of a registered declaration have a tree or, if they have none, one first fault. It does nothing when it
-/// runs.
+/// That the tokens of a registered declaration have a tree or, if they have none, one first fault. It does nothing
+/// when it runs.
 #[tactic(auto, using(crate::proofs::OneFault::one_declaration_fault, crate::proofs::OneFault::not_both_declared))]
 pub fn has_one_declaration_fault(tokens: &[Token])
     ensures one { HasOneDeclarationFault (tokens_of tokens.now) }

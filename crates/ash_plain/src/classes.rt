@@ -17,7 +17,7 @@ use crate::object::{Element, Object};
 use crate::operators::zero_of;
 use ash_host::Word;
 use ash_typed::{
-    Class, Element as TypedElement, Function, Implementation, Initialization, Interface, IntType,
+    Class, Element as TypedElement, Function, Implementation, Initialization, IntType, Interface,
     Module, ObjectType, Stmt,
 };
 use std::alloc::{AllocError, Global};

@@ -69,7 +69,12 @@ impl Activity {
     }
 
     /// `++` or `--` at a location.
-    pub(crate) fn count_at(&mut self, kind: IntType, step: Step, location: Location) -> RunResult<Word>
+    pub(crate) fn count_at(
+        &mut self,
+        kind: IntType,
+        step: Step,
+        location: Location,
+    ) -> RunResult<Word>
         ensures { RunsAs (λ w. w) result (activity_seen self.new) (count_at kind step (location_seen location) (activity_seen self.old)) }
     {
         let old = self.read(location)?;

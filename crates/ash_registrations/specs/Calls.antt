@@ -1,18 +1,18 @@
--- The accepted calls, and what they take.
+-- These definitions say what the accepted registrations are, and which names, kinds and numbers they take.
 use Rattle.std.specs.Prelude.{ℕ, Bool, true, false, List, Option, None, Some, string_bytes, nat_eq, ◌&&◌}
 use Rattle.std.specs.Str.{bytes_eq}
 use Rattle.ash_tree.specs.declared.tree.types.Primitive.{Primitive}
-use Rattle.ash_registrations.specs.declared.registration.Registration as calls
-use Rattle.ash_registrations.specs.declared.registration.Registration.TheVariants as the_calls
-use Rattle.ash_registrations.specs.declared.call.Operation as operations
+use Rattle.ash_registrations.specs.declared.registration.Registration as code
+use Rattle.ash_registrations.specs.declared.registration.Registration.TheVariants as variants
+use Rattle.ash_registrations.specs.declared.registration.Operation as operations
 
--- a function of primitives
+-- An operation is a function of primitives, which is void without a result.
 pub record Operation : Type 0 where
   pub name : List ℕ
   pub result : Option Primitive
   pub parameters : List Primitive
 
--- an accepted call
+-- A registration is what one accepted call of an embedding program registers.
 pub data Registration : Type 0 where
   AType : (name : List ℕ) (kind : ℕ) → Registration
   AFactory : (of : List ℕ) (parameters : List Primitive) → Registration
@@ -21,77 +21,84 @@ pub data Registration : Type 0 where
   AService : (kind : ℕ) → Registration
   AFunction : (service : ℕ) (id : ℕ) (operation : Operation) → Registration
 
+-- `operation_of o` is the operation that the code's represents.
 abbrev pub operation_of : operations.Operation → Operation
 operation_of o = record { name = string_bytes o.name; result = o.result; parameters = o.parameters.items }
 
-abbrev pub call_of : calls.Registration → Registration
-call_of (the_calls.Type name kind) = AType (string_bytes name) kind
-call_of (the_calls.Factory of parameters) = AFactory (string_bytes of) parameters.items
-call_of (the_calls.Method of id operation) = AMethod (string_bytes of) id (operation_of operation)
-call_of (the_calls.Property of id value name) = AProperty (string_bytes of) id value (string_bytes name)
-call_of (the_calls.Service kind) = AService kind
-call_of (the_calls.Function service id operation) = AFunction service id (operation_of operation)
+-- `call_of r` is the registration that the code's represents.
+abbrev pub call_of : code.Registration → Registration
+call_of (variants.Type name kind) = AType (string_bytes name) kind
+call_of (variants.Factory of parameters) = AFactory (string_bytes of) parameters.items
+call_of (variants.Method of id operation) = AMethod (string_bytes of) id (operation_of operation)
+call_of (variants.Property of id value name) = AProperty (string_bytes of) id value (string_bytes name)
+call_of (variants.Service kind) = AService kind
+call_of (variants.Function service id operation) = AFunction service id (operation_of operation)
 
--- whether a call registers a type, and one of this name
+-- The registration is that of a type.
 abbrev pub is_type : Registration → Bool
 is_type (AType _ _) = true
 is_type _ = false
 
+-- The registration is that of a type of this name.
 abbrev pub names_type : List ℕ → Registration → Bool
 names_type name (AType other _) = bytes_eq name other
 names_type _ _ = false
 
--- whether it takes this kind, by a type or a service
+-- The registration takes this kind, by a type or a service.
 abbrev pub takes_kind : ℕ → Registration → Bool
 takes_kind kind (AType _ other) = nat_eq kind other
 takes_kind kind (AService other) = nat_eq kind other
 takes_kind _ _ = false
 
--- whether it takes this name among types and functions
+-- The registration takes this name among types and functions.
 abbrev pub takes_name : List ℕ → Registration → Bool
 takes_name name (AType other _) = bytes_eq name other
 takes_name name (AFunction _ _ operation) = bytes_eq name operation.name
 takes_name _ _ = false
 
--- whether it is the factory of a type
+-- The registration is the factory of this type.
 abbrev pub is_factory_of : List ℕ → Registration → Bool
 is_factory_of name (AFactory of _) = bytes_eq name of
 is_factory_of _ _ = false
 
--- whether it is a method or property of a type, and one that takes this name
+-- The registration is a method or property of this type.
 abbrev pub is_member_of : List ℕ → Registration → Bool
 is_member_of name (AMethod of _ _) = bytes_eq name of
 is_member_of name (AProperty of _ _ _) = bytes_eq name of
 is_member_of _ _ = false
 
+-- The registration takes this name among the methods and properties of the type.
 abbrev pub takes_member : List ℕ → List ℕ → Registration → Bool
 takes_member of name (AMethod other _ operation) = bytes_eq of other && bytes_eq name operation.name
 takes_member of name (AProperty other _ _ named) = bytes_eq of other && bytes_eq name named
 takes_member _ _ _ = false
 
--- whether it takes this number among a type's methods, its properties, or a service's functions
+-- The registration takes this number among the methods of the type.
 abbrev pub takes_method : List ℕ → ℕ → Registration → Bool
 takes_method of id (AMethod other taken _) = bytes_eq of other && nat_eq id taken
 takes_method _ _ _ = false
 
+-- The registration takes this number among the properties of the type.
 abbrev pub takes_property : List ℕ → ℕ → Registration → Bool
 takes_property of id (AProperty other taken _ _) = bytes_eq of other && nat_eq id taken
 takes_property _ _ _ = false
 
+-- The registration takes this number among the functions of the service.
 abbrev pub takes_function : ℕ → ℕ → Registration → Bool
 takes_function service id (AFunction other taken _) = nat_eq service other && nat_eq id taken
 takes_function _ _ _ = false
 
--- whether it registers a service, or a function
+-- The registration is that of a service.
 abbrev pub is_service : Registration → Bool
 is_service (AService _) = true
 is_service _ = false
 
+-- The registration is that of a function of a service.
 abbrev pub is_function : Registration → Bool
 is_function (AFunction _ _ _) = true
 is_function _ = false
 
--- the kind of a service
+-- `service_kind r` is the kind of a service.
 unfoldable pub service_kind : Registration → Option ℕ
 service_kind (AService kind) = Some kind
 service_kind _ = None

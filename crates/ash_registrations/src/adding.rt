@@ -1,4 +1,4 @@
-//! One more call.
+//! One more registration.
 ghost use Rattle.std.specs.Prelude.{◌≡◌, ℕ, List, false, string_bytes};
 ghost use Rattle.std.specs.List.{list_any};
 ghost use Rattle.std.specs.Str.{bytes_eq};
@@ -14,7 +14,7 @@ use std::alloc::{AllocError, AllocFailed};
 /// The most bytes of the text.
 const MAX_TEXT: usize = 1_048_576;
 
-/// Why a call is not added.
+/// Why a registration is not added.
 #[derive(Clone, Copy, Debug, PartialEq, Eq)]
 pub enum AddFault {
     /// The text has no room for its line.
@@ -40,35 +40,38 @@ impl<T: Drop> From<AllocFailed<T>> for AddFault {
 }
 
 impl Registrations {
-    /// Adds a call that takes a name of a type or function, with that name.
-    pub fn add_named(&mut self, call: Registration, key: String) -> Result<(), AddFault>
-        requires named { (name : List ℕ) → takes_name name (call_of call) ≡ bytes_eq name (string_bytes key) }
+    /// Adds a registration that takes a name of a type or function, with that name.
+    pub fn add_named(&mut self, registration: Registration, key: String) -> Result<(), AddFault>
+        requires named { (name : List ℕ)
+            → takes_name name (call_of registration) ≡ bytes_eq name (string_bytes key) }
         requires free { list_any (takes_name (string_bytes key)) (registered self.old) ≡ false }
-        ensures { IsAdded (call_of call) result (registered self.old) (registered self.new) }
+        ensures { IsAdded (call_of registration) result
+            (registered self.old) (registered self.new) }
     {
-        let added = line(self.alloc, &call)?;
+        let added = line(self.alloc, &registration)?;
         if self.text.len() + added.len() > MAX_TEXT {
             return Err(AddFault::TooLong);
         }
         self.text.reserve(added.len())?;
-        self.calls.reserve(1)?;
-        self.names.insert(key, self.calls.len())?;
-        self.calls.push(call).unwrap();
+        self.registrations.reserve(1)?;
+        self.names.insert(key, self.registrations.len())?;
+        self.registrations.push(registration).unwrap();
         self.text.push_str(added.as_str()).unwrap();
         Ok(())
     }
 
-    /// Adds a call that takes no name of a type or function.
-    pub fn add(&mut self, call: Registration) -> Result<(), AddFault>
-        requires { (name : List ℕ) → takes_name name (call_of call) ≡ false }
-        ensures { IsAdded (call_of call) result (registered self.old) (registered self.new) }
+    /// Adds a registration that takes no name of a type or function.
+    pub fn add(&mut self, registration: Registration) -> Result<(), AddFault>
+        requires { (name : List ℕ) → takes_name name (call_of registration) ≡ false }
+        ensures { IsAdded (call_of registration) result
+            (registered self.old) (registered self.new) }
     {
-        let line = line(self.alloc, &call)?;
+        let line = line(self.alloc, &registration)?;
         if self.text.len() + line.len() > MAX_TEXT {
             return Err(AddFault::TooLong);
         }
         self.text.reserve(line.len())?;
-        self.calls.push(call)?;
+        self.registrations.push(registration)?;
         self.text.push_str(line.as_str()).unwrap();
         Ok(())
     }

@@ -1,19 +1,19 @@
 //! What an embedding program has registered: types with their factories, methods and properties, services and their
-//! functions. It stands on `ash_tree`, whose primitives they take and give. It promises that each look-up is that of
-//! the list of registered calls, that the text is a line for each of them, and that a call is added after the others
-//! or nothing changes. Which calls are accepted is for the crate above that reads declarations.
+//! functions. It uses `ash_tree`, whose primitives they take and give. It promises that each look-up is that of the
+//! list of registrations, that the text is a line for each of them, and that a registration is added after the others
+//! or nothing changes. Which registrations are accepted is for the crate above that reads declarations.
 //!
-//! In reading order: `call` (one registered call), `registrations` (all of them), `queries` (look-ups), `text`,
-//! `adding`.
+//! In reading order: `registration` (one of them), `registrations` (all of them), `queries` and `searches` (look-ups),
+//! `text`, `adding`.
 #![tactic(auto)]
 
 mod adding;
-mod registration;
 mod queries;
+mod registration;
 mod registrations;
 mod searches;
 mod text;
 
 pub use adding::AddFault;
-pub use registration::{Registration, Operation};
+pub use registration::{Operation, Registration};
 pub use registrations::Registrations;

@@ -9,8 +9,8 @@ ghost use Rattle.ash_registrations.specs.Text.{text_of};
 
 use crate::searches::{
     any_is_factory_of, any_names_type, any_takes_function, any_takes_kind, any_takes_member,
-    any_takes_method, any_takes_property, call_at, find_factory, find_kind, find_member,
-    kinds_of_services,
+    any_takes_method, any_takes_property, find_factory, find_kind, find_member, kinds_of_services,
+    registration_at,
 };
 use crate::{Registration, Registrations};
 use indexmap::IndexMap;
@@ -23,13 +23,13 @@ impl Registrations {
     {
         Registrations {
             alloc,
-            calls: Vec::new(alloc),
+            registrations: Vec::new(alloc),
             names: IndexMap::new(alloc),
             text: String::new(alloc),
         }
     }
 
-    /// One line for each accepted call, in order: 1,048,576 bytes at most.
+    /// One line for each accepted registration, in order: 1,048,576 bytes at most.
     pub fn text(&self) -> &str
         ensures lines { result.now ≡ text_of (registered self.now) }
         ensures short { length result.now ≤ 1048576 }
@@ -43,7 +43,7 @@ impl Registrations {
             ≡ find (spec.takes_name name.now) (registered self.now) }
     {
         let at = self.names.get(name)?;
-        call_at(&self.calls, *at)
+        registration_at(&self.registrations, *at)
     }
 
     /// The method or property of a type by its name, as it was registered.
@@ -52,7 +52,7 @@ impl Registrations {
         ensures { option_map call_of (option_copied result)
             ≡ find (spec.takes_member of.now name.now) (registered self.now) }
     {
-        find_member(&self.calls, of, name)
+        find_member(&self.registrations, of, name)
     }
 
     /// The factory of a type, as it was registered.
@@ -61,7 +61,7 @@ impl Registrations {
         ensures { option_map call_of (option_copied result)
             ≡ find (spec.is_factory_of of.now) (registered self.now) }
     {
-        find_factory(&self.calls, of)
+        find_factory(&self.registrations, of)
     }
 
     /// The type or service of a kind, as it was registered.
@@ -70,7 +70,7 @@ impl Registrations {
         ensures { option_map call_of (option_copied result)
             ≡ find (spec.takes_kind kind) (registered self.now) }
     {
-        find_kind(&self.calls, kind)
+        find_kind(&self.registrations, kind)
     }
 
     /// The kinds of the services, in order of registration.
@@ -79,7 +79,7 @@ impl Registrations {
         ensures { IfOk result (λ kinds. kinds.items
             ≡ filter_map spec.service_kind (registered self.now)) }
     {
-        kinds_of_services(self.alloc, &self.calls)
+        kinds_of_services(self.alloc, &self.registrations)
     }
 
     /// Whether a type of this name is registered.
@@ -87,7 +87,7 @@ impl Registrations {
     pub fn knows(&self, name: &str) -> bool
         ensures { result ≡ list_any (spec.names_type name.now) (registered self.now) }
     {
-        any_names_type(&self.calls, name)
+        any_names_type(&self.registrations, name)
     }
 
     /// Whether a name is taken among types and functions.
@@ -102,7 +102,7 @@ impl Registrations {
     pub fn takes_kind(&self, kind: u16) -> bool
         ensures { result ≡ list_any (spec.takes_kind kind) (registered self.now) }
     {
-        any_takes_kind(&self.calls, kind)
+        any_takes_kind(&self.registrations, kind)
     }
 
     /// Whether a type has a factory.
@@ -110,7 +110,7 @@ impl Registrations {
     pub fn has_factory(&self, of: &str) -> bool
         ensures { result ≡ list_any (spec.is_factory_of of.now) (registered self.now) }
     {
-        any_is_factory_of(&self.calls, of)
+        any_is_factory_of(&self.registrations, of)
     }
 
     /// Whether a name is taken among the members of a type.
@@ -118,7 +118,7 @@ impl Registrations {
     pub fn takes_member(&self, of: &str, name: &str) -> bool
         ensures { result ≡ list_any (spec.takes_member of.now name.now) (registered self.now) }
     {
-        any_takes_member(&self.calls, of, name)
+        any_takes_member(&self.registrations, of, name)
     }
 
     /// Whether a number is taken among the methods of a type.
@@ -126,7 +126,7 @@ impl Registrations {
     pub fn takes_method(&self, of: &str, id: u16) -> bool
         ensures { result ≡ list_any (spec.takes_method of.now id) (registered self.now) }
     {
-        any_takes_method(&self.calls, of, id)
+        any_takes_method(&self.registrations, of, id)
     }
 
     /// Whether a name is taken among the members of a type, or a number among its methods.
@@ -142,7 +142,7 @@ impl Registrations {
     pub fn takes_property(&self, of: &str, id: u16) -> bool
         ensures { result ≡ list_any (spec.takes_property of.now id) (registered self.now) }
     {
-        any_takes_property(&self.calls, of, id)
+        any_takes_property(&self.registrations, of, id)
     }
 
     /// Whether a number is taken among the functions of a service.
@@ -150,37 +150,46 @@ impl Registrations {
     pub fn takes_function(&self, service: u16, id: u16) -> bool
         ensures { result ≡ list_any (spec.takes_function service id) (registered self.now) }
     {
-        any_takes_function(&self.calls, service, id)
+        any_takes_function(&self.registrations, service, id)
     }
 
     /// How many types there are.
     pub fn types(&self) -> usize
         ensures { result ≡ count_by spec.is_type (registered self.now) }
     {
-        self.calls.iter().filter(|call| call.is_type()).count()
+        self.registrations
+            .iter()
+            .filter(|registration| registration.is_type())
+            .count()
     }
 
     /// How many services there are.
     pub fn services(&self) -> usize
         ensures { result ≡ count_by spec.is_service (registered self.now) }
     {
-        self.calls.iter().filter(|call| call.is_service()).count()
+        self.registrations
+            .iter()
+            .filter(|registration| registration.is_service())
+            .count()
     }
 
     /// How many functions there are.
     pub fn functions(&self) -> usize
         ensures { result ≡ count_by spec.is_function (registered self.now) }
     {
-        self.calls.iter().filter(|call| call.is_function()).count()
+        self.registrations
+            .iter()
+            .filter(|registration| registration.is_function())
+            .count()
     }
 
     /// How many methods and properties a type has.
     pub fn members_of(&self, of: &str) -> usize
         ensures { result ≡ count_by (spec.is_member_of of.now) (registered self.now) }
     {
-        self.calls
+        self.registrations
             .iter()
-            .filter(|call| call.is_member_of(of))
+            .filter(|registration| registration.is_member_of(of))
             .count()
     }
 }

@@ -1,4 +1,4 @@
-//! One accepted call, and what it takes.
+//! One accepted registration, and what it takes.
 ghost use Rattle.std.specs.Prelude.{◌≡◌};
 ghost use Rattle.ash_registrations.specs.Calls.{call_of};
 ghost use Rattle.ash_registrations.specs.Calls as spec;
@@ -93,7 +93,8 @@ impl Registration {
         ensures { result ≡ spec.is_member_of wanted.now (call_of self.now) }
     {
         match self {
-            Registration::Method { of, .. } | Registration::Property { of, .. } => wanted == of.as_str(),
+            Registration::Method { of, .. } | Registration::Property { of, .. } => wanted
+                == of.as_str(),
             _ => false,
         }
     }
@@ -105,7 +106,8 @@ impl Registration {
             Registration::Method { of, operation, .. } => {
                 owner == of.as_str() && wanted == operation.name.as_str()
             }
-            Registration::Property { of, name, .. } => owner == of.as_str() && wanted == name.as_str(),
+            Registration::Property { of, name, .. } => owner == of.as_str()
+                && wanted == name.as_str(),
             _ => false,
         }
     }

@@ -9,15 +9,16 @@ use crate::Registration;
 use indexmap::IndexMap;
 use std::alloc::Global;
 
-/// What is registered: the accepted calls in order, the place among them of each name of a type or function, and
-/// their text.
+/// What is registered: the accepted registrations in order, the place among them of each name of a type or function,
+/// and their text.
 #[derive(Drop)]
 pub struct Registrations {
     pub(crate) alloc: Global,
-    pub(crate) calls: Vec<Registration>,
+    pub(crate) registrations: Vec<Registration>,
     pub(crate) names: IndexMap<String, usize>,
     pub(crate) text: String,
-    ghost written: { string_bytes text ≡ text_of (map call_of calls.items) },
+    ghost written: { string_bytes text ≡ text_of (map call_of registrations.items) },
     ghost short: { length (string_bytes text) ≤ 1048576 },
-    ghost placed: { (name : List ℕ) → get_by_text names name ≡ place_of (λ call. takes_name name (call_of call)) calls.items },
+    ghost placed: { (name : List ℕ) → get_by_text names name
+        ≡ place_of (λ r. takes_name name (call_of r)) registrations.items },
 }

@@ -1,10 +1,12 @@
-//! The line of an accepted call.
+//! The line of an accepted registration.
 ghost use Rattle.std.specs.Prelude.{◌≡◌, [], ◌∷◌, ◌++◌, codes, string_bytes, IfOk, OnOk};
-ghost use Rattle.ash_registrations.specs.Calls.{call_of, operation_of, AType, AFactory, AMethod, AProperty, AService, AFunction};
+ghost use Rattle.ash_registrations.specs.Calls.{call_of, operation_of, AType, AFactory, AMethod, AProperty};
+ghost use Rattle.ash_registrations.specs.Calls.{AService, AFunction};
 ghost use Rattle.std.specs.List.{concat};
-ghost use Rattle.ash_registrations.specs.Text.{primitive_text, result_text, more_parameters, parameters_text, operation_text, line_of};
+ghost use Rattle.ash_registrations.specs.Text.{primitive_text, result_text, more_parameters, parameters_text};
+ghost use Rattle.ash_registrations.specs.Text.{operation_text, line_of};
 
-use crate::{Registration, Operation};
+use crate::{Operation, Registration};
 use ash_tree::Primitive;
 use std::alloc::{AllocError, Global};
 
@@ -31,7 +33,8 @@ fn result_name(of: Option<Primitive>) -> &'static str
 
 // Appends the parameters after the first, each after a comma.
 fn push_more(text: &mut String, rest: &[Primitive]) -> Result<(), AllocError>
-    ensures { OnOk result (string_bytes text.new ≡ string_bytes text.old ++ more_parameters rest.now) }
+    ensures { OnOk result
+        (string_bytes text.new ≡ string_bytes text.old ++ more_parameters rest.now) }
 {
     for primitive in rest {
         text.push_str(",")?;
@@ -41,7 +44,7 @@ fn push_more(text: &mut String, rest: &[Primitive]) -> Result<(), AllocError>
 }
 
 // The parameters, parted by a comma without a blank.
-fn parameters(alloc: Global, types: &[Primitive]) -> Result<String, AllocError>
+fn join_parameters(alloc: Global, types: &[Primitive]) -> Result<String, AllocError>
     ensures { IfOk result (λ text. string_bytes text ≡ parameters_text types.now) }
 {
     let mut text = String::new(alloc);
@@ -53,19 +56,26 @@ fn parameters(alloc: Global, types: &[Primitive]) -> Result<String, AllocError>
 }
 
 // As `int add(int)`, of its parts.
-fn of_parts(alloc: Global, of: &str, name: &str, parameters: &str) -> Result<String, AllocError>
-    ensures { IfOk result (λ text. string_bytes text ≡ concat (of.now ∷ codes " " ∷ name.now ∷ codes "(" ∷ parameters.now ∷ codes ")" ∷ [])) }
+fn join_operation(
+    alloc: Global,
+    of: &str,
+    name: &str,
+    parameters: &str,
+) -> Result<String, AllocError>
+    ensures { IfOk result (λ text. string_bytes text
+        ≡ concat (of.now ∷ codes " " ∷ name.now ∷ codes "(" ∷ parameters.now ∷ codes ")" ∷ [])) }
 {
     [of, " ", name, "(", parameters, ")"].concat(alloc)
 }
 
 // As `int add(int)`.
 fn operation(alloc: Global, operation: &Operation) -> Result<String, AllocError>
-    ensures { IfOk result (λ text. string_bytes text ≡ operation_text (operation_of operation.now)) }
+    ensures { IfOk result (λ text. string_bytes text
+        ≡ operation_text (operation_of operation.now)) }
 {
-    let parameters = parameters(alloc, &operation.parameters)?;
+    let parameters = join_parameters(alloc, &operation.parameters)?;
     let of = result_name(operation.result);
-    of_parts(alloc, of, operation.name.as_str(), parameters.as_str())
+    join_operation(alloc, of, operation.name.as_str(), parameters.as_str())
 }
 
 fn type_line(alloc: Global, name: &str, kind: u16) -> Result<String, AllocError>
@@ -75,15 +85,16 @@ fn type_line(alloc: Global, name: &str, kind: u16) -> Result<String, AllocError>
     ["type ", name, " ", kind.as_str(), "\n"].concat(alloc)
 }
 
-fn factory_line(alloc: Global, of: &str, taken: &[Primitive]) -> Result<String, AllocError>
-    ensures { IfOk result (λ text. string_bytes text ≡ line_of (AFactory of.now taken.now)) }
+fn factory_line(alloc: Global, of: &str, types: &[Primitive]) -> Result<String, AllocError>
+    ensures { IfOk result (λ text. string_bytes text ≡ line_of (AFactory of.now types.now)) }
 {
-    let taken = parameters(alloc, taken)?;
-    ["factory ", of, " (", taken.as_str(), ")\n"].concat(alloc)
+    let parameters = join_parameters(alloc, types)?;
+    ["factory ", of, " (", parameters.as_str(), ")\n"].concat(alloc)
 }
 
 fn method_line(alloc: Global, of: &str, id: u16, method: &Operation) -> Result<String, AllocError>
-    ensures { IfOk result (λ text. string_bytes text ≡ line_of (AMethod of.now id (operation_of method.now))) }
+    ensures { IfOk result (λ text. string_bytes text
+        ≡ line_of (AMethod of.now id (operation_of method.now))) }
 {
     let id = id.to_string(alloc)?;
     let method = operation(alloc, method)?;
@@ -91,14 +102,16 @@ fn method_line(alloc: Global, of: &str, id: u16, method: &Operation) -> Result<S
 }
 
 // The line of a property, of its parts.
-fn property_of_parts(
+fn join_property(
     alloc: Global,
     of: &str,
     id: &str,
     value: &str,
     name: &str,
 ) -> Result<String, AllocError>
-    ensures { IfOk result (λ text. string_bytes text ≡ concat (codes "property " ∷ of.now ∷ codes " " ∷ id.now ∷ codes " " ∷ value.now ∷ codes " " ∷ name.now ∷ codes "\n" ∷ [])) }
+    ensures { IfOk result (λ text. string_bytes text
+        ≡ concat (codes "property " ∷ of.now ∷ codes " " ∷ id.now ∷ codes " " ∷ value.now
+        ∷ codes " " ∷ name.now ∷ codes "\n" ∷ [])) }
 {
     ["property ", of, " ", id, " ", value, " ", name, "\n"].concat(alloc)
 }
@@ -110,10 +123,11 @@ fn property_line(
     value: Primitive,
     name: &str,
 ) -> Result<String, AllocError>
-    ensures { IfOk result (λ text. string_bytes text ≡ line_of (AProperty of.now id value name.now)) }
+    ensures { IfOk result (λ text. string_bytes text
+        ≡ line_of (AProperty of.now id value name.now)) }
 {
     let id = id.to_string(alloc)?;
-    property_of_parts(alloc, of, id.as_str(), primitive_name(value), name)
+    join_property(alloc, of, id.as_str(), primitive_name(value), name)
 }
 
 fn service_line(alloc: Global, kind: u16) -> Result<String, AllocError>
@@ -129,7 +143,8 @@ fn function_line(
     id: u16,
     function: &Operation,
 ) -> Result<String, AllocError>
-    ensures { IfOk result (λ text. string_bytes text ≡ line_of (AFunction service id (operation_of function.now))) }
+    ensures { IfOk result (λ text. string_bytes text
+        ≡ line_of (AFunction service id (operation_of function.now))) }
 {
     let service = service.to_string(alloc)?;
     let id = id.to_string(alloc)?;
@@ -146,11 +161,11 @@ fn function_line(
     parts.concat(alloc)
 }
 
-/// The line of a call, with its line feed.
-pub(crate) fn line(alloc: Global, call: &Registration) -> Result<String, AllocError>
-    ensures { IfOk result (λ text. string_bytes text ≡ line_of (call_of call.now)) }
+/// The line of a registration, with its line feed.
+pub(crate) fn line(alloc: Global, registration: &Registration) -> Result<String, AllocError>
+    ensures { IfOk result (λ text. string_bytes text ≡ line_of (call_of registration.now)) }
 {
-    match call {
+    match registration {
         Registration::Type { name, kind } => type_line(alloc, name, *kind),
         Registration::Factory { of, parameters } => factory_line(alloc, of, parameters),
         Registration::Method { of, id, operation } => method_line(alloc, of, *id, operation),

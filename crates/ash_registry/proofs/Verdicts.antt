@@ -1,4 +1,4 @@
--- A call that was judged by what was read is judged by what the text says.
+-- A registration that was judged by what was read is judged by what the text means.
 use Rattle.std.proofs.Common.{◌≡◌, ℕ, inl, Bool, true, false, List, Option, Result, Err, refl, subst, sym}
 use Rattle.ash_tree.specs.Tree.{Declaration}
 use Rattle.ash_registry.specs.declared.fault.RegistryFault.{RegistryFault}
@@ -7,7 +7,8 @@ use Rattle.ash_registry.specs.Refusals.{cause, RegisteredIf}
 use Rattle.ash_registry.specs.Texts.{NameClass, HasNameClass, IsDeclared}
 use Rattle.ash_registry.proofs.Meanings.{one_class, one_declared}
 
-pub skip_cause : {A : Type 0} (test : Bool) (first : RegistryFault) (refusal : Option RegistryFault) (call : List Registration)
+pub skip_cause : {A : Type 0} (test : Bool) (first : RegistryFault) (refusal : Option RegistryFault)
+    (call : List Registration)
     (answered : Result A RegistryFault) (old new : List Registration) → test ≡ false
     → RegisteredIf refusal call answered old new → RegisteredIf (cause test first refusal) call answered old new
 skip_cause {A} test first refusal call answered old new e h =
@@ -22,7 +23,8 @@ for_declared {A} text test first refusal call answered old new d is passed h e s
     subst (λ (x : Option Declaration). RegisteredIf {A = A} (cause test first (refusal x)) (call x) answered old new)
     (one_declared text d e is says) (skip_cause test first (refusal d) (call d) answered old new passed h)
 
-pub for_name_class : {A : Type 0} (text : List ℕ) (refusal : NameClass → Option RegistryFault) (call : List Registration)
+pub for_name_class : {A : Type 0} (text : List ℕ) (refusal : NameClass → Option RegistryFault)
+    (call : List Registration)
     (answered : Result A RegistryFault) (old new : List Registration) (s : NameClass) → HasNameClass text s
     → RegisteredIf (refusal s) call answered old new → (t : NameClass) → HasNameClass text t
     → RegisteredIf (refusal t) call answered old new
@@ -30,7 +32,8 @@ for_name_class {A} text refusal call answered old new s is h t says =
     subst (λ (x : NameClass). RegisteredIf {A = A} (refusal x) call answered old new) (one_class text s t is says) h
 
 pub refused_by_cause : {A : Type 0} (test : Bool) (fault : RegistryFault) (later : Option RegistryFault)
-    (call calls : List Registration) → test ≡ true → RegisteredIf {A = A} (cause test fault later) call (Err fault) calls calls
+    (call calls : List Registration) → test ≡ true
+    → RegisteredIf {A = A} (cause test fault later) call (Err fault) calls calls
 refused_by_cause {A} test fault later call calls e =
     subst (λ b. RegisteredIf {A = A} (cause b fault later) call (Err fault) calls calls) (sym e)
     (record { accepted = tt; added = tt; refused = inl refl; unchanged = refl })

@@ -14,7 +14,8 @@ use Rattle.ash_tree.specs.Tree.{Element, PrimElement, HandleElement, Named, Prim
 use Rattle.ash_tree.specs.Tree.{Signature, Property, Declaration, ASignature}
 use Rattle.ash_tree.specs.Tree as tree
 use Rattle.ash_registry.specs.Texts.{NameClass, AName, AReserved, ANoName}
-use Rattle.ash_registrations.specs.Calls.{Operation, Registration, AType, AFactory, AMethod, AProperty, AService, AFunction}
+use Rattle.ash_registrations.specs.Calls.{Operation, Registration, AType, AFactory, AMethod, AProperty, AService}
+use Rattle.ash_registrations.specs.Calls.{AFunction}
 use Rattle.ash_registrations.specs.Calls.{is_type, names_type, takes_kind, takes_name, is_factory_of, is_member_of}
 use Rattle.ash_registrations.specs.Calls.{takes_member, takes_method, takes_property, takes_function, is_service}
 use Rattle.ash_registrations.specs.Calls.{is_function}
@@ -22,7 +23,7 @@ use Rattle.ash_registrations.specs.Added.{is_too_long}
 use Rattle.ash_registrations.specs.declared.adding.AddFault.{AddFault}
 use Rattle.ash_registrations.specs.declared.adding.AddFault.TheVariants as add_faults
 
--- `fault_of added` is what a call is refused with where the registrations do not take it.
+-- `fault_of added` is what a registration is refused with where it is not added for this fault.
 abbrev pub fault_of : AddFault → RegistryFault
 fault_of add_faults.TooLong = TooMany
 fault_of add_faults.NoMemory = NoMemory
@@ -79,16 +80,16 @@ primitive_operation s = record {
   parameters = filter_map primitive_of s.parameters;
 }
 
--- A call is accepted where no cause speaks against it, and is then added; else it is refused with its cause, or because
--- memory ran out, and nothing changes.
-pub record RegisteredIf {A : Type 0} (refusal : Option RegistryFault) (call : List Registration)
+-- A registration is accepted where there is no cause to refuse it, and is then added; else it is refused with its
+-- cause, or because memory ran out, and nothing changes.
+pub record RegisteredIf {A : Type 0} (refusal : Option RegistryFault) (registration : List Registration)
     (result : Result A RegistryFault) (old new : List Registration) : Type 0 where
   pub accepted : OnOk result (refusal ≡ None)
-  pub added : OnOk result (new ≡ old ++ call)
+  pub added : OnOk result (new ≡ old ++ registration)
   pub refused : IfErr result (λ fault. (refusal ≡ Some fault) ⊎ (fault ≡ NoMemory))
   pub unchanged : OnErr result (new ≡ old)
 
--- Where the first test of a call speaks against it, the call is refused with that, whether memory is there or not.
+-- Where the first test finds a cause to refuse a registration, that is the answer, whether memory is there or not.
 abbrev pub RefusedWithoutAllocating : {A : Type 0} → Bool → RegistryFault → Result A RegistryFault → Type 0
 RefusedWithoutAllocating test fault result = test ≡ true → result ≡ Err fault
 
@@ -124,10 +125,10 @@ abbrev pub refusal_of_method : List Registration → List ℕ → ℕ → Option
 refusal_of_method calls of id declared =
     cause (not (is_known calls of)) UnknownType (refusal_of_declared_method calls of id declared)
 
--- `method_call of id declared` is the call that registers a method.
-abbrev pub method_call : List ℕ → ℕ → Option Declaration → List Registration
-method_call of id (Some (ASignature s)) = AMethod of id (primitive_operation s) ∷ []
-method_call _ _ _ = []
+-- `method_registration of id declared` is the registration of a method.
+abbrev pub method_registration : List ℕ → ℕ → Option Declaration → List Registration
+method_registration of id (Some (ASignature s)) = AMethod of id (primitive_operation s) ∷ []
+method_registration _ _ _ = []
 
 -- A property has a name of its own among the type's members and a number of its own among its properties.
 abbrev pub refusal_of_primitive : List Registration → List ℕ → ℕ → Primitive → List ℕ → Option RegistryFault
@@ -150,15 +151,15 @@ abbrev pub refusal_of_property : List Registration → List ℕ → ℕ → Opti
 refusal_of_property calls of id declared =
     cause (not (is_known calls of)) UnknownType (refusal_of_declared_property calls of id declared)
 
--- `value_call of id named name` is the call that registers a property of this type.
-abbrev pub value_call : List ℕ → ℕ → Named → List ℕ → List Registration
-value_call of id (Prim _ value) name = AProperty of id value name ∷ []
-value_call _ _ _ _ = []
+-- `value_registration of id named name` is the registration of a property of this type.
+abbrev pub value_registration : List ℕ → ℕ → Named → List ℕ → List Registration
+value_registration of id (Prim _ value) name = AProperty of id value name ∷ []
+value_registration _ _ _ _ = []
 
--- `property_call of id declared` is the call that registers a property.
-abbrev pub property_call : List ℕ → ℕ → Option Declaration → List Registration
-property_call of id (Some (tree.AProperty p)) = value_call of id p.of p.name
-property_call _ _ _ = []
+-- `property_registration of id declared` is the registration of a property.
+abbrev pub property_registration : List ℕ → ℕ → Option Declaration → List Registration
+property_registration of id (Some (tree.AProperty p)) = value_registration of id p.of p.name
+property_registration _ _ _ = []
 
 -- A factory gives a handle of its own type, whatever its name.
 abbrev pub gives_handle_of : List ℕ → Option Named → Bool
@@ -183,10 +184,10 @@ abbrev pub refusal_of_factory : List Registration → List ℕ → Option Declar
 refusal_of_factory calls of declared =
     cause (not (is_known calls of)) UnknownType (refusal_of_declared_factory calls of declared)
 
--- `factory_call of declared` is the call that registers a factory.
-abbrev pub factory_call : List ℕ → Option Declaration → List Registration
-factory_call of (Some (ASignature s)) = AFactory of (filter_map primitive_of s.parameters) ∷ []
-factory_call _ _ = []
+-- `factory_registration of declared` is the registration of a factory.
+abbrev pub factory_registration : List ℕ → Option Declaration → List Registration
+factory_registration of (Some (ASignature s)) = AFactory of (filter_map primitive_of s.parameters) ∷ []
+factory_registration _ _ = []
 
 -- A function of a service has a name of its own among types and functions and a number of its own in its service, and
 -- there are at most 256.
@@ -207,7 +208,7 @@ refusal_of_function calls service id declared =
     cause (nat_le (count_by is_service calls) service) NoService
     (refusal_of_declared_function calls service id declared)
 
--- `function_call service id declared` is the call that registers a function of a service.
-abbrev pub function_call : ℕ → ℕ → Option Declaration → List Registration
-function_call service id (Some (ASignature s)) = AFunction service id (primitive_operation s) ∷ []
-function_call _ _ _ = []
+-- `function_registration service id declared` is the registration of a function of a service.
+abbrev pub function_registration : ℕ → ℕ → Option Declaration → List Registration
+function_registration service id (Some (ASignature s)) = AFunction service id (primitive_operation s) ∷ []
+function_registration _ _ _ = []

@@ -4,6 +4,6 @@ use Rattle.ash_registry.specs.declared.registry.Registry.{Registry}
 use Rattle.ash_registrations.specs.Calls.{Registration}
 use Rattle.ash_registrations.specs.Registered as table
 
--- `registered r` are the accepted calls, in order.
+-- `registered r` are the accepted registrations, in order.
 abbrev pub registered : Registry → List Registration
 registered r = table.registered r.table

@@ -1,2 +1,2 @@
--- The text of a registration: one line for each accepted call, in order.
+-- The text of a registration: one line for each accepted registration, in order.
 pub use Rattle.ash_registrations.specs.Text.{line_of, text_of}

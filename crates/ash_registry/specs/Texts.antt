@@ -1,4 +1,4 @@
--- These definitions say what the texts of a registration say: the name of a type, and what is declared.
+-- These definitions say what the texts of a registration mean: the name of a type, and what is declared.
 use Rattle.std.specs.Prelude.{ℕ, ◌≤◌, ◌⊎◌, List, [], ◌∷◌, Option, Some, None, map, length}
 use Rattle.ash_lex.specs.Tokens.{Meaning, name, reserved, unsupported, Lexeme, lexeme_at, Spells}
 use Rattle.ash_lex.specs.declared.words.ReservedWord.{ReservedWord}

@@ -1,4 +1,4 @@
-//! A call that is accepted, and added.
+//! A registration that is accepted, and added.
 ghost use Rattle.std.specs.Prelude.{◌≡◌, ℕ, List, false, [], ◌∷◌, nat_le, string_bytes};
 ghost use Rattle.std.specs.List.{list_any};
 ghost use Rattle.ash_registrations.specs.Calls.{call_of, takes_name};
@@ -9,53 +9,53 @@ ghost use Rattle.ash_registry.specs.Refusals.{RegisteredIf, cause_of_many};
 use crate::{Registration, Registry, RegistryFault};
 
 impl Registry {
-    // Adds a type or a function against which nothing else speaks, with its name, to so many of at most `max`.
+    // Adds a type or a function that nothing else refuses, with its name, to so many of at most `max`.
     pub(crate) fn accept_named(
         &mut self,
-        call: Registration,
+        registration: Registration,
         key: String,
         count: usize,
         max: usize,
     ) -> Result<(), RegistryFault>
         requires named { (name : List ℕ)
-            → takes_name name (call_of call) ≡ bytes_eq name (string_bytes key) }
+            → takes_name name (call_of registration) ≡ bytes_eq name (string_bytes key) }
         requires free { list_any (takes_name (string_bytes key)) (registered self.old) ≡ false }
         ensures { RegisteredIf
-            (cause_of_many (nat_le max count) (registered self.old) (call_of call))
-            (call_of call ∷ []) result (registered self.old) (registered self.new) }
+            (cause_of_many (nat_le max count) (registered self.old) (call_of registration))
+            (call_of registration ∷ []) result (registered self.old) (registered self.new) }
     {
         if count >= max {
             return Err(RegistryFault::TooMany);
         }
-        self.table.add_named(call, key)?;
+        self.table.add_named(registration, key)?;
         Ok(())
     }
 
-    // Adds a call against which nothing else speaks, and which takes no name, to so many of at most `max`.
+    // Adds a registration that nothing else refuses, and that takes no name, to so many of at most `max`.
     pub(crate) fn accept(
         &mut self,
-        call: Registration,
+        registration: Registration,
         count: usize,
         max: usize,
     ) -> Result<(), RegistryFault>
-        requires { (name : List ℕ) → takes_name name (call_of call) ≡ false }
+        requires { (name : List ℕ) → takes_name name (call_of registration) ≡ false }
         ensures { RegisteredIf
-            (cause_of_many (nat_le max count) (registered self.old) (call_of call))
-            (call_of call ∷ []) result (registered self.old) (registered self.new) }
+            (cause_of_many (nat_le max count) (registered self.old) (call_of registration))
+            (call_of registration ∷ []) result (registered self.old) (registered self.new) }
     {
         if count >= max {
             return Err(RegistryFault::TooMany);
         }
-        self.add(call)
+        self.add(registration)
     }
 
-    // Adds a call against which nothing else speaks, and which takes no name of a type or function.
-    pub(crate) fn add(&mut self, call: Registration) -> Result<(), RegistryFault>
-        requires { (name : List ℕ) → takes_name name (call_of call) ≡ false }
-        ensures { RegisteredIf (cause_of_many false (registered self.old) (call_of call))
-            (call_of call ∷ []) result (registered self.old) (registered self.new) }
+    // Adds a registration that nothing else refuses, and that takes no name of a type or function.
+    pub(crate) fn add(&mut self, registration: Registration) -> Result<(), RegistryFault>
+        requires { (name : List ℕ) → takes_name name (call_of registration) ≡ false }
+        ensures { RegisteredIf (cause_of_many false (registered self.old) (call_of registration))
+            (call_of registration ∷ []) result (registered self.old) (registered self.new) }
     {
-        self.table.add(call)?;
+        self.table.add(registration)?;
         Ok(())
     }
 }

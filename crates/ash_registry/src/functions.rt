@@ -9,7 +9,7 @@ ghost use Rattle.ash_registry.specs.declared.fault.RegistryFault.TheVariants.{No
 ghost use Rattle.ash_registry.specs.Registered.{registered};
 ghost use Rattle.ash_registry.specs.Refusals.{RegisteredIf, RefusedWithoutAllocating, cause_of_many};
 ghost use Rattle.ash_registry.specs.Refusals.{refusal_of_function, refusal_of_declared_function, refusal_of_operation};
-ghost use Rattle.ash_registry.specs.Refusals.{primitive_operation, function_call};
+ghost use Rattle.ash_registry.specs.Refusals.{primitive_operation, function_registration};
 ghost use Rattle.ash_registry.specs.Texts.{IsDeclared};
 
 use crate::signatures::{names_object, operation};
@@ -25,7 +25,8 @@ impl Registry {
     pub fn function(&mut self, service: u16, decl: &str, id: u16) -> Result<(), RegistryFault>
         ensures registers { (declared : Option DeclarationTree) → IsDeclared decl.now declared
             → RegisteredIf (refusal_of_function (registered self.old) service id declared)
-            (function_call service id declared) result (registered self.old) (registered self.new) }
+            (function_registration service id declared) result
+            (registered self.old) (registered self.new) }
         ensures without_allocating { RefusedWithoutAllocating
             (nat_le (count_by is_service (registered self.old)) service) NoService result }
     {
@@ -45,7 +46,7 @@ impl Registry {
         ensures { RegisteredIf
             (refusal_of_declared_function (registered self.old) service id
             (option_map declaration_of declared))
-            (function_call service id (option_map declaration_of declared)) result
+            (function_registration service id (option_map declaration_of declared)) result
             (registered self.old) (registered self.new) }
     {
         match declared {
@@ -105,11 +106,11 @@ impl Registry {
         let key = signature.name.clone()?;
         let operation = operation(self.alloc, signature)?;
         let count = self.table.functions();
-        let call = Registration::Function {
+        let registration = Registration::Function {
             service,
             id,
             operation,
         };
-        self.accept_named(call, key, count, MAX_FUNCTIONS)
+        self.accept_named(registration, key, count, MAX_FUNCTIONS)
     }
 }

@@ -13,9 +13,10 @@ ghost use Rattle.ash_registry.specs.Refusals.{RegisteredIf, RefusedWithoutAlloca
 ghost use Rattle.ash_registry.specs.Refusals.{refusal_of_type, refusal_of_service, refusal_of_method};
 ghost use Rattle.ash_registry.specs.Refusals.{refusal_of_declared_method, refusal_of_signature, refusal_of_property};
 ghost use Rattle.ash_registry.specs.Refusals.{refusal_of_declared_property, refusal_of_primitive, refusal_of_value};
-ghost use Rattle.ash_registry.specs.Refusals.{is_known, primitive_of, value_call, is_unknown, refusal_of_factory};
+ghost use Rattle.ash_registry.specs.Refusals.{is_known, primitive_of, is_unknown, refusal_of_factory};
 ghost use Rattle.ash_registry.specs.Refusals.{refusal_of_declared_factory, refusal_of_constructor, gives_handle_of};
-ghost use Rattle.ash_registry.specs.Refusals.{primitive_operation, method_call, property_call, factory_call};
+ghost use Rattle.ash_registry.specs.Refusals.{primitive_operation, method_registration, property_registration};
+ghost use Rattle.ash_registry.specs.Refusals.{value_registration, factory_registration};
 ghost use Rattle.ash_registry.specs.NameClasses.{name_class_of};
 ghost use Rattle.ash_registry.specs.Texts.{NameClass, AName, HasNameClass, IsDeclared};
 
@@ -94,7 +95,8 @@ impl Registry {
     pub fn method(&mut self, of: &str, decl: &str, id: u16) -> Result<(), RegistryFault>
         ensures registers { (declared : Option DeclarationTree) → IsDeclared decl.now declared
             → RegisteredIf (refusal_of_method (registered self.old) of.now id declared)
-            (method_call of.now id declared) result (registered self.old) (registered self.new) }
+            (method_registration of.now id declared) result
+            (registered self.old) (registered self.new) }
         ensures without_allocating { RefusedWithoutAllocating
             (not (is_known (registered self.old) of.now)) UnknownType result }
     {
@@ -114,7 +116,7 @@ impl Registry {
         ensures { RegisteredIf
             (refusal_of_declared_method (registered self.old) of.now id
             (option_map declaration_of declared))
-            (method_call of.now id (option_map declaration_of declared)) result
+            (method_registration of.now id (option_map declaration_of declared)) result
             (registered self.old) (registered self.new) }
     {
         match declared {
@@ -160,14 +162,19 @@ impl Registry {
         let operation = operation(self.alloc, signature)?;
         let of = of.to_string(self.alloc)?;
         let count = self.table.members_of(of.as_str());
-        self.accept(Registration::Method { of, id, operation }, count, MAX_MEMBERS)
+        self.accept(
+            Registration::Method { of, id, operation },
+            count,
+            MAX_MEMBERS,
+        )
     }
 
     /// Registers a property of a type, as `int value`, by its number.
     pub fn property(&mut self, of: &str, decl: &str, id: u16) -> Result<(), RegistryFault>
         ensures registers { (declared : Option DeclarationTree) → IsDeclared decl.now declared
             → RegisteredIf (refusal_of_property (registered self.old) of.now id declared)
-            (property_call of.now id declared) result (registered self.old) (registered self.new) }
+            (property_registration of.now id declared) result
+            (registered self.old) (registered self.new) }
         ensures without_allocating { RefusedWithoutAllocating
             (not (is_known (registered self.old) of.now)) UnknownType result }
     {
@@ -187,7 +194,7 @@ impl Registry {
         ensures { RegisteredIf
             (refusal_of_declared_property (registered self.old) of.now id
             (option_map declaration_of declared))
-            (property_call of.now id (option_map declaration_of declared)) result
+            (property_registration of.now id (option_map declaration_of declared)) result
             (registered self.old) (registered self.new) }
     {
         match declared {
@@ -205,7 +212,7 @@ impl Registry {
         ensures { RegisteredIf
             (refusal_of_value (registered self.old) of.now id (type_of property.of)
             (string_bytes property.name))
-            (value_call of.now id (type_of property.of) (string_bytes property.name)) result
+            (value_registration of.now id (type_of property.of) (string_bytes property.name)) result
             (registered self.old) (registered self.new) }
     {
         let Property {
@@ -249,20 +256,21 @@ impl Registry {
         }
         let of = of.to_string(self.alloc)?;
         let count = self.table.members_of(of.as_str());
-        let call = Registration::Property {
+        let registration = Registration::Property {
             of,
             id,
             value,
             name,
         };
-        self.accept(call, count, MAX_MEMBERS)
+        self.accept(registration, count, MAX_MEMBERS)
     }
 
     /// Registers the factory of a type, as `T@ make(int)`. Its name is ignored.
     pub fn factory(&mut self, of: &str, decl: &str) -> Result<(), RegistryFault>
         ensures registers { (declared : Option DeclarationTree) → IsDeclared decl.now declared
             → RegisteredIf (refusal_of_factory (registered self.old) of.now declared)
-            (factory_call of.now declared) result (registered self.old) (registered self.new) }
+            (factory_registration of.now declared) result
+            (registered self.old) (registered self.new) }
         ensures without_allocating { RefusedWithoutAllocating
             (not (is_known (registered self.old) of.now)) UnknownType result }
     {
@@ -281,8 +289,8 @@ impl Registry {
         ensures { RegisteredIf
             (refusal_of_declared_factory (registered self.old) of.now
             (option_map declaration_of declared))
-            (factory_call of.now (option_map declaration_of declared)) result (registered self.old)
-            (registered self.new) }
+            (factory_registration of.now (option_map declaration_of declared)) result
+            (registered self.old) (registered self.new) }
     {
         match declared {
             Some(Declaration::Function(signature)) => self.factory_of_signature(of, signature),

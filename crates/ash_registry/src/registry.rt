@@ -37,7 +37,7 @@ impl Registry {
         &self.table
     }
 
-    /// One line for each accepted call, in order: 1,048,576 bytes at most.
+    /// One line for each accepted registration, in order: 1,048,576 bytes at most.
     pub fn text(&self) -> &str
         ensures lines { result.now ≡ text_of (registered self.now) }
         ensures short { length result.now ≤ 1048576 }

@@ -1,4 +1,4 @@
-//! What the texts of a registration say.
+//! What the texts of a registration mean.
 ghost use Rattle.std.specs.Prelude.{◌≡◌, ◌↔◌, ℕ, true, List, Option, Some, IfOk, IfErr, option_map};
 ghost use Rattle.ash_lex.specs.Tokens.{meaning_of, lexeme_of, lexemes};
 ghost use Rattle.ash_parse.specs.declared.faults.ParseFault.{ParseFault};

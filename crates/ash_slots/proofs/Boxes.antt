@@ -13,14 +13,16 @@ use Rattle.ash_slots.proofs.Changing.{change_in_is}
 use Rattle.ash_slots.proofs.Steps.{change_same}
 
 module _ {B : Type 0} where
-  item_same : (n : ℕ) (l : List (ℕ × Placed B)) (it : Item B) → IsSomeAnd (object_at n l) (λ object. object.item ≡ it) → (p : Placed B) → object_at n l ≡ Some p → p.item ≡ it
+  item_same : (n : ℕ) (l : List (ℕ × Placed B)) (it : Item B) → IsSomeAnd (object_at n l) (λ object. object.item ≡ it)
+      → (p : Placed B) → object_at n l ≡ Some p → p.item ≡ it
   item_same n l it h p is = subst (λ (v : Option (Placed B)). IsSomeAnd v (λ object. object.item ≡ it)) is h
 
   module _ (n : ℕ) (l : List (ℕ × Placed B)) (it : Item B) (mine : IsSomeAnd (object_at n l) (λ object. object.item ≡ it)) where
     stored_is : stored_box n l ≡ box_of it.body
     stored_is = go (object_at n l) mine
       where
-        go : (v : Option (Placed B)) → IsSomeAnd v (λ object. object.item ≡ it) → option_and_then (λ object. box_of (object.item).body) v ≡ box_of it.body
+        go : (v : Option (Placed B)) → IsSomeAnd v (λ object. object.item ≡ it)
+            → option_and_then (λ object. box_of (object.item).body) v ≡ box_of it.body
         go None h = absurd h
         go (Some p) h = ap (λ (i : Item B). box_of i.body) h
 

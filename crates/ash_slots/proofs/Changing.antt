@@ -10,8 +10,9 @@ use Rattle.ash_host.proofs.Order.{none_after, in_order_after, same_in_order}
 use Rattle.ash_slots.specs.Store.{Placed, AreStored, IsIn, change_in, change_at}
 
 module _ {A : Type 0} where
-  -- what stands at each number after a change at one
-  pub object_at-change : (n : ℕ) (f : A → A) (m : ℕ) (l : List (ℕ × A)) → object_at m (change_at n f l) ≡ cond (nat_eq n m) (option_map f (object_at m l)) (object_at m l)
+  -- what is at each number after a change at one
+  pub object_at-change : (n : ℕ) (f : A → A) (m : ℕ) (l : List (ℕ × A)) → object_at m (change_at n f l)
+      ≡ cond (nat_eq n m) (option_map f (object_at m l)) (object_at m l)
   object_at-change n f m [] = go (nat_eq n m)
     where
       go : (b : Bool) → None ≡ cond {A = Option A} b None None
@@ -24,7 +25,10 @@ module _ {A : Type 0} where
       here true = refl
       here false = refl
 
-      go : (b : Bool) → nat_eq m e.0 ≡ b → object_at m (change_at n f l) ≡ cond (nat_eq n m) (option_map f (object_at m l)) (object_at m l) → cond b (Some (cond (nat_eq n e.0) (f e.1) e.1)) (object_at m (change_at n f l)) ≡ cond (nat_eq n m) (option_map f (cond b (Some e.1) (object_at m l))) (cond b (Some e.1) (object_at m l))
+      go : (b : Bool) → nat_eq m e.0 ≡ b → object_at m (change_at n f l)
+          ≡ cond (nat_eq n m) (option_map f (object_at m l)) (object_at m l)
+          → cond b (Some (cond (nat_eq n e.0) (f e.1) e.1)) (object_at m (change_at n f l))
+          ≡ cond (nat_eq n m) (option_map f (cond b (Some e.1) (object_at m l))) (cond b (Some e.1) (object_at m l))
       go true is later =
           let same : e.0 ≡ m = sym (eqb-true m e.0 is) in
           ap (λ (k : ℕ). Some (cond (nat_eq n k) (f e.1) e.1)) same ∙ here (nat_eq n m)
@@ -42,18 +46,21 @@ module _ {A : Type 0} where
   pub in_order-change : (n : ℕ) (f : A → A) (l : List (ℕ × A)) → IsInOrder l → IsInOrder (change_at n f l)
   in_order-change n f l o = rw (numbers-change n f l) o
 
-  -- where nothing stands nothing changes
+  -- where nothing is nothing changes
   pub change_none : (n : ℕ) (f : A → A) (l : List (ℕ × A)) → object_at n l ≡ None → change_at n f l ≡ l
   change_none n f [] h = refl
   change_none n f (e ∷ l) h =
       go (nat_eq n e.0) refl (λ later. change_none n f l later)
     where
-      go : (b : Bool) → nat_eq n e.0 ≡ b → (object_at n l ≡ None → change_at n f l ≡ l) → (e.0, cond b (f e.1) e.1) ∷ change_at n f l ≡ e ∷ l
+      go : (b : Bool) → nat_eq n e.0 ≡ b → (object_at n l ≡ None → change_at n f l ≡ l)
+          → (e.0, cond b (f e.1) e.1) ∷ change_at n f l ≡ e ∷ l
       go true is later = let here = sym (ap (λ (b : Bool). cond b (Some e.1) (object_at n l)) is) ∙ h in absurd (cc)
-      go false is later = ap (λ (t : List (ℕ × A)). e ∷ t) (later (sym (ap (λ (b : Bool). cond b (Some e.1) (object_at n l)) is) ∙ h))
+      go false is later =
+          ap (λ (t : List (ℕ × A)). e ∷ t) (later (sym (ap (λ (b : Bool). cond b (Some e.1) (object_at n l)) is) ∙ h))
 
-  -- a number stands once
-  pub none_later : (n : ℕ) (e : ℕ × A) (l : List (ℕ × A)) → IsInOrder (e ∷ l) → nat_eq n e.0 ≡ true → object_at n l ≡ None
+  -- a number is there once
+  pub none_later : (n : ℕ) (e : ℕ × A) (l : List (ℕ × A)) → IsInOrder (e ∷ l) → nat_eq n e.0 ≡ true
+      → object_at n l ≡ None
   none_later n e l o same = go (object_at n l) refl
     where
       go : (v : Option A) → object_at n l ≡ v → object_at n l ≡ None
@@ -61,7 +68,9 @@ module _ {A : Type 0} where
       go (Some x) is = let not_here = none_after e l n o (subst (λ (v : Option A). IsSome v) (sym is) refl) in absurd (cc)
 
   -- a sum over the values, after a change
-  pub sum-change : (g : A → ℕ) (n : ℕ) (f : A → A) (l : List (ℕ × A)) → IsInOrder l → sum_by g (values_of (change_at n f l)) + option_map_or g (object_at n l) 0 ≡ sum_by g (values_of l) + option_map_or (λ x. g (f x)) (object_at n l) 0
+  pub sum-change : (g : A → ℕ) (n : ℕ) (f : A → A) (l : List (ℕ × A)) → IsInOrder l
+      → sum_by g (values_of (change_at n f l)) + option_map_or g (object_at n l) 0
+      ≡ sum_by g (values_of l) + option_map_or (λ x. g (f x)) (object_at n l) 0
   sum-change g n f [] o = refl
   sum-change g n f (e ∷ l) o =
       go (nat_eq n e.0) refl (sum-change g n f l (in_order_after e l o))
@@ -69,43 +78,68 @@ module _ {A : Type 0} where
       was : sum_by g (values_of (e ∷ l)) ≡ g e.1 + sum_by g (values_of l)
       was = sum_by-cons g e.1 (values_of l)
 
-      go : (b : Bool) → nat_eq n e.0 ≡ b → sum_by g (values_of (change_at n f l)) + option_map_or g (object_at n l) 0 ≡ sum_by g (values_of l) + option_map_or (λ x. g (f x)) (object_at n l) 0 → sum_by g (cond b (f e.1) e.1 ∷ values_of (change_at n f l)) + option_map_or g (cond b (Some e.1) (object_at n l)) 0 ≡ sum_by g (e.1 ∷ values_of l) + option_map_or (λ x. g (f x)) (cond b (Some e.1) (object_at n l)) 0
+      go : (b : Bool) → nat_eq n e.0 ≡ b → sum_by g (values_of (change_at n f l)) + option_map_or g (object_at n l) 0
+          ≡ sum_by g (values_of l) + option_map_or (λ x. g (f x)) (object_at n l) 0
+          → sum_by g (cond b (f e.1) e.1 ∷ values_of (change_at n f l))
+          + option_map_or g (cond b (Some e.1) (object_at n l)) 0 ≡ sum_by g (e.1 ∷ values_of l) + option_map_or
+          (λ x. g (f x)) (cond b (Some e.1) (object_at n l)) 0
       go true is later =
           let same = ap (λ (t : List (ℕ × A)). sum_by g (values_of t)) (change_none n f l (none_later n e l o is)) in
           omega (arith, was, same, sum_by-cons g (f e.1) (values_of (change_at n f l)))
       go false is later = omega (arith, was, later, sum_by-cons g e.1 (values_of (change_at n f l)))
 
   -- a change that leaves what is summed leaves the sum
-  pub sum_same-change : (g : A → ℕ) (n : ℕ) (f : A → A) → ((x : A) → g (f x) ≡ g x) → (l : List (ℕ × A)) → sum_by g (values_of (change_at n f l)) ≡ sum_by g (values_of l)
+  pub sum_same-change : (g : A → ℕ) (n : ℕ) (f : A → A) → ((x : A) → g (f x) ≡ g x) → (l : List (ℕ × A))
+      → sum_by g (values_of (change_at n f l)) ≡ sum_by g (values_of l)
   sum_same-change g n f same [] = refl
   sum_same-change g n f same (e ∷ l) =
       go (nat_eq n e.0) (sum_same-change g n f same l)
     where
-      go : (b : Bool) → sum_by g (values_of (change_at n f l)) ≡ sum_by g (values_of l) → sum_by g (cond b (f e.1) e.1 ∷ values_of (change_at n f l)) ≡ sum_by g (e.1 ∷ values_of l)
-      go true later = omega (arith, later, same e.1, sum_by-cons g (f e.1) (values_of (change_at n f l)), sum_by-cons g e.1 (values_of l))
-      go false later = omega (arith, later, sum_by-cons g e.1 (values_of (change_at n f l)), sum_by-cons g e.1 (values_of l))
+      go : (b : Bool) → sum_by g (values_of (change_at n f l)) ≡ sum_by g (values_of l)
+          → sum_by g (cond b (f e.1) e.1 ∷ values_of (change_at n f l)) ≡ sum_by g (e.1 ∷ values_of l)
+      go true later =
+          omega (
+            arith,
+            later,
+            same e.1,
+            sum_by-cons g (f e.1) (values_of (change_at n f l)),
+            sum_by-cons g e.1
+                (values_of l),
+          )
+      go false later =
+          omega (arith, later, sum_by-cons g e.1 (values_of (change_at n f l)), sum_by-cons g e.1 (values_of l))
 
 module _ {B : Type 0} where
-  -- what stands at each number after a change in a slot
-  pub object_at-change_in : (slot : ℕ) (f : Placed B → Placed B) (m : ℕ) (l : List (ℕ × Placed B)) → object_at m (change_in slot f l) ≡ option_map (λ object. cond (nat_eq slot object.slot) (f object) object) (object_at m l)
+  -- what is at each number after a change in a slot
+  pub object_at-change_in : (slot : ℕ) (f : Placed B → Placed B) (m : ℕ) (l : List (ℕ × Placed B))
+      → object_at m (change_in slot f l) ≡ option_map (λ object. cond (nat_eq slot object.slot) (f object) object)
+      (object_at m l)
   object_at-change_in slot f m [] = refl
   object_at-change_in slot f m (e ∷ l) =
       go (nat_eq m e.0) (object_at-change_in slot f m l)
     where
-      go : (b : Bool) → object_at m (change_in slot f l) ≡ option_map (λ object. cond (nat_eq slot object.slot) (f object) object) (object_at m l) → cond b (Some (cond (nat_eq slot (e.1).slot) (f e.1) e.1)) (object_at m (change_in slot f l)) ≡ option_map (λ object. cond (nat_eq slot object.slot) (f object) object) (cond b (Some e.1) (object_at m l))
+      go : (b : Bool) → object_at m (change_in slot f l)
+          ≡ option_map (λ object. cond (nat_eq slot object.slot) (f object) object) (object_at m l)
+          → cond b (Some (cond (nat_eq slot (e.1).slot) (f e.1) e.1)) (object_at m (change_in slot f l))
+          ≡ option_map (λ object. cond (nat_eq slot object.slot) (f object) object)
+          (cond b (Some e.1) (object_at m l))
       go true later = refl
       go false later = later
 
-  pub numbers-change_in : (slot : ℕ) (f : Placed B → Placed B) (l : List (ℕ × Placed B)) → numbers (change_in slot f l) ≡ numbers l
+  pub numbers-change_in : (slot : ℕ) (f : Placed B → Placed B) (l : List (ℕ × Placed B))
+      → numbers (change_in slot f l) ≡ numbers l
   numbers-change_in slot f [] = refl
   numbers-change_in slot f (e ∷ l) = ap (λ (ns : List ℕ). e.0 ∷ ns) (numbers-change_in slot f l)
 
   -- a change in a slot is one at the number of the object there
-  pub change_in_is : (slot n : ℕ) (f : Placed B → Placed B) (l : List (ℕ × Placed B)) → AreStored l → IsIn n slot l → change_in slot f l ≡ change_at n f l
+  pub change_in_is : (slot n : ℕ) (f : Placed B → Placed B) (l : List (ℕ × Placed B)) → AreStored l → IsIn n slot l
+      → change_in slot f l ≡ change_at n f l
   change_in_is slot n f l s here =
       same_in_order (change_in slot f l) (change_at n f l) (rw (numbers-change_in slot f l) s.in_order) (in_order-change n f l s.in_order) (λ m. object_at-change_in slot f m l ∙ each m (object_at m l) refl ∙ sym (object_at-change n f m l))
     where
-      each : (m : ℕ) (o : Option (Placed B)) → object_at m l ≡ o → option_map (λ object. cond (nat_eq slot object.slot) (f object) object) o ≡ cond (nat_eq n m) (option_map f o) o
+      each : (m : ℕ) (o : Option (Placed B)) → object_at m l ≡ o
+          → option_map (λ object. cond (nat_eq slot object.slot) (f object) object) o
+          ≡ cond (nat_eq n m) (option_map f o) o
       each m None is = none (nat_eq n m)
         where
           none : (b : Bool) → None ≡ cond {A = Option (Placed B)} b None None
@@ -140,7 +174,8 @@ module _ {A : Type 0} where
       go false = refl
 
   -- a change over another is one
-  pub change_over : (n : ℕ) (f g h : A → A) → ((x : A) → f (g x) ≡ h x) → (l : List (ℕ × A)) → change_at n f (change_at n g l) ≡ change_at n h l
+  pub change_over : (n : ℕ) (f g h : A → A) → ((x : A) → f (g x) ≡ h x) → (l : List (ℕ × A))
+      → change_at n f (change_at n g l) ≡ change_at n h l
   change_over n f g h same [] = refl
   change_over n f g h same (e ∷ l) =
       ap (λ (x : A). (e.0, x) ∷ change_at n f (change_at n g l)) (go (nat_eq n e.0)) ∙ ap (λ (t : List (ℕ × A)). (e.0, cond (nat_eq n e.0) (h e.1) e.1) ∷ t) (change_over n f g h same l)

@@ -25,7 +25,9 @@ module _ {B : Type 0} where
         ∙ change_same n _ (refilled ws) l s.in_order (λ p at. each p (own p at))
       where
         body_is : Array (record array { elements = now }) ≡ with_words ws it.body
-        body_is = ap (λ (es : List Word). Array (record array { elements = es })) same ∙ sym (ap (λ (b : Body B). with_words ws b) is)
+        body_is =
+            ap (λ (es : List Word). Array (record array { elements = es })) same
+            ∙ sym (ap (λ (b : Body B). with_words ws b) is)
 
         each : (p : Placed B) → p.item ≡ it → with_item (record { count = it.count; touched = true; body = Array (record array { elements = now }) }) p ≡ refilled ws p
         each p at =
@@ -49,6 +51,7 @@ module _ {B : Type 0} where
     pub array_mine : (array : arrays.Array) → it.body ≡ Array array → stored_array n l ≡ Some array
     array_mine array is = go (object_at n l) refl
       where
-        go : (v : Option (Placed B)) → object_at n l ≡ v → option_and_then (λ object. array_of (object.item).body) v ≡ Some array
+        go : (v : Option (Placed B)) → object_at n l ≡ v → option_and_then (λ object. array_of (object.item).body) v
+            ≡ Some array
         go None at = absurd (subst (λ (v : Option (Placed B)). IsSomeAnd v (λ object. object.item ≡ it)) at mine)
         go (Some p) at = ap (λ (i : Item B). array_of i.body) (own p at) ∙ ap (λ (b : Body B). array_of b) is

@@ -26,30 +26,36 @@ is_at_eq : (x y : ℕ) → is_at (nat_cmp x) y ≡ nat_eq x y
 is_at_eq x y = grind (arith, nat_tests)
 
 -- what a map is without a number
-pub removed_by_number : {A : Type 0} (n : ℕ) (l : List (ℕ × A)) → remove_entry (is_at (nat_cmp n)) l ≡ remove_entry (nat_eq n) l
+pub removed_by_number : {A : Type 0} (n : ℕ) (l : List (ℕ × A)) → remove_entry (is_at (nat_cmp n)) l
+    ≡ remove_entry (nat_eq n) l
 removed_by_number n [] = refl
-removed_by_number n (e ∷ l) = ap (λ (b : Bool). cond b l (e ∷ remove_entry (is_at (nat_cmp n)) l)) (is_at_eq n e.0) ∙ ap (λ (t : List (ℕ × _)). cond (nat_eq n e.0) l (e ∷ t)) (removed_by_number n l)
+removed_by_number n (e ∷ l) =
+    ap (λ (b : Bool). cond b l (e ∷ remove_entry (is_at (nat_cmp n)) l)) (is_at_eq n e.0)
+    ∙ ap (λ (t : List (ℕ × _)). cond (nat_eq n e.0) l (e ∷ t)) (removed_by_number n l)
 
 level : (x y : ℕ) → nat_cmp x y ≡ Equal → nat_eq x y ≡ true
 level x y h = grind (arith, nat_tests)
 
--- a number at which nothing stands is not that of the first entry, nor of a later one
-not_first : {A : Type 0} (n : ℕ) (e : ℕ × A) (l : List (ℕ × A)) → object_at n (e ∷ l) ≡ None → (nat_eq n e.0 ≡ false) × (object_at n l ≡ None)
+-- a number at which nothing is is not that of the first entry, nor of a later one
+not_first : {A : Type 0} (n : ℕ) (e : ℕ × A) (l : List (ℕ × A)) → object_at n (e ∷ l) ≡ None → (nat_eq n e.0 ≡ false)
+    × (object_at n l ≡ None)
 not_first {A} n e l h = go (nat_eq n e.0) refl
   where
     go : (b : Bool) → nat_eq n e.0 ≡ b → (nat_eq n e.0 ≡ false) × (object_at n l ≡ None)
     go true is = let here = ap (λ (b : Bool). cond b (Some e.1) (object_at n l)) is in let both : Some e.1 ≡ None = sym here ∙ h in absurd (cc)
     go false is = (is, sym (ap (λ (b : Bool). cond b (Some e.1) (object_at n l)) is) ∙ h)
 
-none_later : {A : Type 0} (n : ℕ) (e : ℕ × A) (l : List (ℕ × A)) → IsInOrder (e ∷ l) → nat_eq n e.0 ≡ true → object_at n l ≡ None
+none_later : {A : Type 0} (n : ℕ) (e : ℕ × A) (l : List (ℕ × A)) → IsInOrder (e ∷ l) → nat_eq n e.0 ≡ true
+    → object_at n l ≡ None
 none_later {A} n e l o same = go (object_at n l) refl
   where
     go : (v : Option A) → object_at n l ≡ v → object_at n l ≡ None
     go None is = is
     go (Some x) is = let not_here = none_after e l n o (subst (λ (v : Option A). IsSome v) (sym is) refl) in absurd (cc)
 
--- what stands at each number once one was taken out
-pub object_at-removed : {A : Type 0} (n m : ℕ) (l : List (ℕ × A)) → IsInOrder l → object_at m (remove_entry (nat_eq n) l) ≡ cond (nat_eq n m) None (object_at m l)
+-- what is at each number once one was taken out
+pub object_at-removed : {A : Type 0} (n m : ℕ) (l : List (ℕ × A)) → IsInOrder l
+    → object_at m (remove_entry (nat_eq n) l) ≡ cond (nat_eq n m) None (object_at m l)
 object_at-removed {A} n m [] o = go (nat_eq n m)
   where
     go : (b : Bool) → None ≡ cond {A = Option A} b None None
@@ -58,7 +64,8 @@ object_at-removed {A} n m [] o = go (nat_eq n m)
 object_at-removed {A} n m (e ∷ l) o =
     go (nat_eq n e.0) refl (object_at-removed n m l (in_order_after e l o))
   where
-    split : (b : Bool) → nat_eq n m ≡ b → nat_eq n e.0 ≡ true → object_at m l ≡ cond b None (cond (nat_eq m e.0) (Some e.1) (object_at m l))
+    split : (b : Bool) → nat_eq n m ≡ b → nat_eq n e.0 ≡ true
+        → object_at m l ≡ cond b None (cond (nat_eq m e.0) (Some e.1) (object_at m l))
     split true p is =
         let same : n ≡ m = eqb-true n m p in
         ap (λ (k : ℕ). object_at k l) (sym same) ∙ none_later n e l o is
@@ -66,7 +73,8 @@ object_at-removed {A} n m (e ∷ l) o =
         let apart : nat_eq m e.0 ≡ false = grind (arith, nat_tests) in
         sym (ap (λ (b : Bool). cond b (Some e.1) (object_at m l)) apart)
 
-    other : (b c : Bool) → nat_eq n m ≡ b → nat_eq m e.0 ≡ c → nat_eq n e.0 ≡ false → cond c (Some e.1) (cond b None (object_at m l)) ≡ cond b None (cond c (Some e.1) (object_at m l))
+    other : (b c : Bool) → nat_eq n m ≡ b → nat_eq m e.0 ≡ c → nat_eq n e.0 ≡ false
+        → cond c (Some e.1) (cond b None (object_at m l)) ≡ cond b None (cond c (Some e.1) (object_at m l))
     other false c p q is = refl
     other true false p q is = refl
     other true true p q is =
@@ -74,12 +82,16 @@ object_at-removed {A} n m (e ∷ l) o =
         let yes = eq-eqb n e.0 same in
         absurd (cc)
 
-    go : (b : Bool) → nat_eq n e.0 ≡ b → object_at m (remove_entry (nat_eq n) l) ≡ cond (nat_eq n m) None (object_at m l) → object_at m (cond b l (e ∷ remove_entry (nat_eq n) l)) ≡ cond (nat_eq n m) None (cond (nat_eq m e.0) (Some e.1) (object_at m l))
+    go : (b : Bool) → nat_eq n e.0 ≡ b → object_at m (remove_entry (nat_eq n) l)
+        ≡ cond (nat_eq n m) None (object_at m l) → object_at m (cond b l (e ∷ remove_entry (nat_eq n) l))
+        ≡ cond (nat_eq n m) None (cond (nat_eq m e.0) (Some e.1) (object_at m l))
     go true is later = split (nat_eq n m) refl is
-    go false is later = ap (λ (v : Option A). cond (nat_eq m e.0) (Some e.1) v) later ∙ other (nat_eq n m) (nat_eq m e.0) refl refl is
+    go false is later =
+        ap (λ (v : Option A). cond (nat_eq m e.0) (Some e.1) v) later ∙ other (nat_eq n m) (nat_eq m e.0) refl refl is
 
 -- lists of slots that are alike for a test that an empty slot fails have as many that pass
-pub count_same : {A : Type 0} (p : Option A → Bool) → p None ≡ false → (xs ys : List (Option A)) → ((k : ℕ) → p (get_or xs k None) ≡ p (get_or ys k None)) → count_by p xs ≡ count_by p ys
+pub count_same : {A : Type 0} (p : Option A → Bool) → p None ≡ false → (xs ys : List (Option A))
+    → ((k : ℕ) → p (get_or xs k None) ≡ p (get_or ys k None)) → count_by p xs ≡ count_by p ys
 count_same p none [] [] h = refl
 count_same p none [] (y ∷ ys) h =
     let here : p y ≡ false = sym (h 0) ∙ none in
@@ -111,20 +123,24 @@ module _ {B : Type 0} where
       at_most None = omega arith
       at_most (Some entry) = flag entry.waiting
 
-  -- the slabs differ in one slot alone
+  -- the slabs differ in one slot only
   pub record SameBut (old new : Slab (Entry B)) (slot : ℕ) : Type 0 where
     pub same : (s : ℕ) → s ≢ slot → get new s ≡ get old s
 
   module _ {old new : Slab (Entry B)} {slot : ℕ} (others : SameBut old new slot) where
     -- an entry in another slot is where it was
-    at_other : (e : ℕ × ℕ) → (e.1 ≢ slot) → IsSomeAnd (get old e.1) (λ entry. entry.number ≡ e.0) → (rest rest' : List (ℕ × Placed B)) → rest' ≡ rest → (with_entry e.0 e.1 (get new e.1) rest' ≡ with_entry e.0 e.1 (get old e.1) rest) × IsSomeAnd (get new e.1) (λ entry. entry.number ≡ e.0)
+    at_other : (e : ℕ × ℕ) → (e.1 ≢ slot) → IsSomeAnd (get old e.1) (λ entry. entry.number ≡ e.0)
+        → (rest rest' : List (ℕ × Placed B)) → rest' ≡ rest
+        → (with_entry e.0 e.1 (get new e.1) rest' ≡ with_entry e.0 e.1 (get old e.1) rest)
+        × IsSomeAnd (get new e.1) (λ entry. entry.number ≡ e.0)
     at_other e apart p rest rest' same = (
       ap (λ (o : Option (Entry B)). with_entry e.0 e.1 o rest') (others.same e.1 apart) ∙ ap (λ (l : List (ℕ × Placed B)). with_entry e.0 e.1 (get old e.1) l) same,
       subst (λ (o : Option (Entry B)). IsSomeAnd o (λ entry. entry.number ≡ e.0)) (sym (others.same e.1 apart)) p,
     )
 
     -- where the slot was empty all stay
-    pub all_stay : get old slot ≡ None → (index : List (ℕ × ℕ)) → ArePlaced old index → (placed_in new index ≡ placed_in old index) × ArePlaced new index
+    pub all_stay : get old slot ≡ None → (index : List (ℕ × ℕ)) → ArePlaced old index
+        → (placed_in new index ≡ placed_in old index) × ArePlaced new index
     all_stay none [] a = (refl, tt)
     all_stay none (e ∷ index) a =
         let later = all_stay none index a.1 in
@@ -145,7 +161,8 @@ module _ {B : Type 0} where
           cc
 
       -- the entries of other numbers stay
-      others_stay : (index : List (ℕ × ℕ)) → ArePlaced old index → object_at n index ≡ None → (placed_in new index ≡ placed_in old index) × ArePlaced new index
+      others_stay : (index : List (ℕ × ℕ)) → ArePlaced old index → object_at n index ≡ None
+          → (placed_in new index ≡ placed_in old index) × ArePlaced new index
       others_stay [] a none = (refl, tt)
       others_stay (e ∷ index) a none =
           let first = not_first n e index none in
@@ -154,7 +171,9 @@ module _ {B : Type 0} where
           (here.0, (here.1, later.1))
 
       -- what is left once an object was taken from its slot
-      pub removed_in : (index : List (ℕ × ℕ)) → IsInOrder index → ArePlaced old index → (placed_in new (remove_entry (nat_eq n) index) ≡ remove_entry (nat_eq n) (placed_in old index)) × ArePlaced new (remove_entry (nat_eq n) index)
+      pub removed_in : (index : List (ℕ × ℕ)) → IsInOrder index → ArePlaced old index
+          → (placed_in new (remove_entry (nat_eq n) index) ≡ remove_entry (nat_eq n) (placed_in old index))
+          × ArePlaced new (remove_entry (nat_eq n) index)
       removed_in [] o a = (refl, tt)
       removed_in (e ∷ index) o a =
           go (nat_eq n e.0) refl (get old e.1) refl a.0 (removed_in index (in_order_after e index o) a.1)
@@ -163,9 +182,18 @@ module _ {B : Type 0} where
           rest = placed_in old index
 
           Goal : Bool → Option (Entry B) → Type 0
-          Goal b v = (placed_in new (cond b index (e ∷ remove_entry (nat_eq n) index)) ≡ remove_entry (nat_eq n) (with_entry e.0 e.1 v rest)) × ArePlaced new (cond b index (e ∷ remove_entry (nat_eq n) index))
+          Goal b v =
+              (placed_in new (cond b index (e ∷ remove_entry (nat_eq n) index))
+              ≡ remove_entry (nat_eq n) (with_entry e.0 e.1 v rest))
+              × ArePlaced new (cond b index (e ∷ remove_entry (nat_eq n) index))
 
-          go : (b : Bool) → nat_eq n e.0 ≡ b → (v : Option (Entry B)) → get old e.1 ≡ v → IsSomeAnd v (λ x. x.number ≡ e.0) → (placed_in new (remove_entry (nat_eq n) index) ≡ remove_entry (nat_eq n) rest) × ArePlaced new (remove_entry (nat_eq n) index) → (placed_in new (cond b index (e ∷ remove_entry (nat_eq n) index)) ≡ remove_entry (nat_eq n) (with_entry e.0 e.1 v rest)) × ArePlaced new (cond b index (e ∷ remove_entry (nat_eq n) index))
+          go : (b : Bool) → nat_eq n e.0 ≡ b → (v : Option (Entry B)) → get old e.1 ≡ v
+              → IsSomeAnd v (λ x. x.number ≡ e.0)
+              → (placed_in new (remove_entry (nat_eq n) index) ≡ remove_entry (nat_eq n) rest)
+              × ArePlaced new (remove_entry (nat_eq n) index)
+              → (placed_in new (cond b index (e ∷ remove_entry (nat_eq n) index))
+              ≡ remove_entry (nat_eq n) (with_entry e.0 e.1 v rest))
+              × ArePlaced new (cond b index (e ∷ remove_entry (nat_eq n) index))
           go b is None at p later = absurd p
           go true is (Some x) at p later =
               let tail = others_stay index a.1 (none_later n e index o is) in
@@ -184,8 +212,10 @@ module _ {B : Type 0} where
       new_placed : IsSomeAnd (get new slot) (λ x. x.number ≡ n)
       new_placed = subst (λ (o : Option (Entry B)). IsSomeAnd o (λ x. x.number ≡ n)) (sym now) number
 
-      -- what stands once an object came into an empty slot
-      pub inserted_in : (index : List (ℕ × ℕ)) → ArePlaced old index → object_at n index ≡ None → (placed_in new (with_at n slot index) ≡ with_at n (placed slot entry) (placed_in old index)) × ArePlaced new (with_at n slot index)
+      -- what is once an object came into an empty slot
+      pub inserted_in : (index : List (ℕ × ℕ)) → ArePlaced old index → object_at n index ≡ None
+          → (placed_in new (with_at n slot index) ≡ with_at n (placed slot entry) (placed_in old index))
+          × ArePlaced new (with_at n slot index)
       inserted_in [] a none = (new_here [], (new_placed, tt))
       inserted_in (e ∷ index) a none =
           go (nat_cmp n e.0) refl (get old e.1) refl a.0 (inserted_in index a.1 (not_first n e index none).1)
@@ -203,7 +233,14 @@ module _ {B : Type 0} where
               occupied None h is = h
               occupied (Some x) h is = cc
 
-          go : (b : Ordering) → nat_cmp n e.0 ≡ b → (v : Option (Entry B)) → get old e.1 ≡ v → IsSomeAnd v (λ x. x.number ≡ e.0) → (placed_in new (with_at n slot index) ≡ with_at n (placed slot entry) rest) × ArePlaced new (with_at n slot index) → (placed_in new (match_ordering b ((n, slot) ∷ e ∷ index) ((e.0, slot) ∷ index) (e ∷ with_at n slot index)) ≡ with_at n (placed slot entry) (with_entry e.0 e.1 v rest)) × ArePlaced new (match_ordering b ((n, slot) ∷ e ∷ index) ((e.0, slot) ∷ index) (e ∷ with_at n slot index))
+          go : (b : Ordering) → nat_cmp n e.0 ≡ b → (v : Option (Entry B)) → get old e.1 ≡ v
+              → IsSomeAnd v (λ x. x.number ≡ e.0)
+              → (placed_in new (with_at n slot index) ≡ with_at n (placed slot entry) rest)
+              × ArePlaced new (with_at n slot index)
+              → (placed_in new (match_ordering b ((n, slot) ∷ e ∷ index) ((e.0, slot) ∷ index)
+              (e ∷ with_at n slot index)) ≡ with_at n (placed slot entry) (with_entry e.0 e.1 v rest))
+              × ArePlaced new (match_ordering b ((n, slot) ∷ e ∷ index) ((e.0, slot) ∷ index)
+              (e ∷ with_at n slot index))
           go b is None at p later = absurd p
           go Less is (Some x) at p later =
               let as_was : placed_in new (e ∷ index) ≡ (e.0, placed e.1 x) ∷ rest = stay.0 ∙ ap (λ (v : Option (Entry B)). with_entry e.0 e.1 v rest) at in (
@@ -220,7 +257,10 @@ module _ {B : Type 0} where
               )
 
   -- an object that came leaves all in order
-  pub inserted_stored : (entries new : Slab (Entry B)) (index : List (ℕ × ℕ)) (idle : List ℕ) (small room slot n : ℕ) (entry : Entry B) → get entries slot ≡ None → Updates entries new slot (Some entry) → entry.number ≡ n → entry.waiting ≡ true → object_at n index ≡ None → length idle + slab_len entries + 1 ≤ room → IsStored entries index idle small → IsStored new (with_at n slot index) (idle ++ slot ∷ []) room
+  pub inserted_stored : (entries new : Slab (Entry B)) (index : List (ℕ × ℕ)) (idle : List ℕ) (small room slot n : ℕ)
+      (entry : Entry B) → get entries slot ≡ None → Updates entries new slot (Some entry) → entry.number ≡ n
+      → entry.waiting ≡ true → object_at n index ≡ None → length idle + slab_len entries + 1 ≤ room
+      → IsStored entries index idle small → IsStored new (with_at n slot index) (idle ++ slot ∷ []) room
   inserted_stored entries new index idle small room slot n entry was u number waits none fits s =
       let others : SameBut entries new slot = record { same = u.others } in
       let same = count_same is_unlisted refl new.slots entries.slots (λ k. alike k (nat_eq slot k) refl) in
@@ -242,7 +282,8 @@ module _ {B : Type 0} where
           ap is_unlisted now ∙ ap not waits ∙ sym (ap is_unlisted then)
       alike k false is = ap is_unlisted (u.others k (apart_from slot k is))
 
-      led_to : (k : ℕ) (o : Option (Entry B)) → IfSome o (λ x. object_at x.number index ≡ Some k) → IfSome o (λ x. object_at x.number (with_at n slot index) ≡ Some k)
+      led_to : (k : ℕ) (o : Option (Entry B)) → IfSome o (λ x. object_at x.number index ≡ Some k)
+          → IfSome o (λ x. object_at x.number (with_at n slot index) ≡ Some k)
       led_to k None h = tt
       led_to k (Some x) h = object_at-with_at n slot x.number index ∙ go (nat_eq x.number n) refl
         where
@@ -250,28 +291,38 @@ module _ {B : Type 0} where
           go true is = let nothing : object_at x.number index ≡ None = ap (λ (j : ℕ). object_at j index) (eqb-true x.number n is) ∙ none in let both : Some k ≡ None = sym h ∙ nothing in absurd (cc)
           go false is = h
 
-      led : (k : ℕ) (b : Bool) → nat_eq slot k ≡ b → IfSome (get new k) (λ x. object_at x.number (with_at n slot index) ≡ Some k)
+      led : (k : ℕ) (b : Bool) → nat_eq slot k ≡ b
+          → IfSome (get new k) (λ x. object_at x.number (with_at n slot index) ≡ Some k)
       led k true is =
           let slot_is : slot ≡ k = eqb-true slot k is in
           let here : object_at entry.number (with_at n slot index) ≡ Some slot =
           ap (λ (j : ℕ). object_at j (with_at n slot index)) number ∙ object_at-with_at n slot n index ∙ ap (λ (b : Bool). cond b (Some slot) (object_at n index)) (eq-eqb n n refl) in
           subst (λ (j : ℕ). IfSome (get new j) (λ x. object_at x.number (with_at n slot index) ≡ Some j)) slot_is
           (subst (λ (o : Option (Entry B)). IfSome o (λ x. object_at x.number (with_at n slot index) ≡ Some slot)) (sym u.changed) here)
-      led k false is = subst (λ (o : Option (Entry B)). IfSome o (λ x. object_at x.number (with_at n slot index) ≡ Some k)) (sym (u.others k (apart_from slot k is))) (led_to k (get entries k) (s.whole k))
+      led k false is =
+          subst (λ (o : Option (Entry B)). IfSome o (λ x. object_at x.number (with_at n slot index) ≡ Some k))
+          (sym (u.others k (apart_from slot k is))) (led_to k (get entries k) (s.whole k))
 
-      more : (k : ℕ) (o : Option (Entry B)) → IfSome o (λ x. x.waiting ≡ true → Contains idle k) → IfSome o (λ x. x.waiting ≡ true → Contains (idle ++ slot ∷ []) k)
+      more : (k : ℕ) (o : Option (Entry B)) → IfSome o (λ x. x.waiting ≡ true → Contains idle k)
+          → IfSome o (λ x. x.waiting ≡ true → Contains (idle ++ slot ∷ []) k)
       more k None h = tt
       more k (Some x) h = λ yes. Contains-append_left idle (slot ∷ []) k (h yes)
 
-      each : (k : ℕ) (b : Bool) → nat_eq slot k ≡ b → IfSome (get new k) (λ x. x.waiting ≡ true → Contains (idle ++ slot ∷ []) k)
+      each : (k : ℕ) (b : Bool) → nat_eq slot k ≡ b
+          → IfSome (get new k) (λ x. x.waiting ≡ true → Contains (idle ++ slot ∷ []) k)
       each k true is =
           let slot_is : slot ≡ k = eqb-true slot k is in
           subst (λ (j : ℕ). IfSome (get new j) (λ x. x.waiting ≡ true → Contains (idle ++ slot ∷ []) j)) slot_is
           (subst (λ (o : Option (Entry B)). IfSome o (λ x. x.waiting ≡ true → Contains (idle ++ slot ∷ []) slot)) (sym u.changed) (λ yes. Contains-append_right idle (slot ∷ []) slot (0, omega arith, refl)))
-      each k false is = subst (λ (o : Option (Entry B)). IfSome o (λ x. x.waiting ≡ true → Contains (idle ++ slot ∷ []) k)) (sym (u.others k (apart_from slot k is))) (more k (get entries k) (s.listed k))
+      each k false is =
+          subst (λ (o : Option (Entry B)). IfSome o (λ x. x.waiting ≡ true → Contains (idle ++ slot ∷ []) k))
+          (sym (u.others k (apart_from slot k is))) (more k (get entries k) (s.listed k))
 
   -- an object that went leaves all in order
-  pub removed_stored : (entries new : Slab (Entry B)) (index index' : List (ℕ × ℕ)) (idle : List ℕ) (room slot : ℕ) (entry : Entry B) → get entries slot ≡ Some entry → Updates entries new slot None → new.slots ≡ set entries.slots slot None → IsInOrder index' → index' ≡ remove_entry (nat_eq entry.number) index → IsStored entries index idle room → IsStored new index' idle room
+  pub removed_stored : (entries new : Slab (Entry B)) (index index' : List (ℕ × ℕ)) (idle : List ℕ) (room slot : ℕ)
+      (entry : Entry B) → get entries slot ≡ Some entry → Updates entries new slot None
+      → new.slots ≡ set entries.slots slot None → IsInOrder index' → index' ≡ remove_entry (nat_eq entry.number) index
+      → IsStored entries index idle room → IsStored new index' idle room
   removed_stored entries new index index' idle room slot entry was u slots o is s =
       let others : SameBut entries new slot = record { same = u.others } in
       let within = ContainsKey-within entries slot (subst (λ (v : Option (Entry B)). IsSome v) (sym was) refl) in
@@ -280,7 +331,9 @@ module _ {B : Type 0} where
       let fits = s.fits in
       record {
         in_order = o;
-        placed = subst (λ (l : List (ℕ × ℕ)). ArePlaced new l) (sym is) (removed_in others entry.number entry was refl index s.in_order s.placed).1;
+        placed =
+            subst (λ (l : List (ℕ × ℕ)). ArePlaced new l) (sym is)
+            (removed_in others entry.number entry was refl index s.in_order s.placed).1;
         whole = λ k. led k (nat_eq slot k) refl;
         listed = λ k. each k (nat_eq slot k) refl;
         fits = omega (arith, sums, count, fits);
@@ -289,7 +342,8 @@ module _ {B : Type 0} where
       mine : object_at entry.number index ≡ Some slot
       mine = subst (λ (v : Option (Entry B)). IfSome v (λ x. object_at x.number index ≡ Some slot)) was (s.whole slot)
 
-      led_to : (k : ℕ) → nat_eq slot k ≡ false → (v : Option (Entry B)) → IfSome v (λ x. object_at x.number index ≡ Some k) → IfSome v (λ x. object_at x.number index' ≡ Some k)
+      led_to : (k : ℕ) → nat_eq slot k ≡ false → (v : Option (Entry B))
+          → IfSome v (λ x. object_at x.number index ≡ Some k) → IfSome v (λ x. object_at x.number index' ≡ Some k)
       led_to k apart None h = tt
       led_to k apart (Some x) h = ap (λ (l : List (ℕ × ℕ)). object_at x.number l) is ∙ object_at-removed entry.number x.number index s.in_order ∙ go (nat_eq entry.number x.number) refl
         where
@@ -306,14 +360,18 @@ module _ {B : Type 0} where
           let slot_is : slot ≡ k = eqb-true slot k same in
           subst (λ (j : ℕ). IfSome (get new j) (λ x. object_at x.number index' ≡ Some j)) slot_is
           (subst (λ (v : Option (Entry B)). IfSome v (λ x. object_at x.number index' ≡ Some slot)) (sym u.changed) tt)
-      led k false same = subst (λ (v : Option (Entry B)). IfSome v (λ x. object_at x.number index' ≡ Some k)) (sym (u.others k (apart_from slot k same))) (led_to k same (get entries k) (s.whole k))
+      led k false same =
+          subst (λ (v : Option (Entry B)). IfSome v (λ x. object_at x.number index' ≡ Some k))
+          (sym (u.others k (apart_from slot k same))) (led_to k same (get entries k) (s.whole k))
 
       each : (k : ℕ) (b : Bool) → nat_eq slot k ≡ b → IfSome (get new k) (λ x. x.waiting ≡ true → Contains idle k)
       each k true is =
           let slot_is : slot ≡ k = eqb-true slot k is in
           subst (λ (j : ℕ). IfSome (get new j) (λ x. x.waiting ≡ true → Contains idle j)) slot_is
           (subst (λ (v : Option (Entry B)). IfSome v (λ x. x.waiting ≡ true → Contains idle slot)) (sym u.changed) tt)
-      each k false is = subst (λ (v : Option (Entry B)). IfSome v (λ x. x.waiting ≡ true → Contains idle k)) (sym (u.others k (apart_from slot k is))) (s.listed k)
+      each k false is =
+          subst (λ (v : Option (Entry B)). IfSome v (λ x. x.waiting ≡ true → Contains idle k))
+          (sym (u.others k (apart_from slot k is))) (s.listed k)
 
 -- a list of no items
 pub nothing_in : {A : Type 0} (l : List A) → length l ≡ 0 → l ≡ []
@@ -324,7 +382,8 @@ module _ {B : Type 0} where
   -- a slab that grew has the same entries
   pub placed_regrown : (entries : Slab (Entry B)) (capacity : ℕ) (index : List (ℕ × ℕ)) → placed_in (record entries { capacity = capacity }) index ≡ placed_in entries index
   placed_regrown entries capacity [] = refl
-  placed_regrown entries capacity (e ∷ index) = ap (λ (l : List (ℕ × Placed B)). with_entry e.0 e.1 (get entries e.1) l) (placed_regrown entries capacity index)
+  placed_regrown entries capacity (e ∷ index) =
+      ap (λ (l : List (ℕ × Placed B)). with_entry e.0 e.1 (get entries e.1) l) (placed_regrown entries capacity index)
 
   still_placed_regrown : (entries : Slab (Entry B)) (capacity : ℕ) (index : List (ℕ × ℕ)) → ArePlaced entries index → ArePlaced (record entries { capacity = capacity }) index
   still_placed_regrown entries capacity [] a = tt

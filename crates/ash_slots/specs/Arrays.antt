@@ -28,7 +28,9 @@ module _ {B : Type 0} where
 
   -- an array with other elements, which touches it
   abbrev pub refilled : List Word → Placed B → Placed B
-  refilled words object = with_item (record { count = (object.item).count; touched = true; body = with_words words (object.item).body }) object
+  refilled words object =
+      with_item
+      (record { count = (object.item).count; touched = true; body = with_words words (object.item).body }) object
 
 -- the elements of an array, and then as many initial values of their type as make it so long
 abbrev pub lengthened : ℕ → arrays.Array → List Word

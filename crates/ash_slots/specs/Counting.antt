@@ -8,7 +8,7 @@ use Rattle.ash_slots.specs.Bodies.{with_word}
 use Rattle.ash_slots.specs.Store.{Placed, with_item, change_at}
 
 module _ {B : Type 0} where
-  -- the count that is kept of an object; none where none lives
+  -- the count that the store has of an object; 0 where none lives
   abbrev pub counted : ℕ → List (ℕ × Placed B) → ℕ
   counted number objects = option_map_or (λ object. (object.item).count) (object_at number objects) 0
 
@@ -22,7 +22,11 @@ module _ {B : Type 0} where
 
   -- an object that is counted once less; where nothing is left it waits for the sweep
   abbrev pub once_less : Placed B → Placed B
-  once_less object = record { slot = object.slot; waiting = if (object.item).count == 1 then true else object.waiting; item = with_count ((object.item).count - 1) object.item }
+  once_less object = record {
+    slot = object.slot;
+    waiting = if (object.item).count == 1 then true else object.waiting;
+    item = with_count ((object.item).count - 1) object.item;
+  }
 
   -- the objects, with the one that a word is a handle to changed, if it is one
   abbrev pub change_handle : (Placed B → Placed B) → Option ℕ → List (ℕ × Placed B) → List (ℕ × Placed B)
@@ -31,4 +35,6 @@ module _ {B : Type 0} where
 
   -- an object with a word at a place, which touches it
   abbrev pub written : ℕ → Word → Placed B → Placed B
-  written place word object = with_item (record { count = (object.item).count; touched = true; body = with_word place word (object.item).body }) object
+  written place word object =
+      with_item
+      (record { count = (object.item).count; touched = true; body = with_word place word (object.item).body }) object

@@ -3,7 +3,7 @@ use Rattle.std.specs.Prelude.{◌≡◌, ℕ, ◌≤◌, true, List, length, Opt
 use Rattle.std.specs.Option.{option_and_then}
 use Rattle.ash_host.specs.declared.answer.HostAnswer.{HostAnswer}
 use Rattle.ash_host.specs.declared.host_object.HostObject.{Ghosts}
-use Rattle.ash_host.specs.Calls.{HostCall, SameRelation}
+use Rattle.ash_host.specs.Calls.{HostCall, SameRelation, max_state}
 use Rattle.ash_host.specs.Objects.{object_at}
 use Rattle.ash_slots.specs.declared.body.Body.{Body}
 use Rattle.ash_slots.specs.declared.body.Body.TheVariants.{Script, Array, Host}
@@ -15,13 +15,14 @@ box_of (Script _) = None
 box_of (Array _) = None
 box_of (Host box) = Some box
 
--- A host object answers a call within its relation, at its state before and after, and keeps its kind and its
--- relation. Its state has at most 1,024 bytes.
-pub record Responds {B : Type 0} (G : Ghosts B) (before : B) (call : HostCall) (answer : HostAnswer) (after : B) : Type 0 where
+-- A host object answers a call within its relation, at its state before and after. Its kind and its relation are as
+-- before, and its state is no longer than a state may be.
+pub record Responds {B : Type 0} (G : Ghosts B) (before : B) (call : HostCall) (answer : HostAnswer)
+    (after : B) : Type 0 where
   pub allowed : G.allows before call (G.state before) answer (G.state after)
   pub same_kind : G.kind_of after ≡ G.kind_of before
   pub same_relation : SameRelation (G.allows before) (G.allows after)
-  pub bounded : length (G.state after) ≤ 1024
+  pub bounded : length (G.state after) ≤ max_state
 
 module _ {B : Type 0} where
   -- the box of the host object of a number
@@ -33,7 +34,8 @@ module _ {B : Type 0} where
   boxed box object = with_item (record { count = (object.item).count; touched = true; body = Host box }) object
 
   -- The host object of a number answers a call, and nothing else changes.
-  pub record AnswersIn (G : Ghosts B) (number : ℕ) (call : HostCall) (answer : HostAnswer) (old new : List (ℕ × Placed B)) : Type 0 where
+  pub record AnswersIn (G : Ghosts B) (number : ℕ) (call : HostCall) (answer : HostAnswer)
+      (old new : List (ℕ × Placed B)) : Type 0 where
     pub before : B
     pub after : B
     pub was : stored_box number old ≡ Some before

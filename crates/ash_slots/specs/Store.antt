@@ -1,5 +1,7 @@
 -- Objects in their slots, as a list by ascending number.
-use Rattle.std.specs.Prelude.{◌≡◌, ℕ, ◌+◌, ◌≤◌, Bool, true, false, not, List, [], ◌∷◌, length, Option, None, Some, IfSome, IsSomeAnd, Contains, nat_eq, count_by, if◌then◌else◌}
+use Rattle.std.specs.Prelude.{◌≡◌, ℕ, ◌+◌, ◌≤◌, Bool, true, false}
+use Rattle.std.specs.Prelude.{not, List, [], ◌∷◌, length, Option, None}
+use Rattle.std.specs.Prelude.{Some, IfSome, IsSomeAnd, Contains, nat_eq, count_by, if◌then◌else◌}
 use Rattle.slab.specs.Slab.{Slab, get}
 use Rattle.ash_host.specs.Objects.{object_at, IsInOrder}
 use Rattle.ash_slots.specs.declared.entry.Item.{Item}
@@ -11,8 +13,8 @@ pub record Placed (B : Type 0) : Type 0 where
   pub waiting : Bool
   pub item : Item B
 
--- the objects by ascending number, how many slots wait for the sweep, how many can, and the slot that the next object is
--- put into
+-- the objects by ascending number, how many slots wait for the sweep, how many can, and the slot that the next object
+-- is put into
 pub record Store (B : Type 0) : Type 0 where
   pub objects : List (ℕ × Placed B)
   pub pending : ℕ
@@ -29,7 +31,7 @@ module _ {B : Type 0} where
   with_entry number slot None rest = rest
   with_entry number slot (Some entry) rest = (number, placed slot entry) ∷ rest
 
-  -- the objects that stand in these slots, each slot with its object's number
+  -- the objects that are in these slots, each slot with its object's number
   abbrev pub placed_in : Slab (Entry B) → List (ℕ × ℕ) → List (ℕ × Placed B)
   placed_in entries [] = []
   placed_in entries (e ∷ index) = with_entry e.0 e.1 (get entries e.1) (placed_in entries index)
@@ -68,7 +70,8 @@ module _ {B : Type 0} where
 
   -- the object in a slot is counted nowhere
   abbrev pub IsIdle : ℕ → List (ℕ × Placed B) → Type 0
-  IsIdle slot objects = (number : ℕ) × IsSomeAnd (object_at number objects) (λ object. (object.slot ≡ slot) × ((object.item).count ≡ 0))
+  IsIdle slot objects = (number : ℕ) × IsSomeAnd (object_at number objects) (λ object. (object.slot ≡ slot)
+      × ((object.item).count ≡ 0))
 
   -- no object waits for the sweep
   abbrev pub NoneWaits : List (ℕ × Placed B) → Type 0
@@ -77,7 +80,8 @@ module _ {B : Type 0} where
   -- the objects, with the one in a slot changed
   abbrev pub change_in : ℕ → (Placed B → Placed B) → List (ℕ × Placed B) → List (ℕ × Placed B)
   change_in slot change [] = []
-  change_in slot change (e ∷ objects) = (e.0, if nat_eq slot (e.1).slot then change e.1 else e.1) ∷ change_in slot change objects
+  change_in slot change (e ∷ objects) = (e.0, if nat_eq slot (e.1).slot then change e.1 else e.1)
+      ∷ change_in slot change objects
 
   -- an object with another item
   abbrev pub with_item : Item B → Placed B → Placed B
@@ -90,4 +94,5 @@ module _ {B : Type 0} where
 -- the entries, with the value at a number changed
 abbrev pub change_at : {A : Type 0} → ℕ → (A → A) → List (ℕ × A) → List (ℕ × A)
 change_at number change [] = []
-change_at number change (e ∷ entries) = (e.0, if nat_eq number e.0 then change e.1 else e.1) ∷ change_at number change entries
+change_at number change (e ∷ entries) = (e.0, if nat_eq number e.0 then change e.1 else e.1)
+    ∷ change_at number change entries

@@ -11,9 +11,11 @@ use ash_host::{HostAnswer, HostObject, Word};
 
 /// Begins the life of the host object in a slot.
 pub fn start_in<B: HostObject>(store: &mut Store<B>, slot: usize, args: &[Word]) -> HostAnswer
-    requires { (number : ℕ) × IsIn number slot store.old.objects × IsSome (stored_box number store.old.objects) }
+    requires { (number : ℕ) × IsIn number slot store.old.objects
+        × IsSome (stored_box number store.old.objects) }
     ensures { (number : ℕ) → IsIn number slot store.old.objects
-        → AnswersIn B.HostObject number (Start args.now) result store.old.objects store.new.objects }
+        → AnswersIn B.HostObject number (Start args.now) result store.old.objects
+        store.new.objects }
 {
     let item = store.item_mut(slot);
     item.touched = true;
@@ -31,9 +33,11 @@ pub fn invoke_in<B: HostObject>(
     method: u16,
     args: &[Word],
 ) -> HostAnswer
-    requires { (number : ℕ) × IsIn number slot store.old.objects × IsSome (stored_box number store.old.objects) }
+    requires { (number : ℕ) × IsIn number slot store.old.objects
+        × IsSome (stored_box number store.old.objects) }
     ensures { (number : ℕ) → IsIn number slot store.old.objects
-        → AnswersIn B.HostObject number (Invoke method args.now) result store.old.objects store.new.objects }
+        → AnswersIn B.HostObject number (Invoke method args.now) result store.old.objects
+        store.new.objects }
 {
     let item = store.item_mut(slot);
     item.touched = true;
@@ -46,9 +50,11 @@ pub fn invoke_in<B: HostObject>(
 
 /// Writes a property of the host object in a slot.
 pub fn set_in<B: HostObject>(store: &mut Store<B>, slot: usize, prop: u16, value: Word)
-    requires { (number : ℕ) × IsIn number slot store.old.objects × IsSome (stored_box number store.old.objects) }
+    requires { (number : ℕ) × IsIn number slot store.old.objects
+        × IsSome (stored_box number store.old.objects) }
     ensures { (number : ℕ) → IsIn number slot store.old.objects
-        → AnswersIn B.HostObject number (Set prop value) HostAnswer.Nothing store.old.objects store.new.objects }
+        → AnswersIn B.HostObject number (Set prop value) HostAnswer.Nothing store.old.objects
+        store.new.objects }
 {
     let item = store.item_mut(slot);
     item.touched = true;
@@ -61,7 +67,8 @@ pub fn set_in<B: HostObject>(store: &mut Store<B>, slot: usize, prop: u16, value
 
 /// The box of the host object in a slot.
 pub fn box_in<B>(store: &Store<B>, slot: usize) -> &B
-    requires { (number : ℕ) × IsIn number slot store.now.objects × IsSome (stored_box number store.now.objects) }
+    requires { (number : ℕ) × IsIn number slot store.now.objects
+        × IsSome (stored_box number store.now.objects) }
     ensures { (number : ℕ) → IsIn number slot store.now.objects
         → stored_box number store.now.objects ≡ Some result.now }
 {

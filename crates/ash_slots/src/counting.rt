@@ -21,7 +21,8 @@ pub fn count_more<B>(store: &mut Store<B>, slot: usize)
 
 /// Counts the object in a slot once less. Where nothing is left the next sweep looks at it.
 pub fn count_less<B>(store: &mut Store<B>, slot: usize)
-    requires { (number : ℕ) × IsIn number slot store.old.objects × (0 < counted number store.old.objects) }
+    requires { (number : ℕ) × IsIn number slot store.old.objects
+        × (0 < counted number store.old.objects) }
     ensures counted { (number : ℕ) → IsIn number slot store.old.objects
         → store.new.objects ≡ change_at number once_less store.old.objects }
     ensures room { store.new.room ≡ store.old.room }

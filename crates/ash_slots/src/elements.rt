@@ -11,7 +11,8 @@ use ash_host::NoMemory;
 /// Appends the initial value of its elements to the array in a slot until there are so many, which touches it. Where
 /// memory is refused it is as it was.
 pub fn grow_elements<B>(store: &mut Store<B>, slot: usize, len: usize) -> Result<(), NoMemory>
-    requires { (number : ℕ) × IsIn number slot store.old.objects × IsSome (stored_array number store.old.objects) }
+    requires { (number : ℕ) × IsIn number slot store.old.objects
+        × IsSome (stored_array number store.old.objects) }
     ensures grown { OnOk result ((number : ℕ) → IsIn number slot store.old.objects
         → IfSome (stored_array number store.old.objects) (λ array. store.new.objects
         ≡ change_at number (refilled (lengthened len array)) store.old.objects)) }
@@ -32,7 +33,8 @@ pub fn grow_elements<B>(store: &mut Store<B>, slot: usize, len: usize) -> Result
 
 /// Takes the elements out of the array in a slot, which touches it.
 pub fn take_elements<B>(store: &mut Store<B>, slot: usize) -> Words
-    requires { (number : ℕ) × IsIn number slot store.old.objects × IsSome (stored_array number store.old.objects) }
+    requires { (number : ℕ) × IsIn number slot store.old.objects
+        × IsSome (stored_array number store.old.objects) }
     ensures elements { (number : ℕ) → IsIn number slot store.old.objects
         → IfSome (stored_array number store.old.objects) (λ array. result ≡ array.elements) }
     ensures taken { (number : ℕ) → IsIn number slot store.old.objects
@@ -49,7 +51,8 @@ pub fn take_elements<B>(store: &mut Store<B>, slot: usize) -> Words
 
 /// Gives the array in a slot these elements, which touches it.
 pub fn put_elements<B>(store: &mut Store<B>, slot: usize, elements: Words)
-    requires { (number : ℕ) × IsIn number slot store.old.objects × IsSome (stored_array number store.old.objects) }
+    requires { (number : ℕ) × IsIn number slot store.old.objects
+        × IsSome (stored_array number store.old.objects) }
     ensures { (number : ℕ) → IsIn number slot store.old.objects
         → store.new.objects ≡ change_at number (refilled elements) store.old.objects }
 {

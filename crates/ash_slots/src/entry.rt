@@ -1,4 +1,4 @@
-//! What the table keeps of an object.
+//! What a store has of an object.
 
 use crate::body::Body;
 

@@ -12,9 +12,11 @@ use ash_host::Word;
 /// The word at a place of the object in a slot.
 pub fn read_word<B>(store: &Store<B>, slot: usize, place: usize) -> Word
     requires { (number : ℕ) × IsIn number slot store.now.objects
-        × IsSomeAnd (object_at number store.now.objects) (λ object. place < length (words_of (object.item).body)) }
+        × IsSomeAnd (object_at number store.now.objects)
+        (λ object. place < length (words_of (object.item).body)) }
     ensures { (number : ℕ) → IsIn number slot store.now.objects
-        → IsSomeAnd (object_at number store.now.objects) (λ object. slice_get (words_of (object.item).body) place ≡ Some result) }
+        → IsSomeAnd (object_at number store.now.objects)
+        (λ object. slice_get (words_of (object.item).body) place ≡ Some result) }
 {
     match &store.item(slot).body {
         Body::Script(script) => script.fields.get(place),
@@ -23,12 +25,14 @@ pub fn read_word<B>(store: &Store<B>, slot: usize, place: usize) -> Word
     }
 }
 
-/// Writes a word at a place of the object in a slot, which touches it, and hands back the word before.
+/// Writes a word at a place of the object in a slot, which touches it, and returns the word before.
 pub fn write_word<B>(store: &mut Store<B>, slot: usize, place: usize, word: Word) -> Word
     requires { (number : ℕ) × IsIn number slot store.old.objects
-        × IsSomeAnd (object_at number store.old.objects) (λ object. place < length (words_of (object.item).body)) }
+        × IsSomeAnd (object_at number store.old.objects)
+        (λ object. place < length (words_of (object.item).body)) }
     ensures before { (number : ℕ) → IsIn number slot store.old.objects
-        → IsSomeAnd (object_at number store.old.objects) (λ object. slice_get (words_of (object.item).body) place ≡ Some result) }
+        → IsSomeAnd (object_at number store.old.objects)
+        (λ object. slice_get (words_of (object.item).body) place ≡ Some result) }
     ensures written { (number : ℕ) → IsIn number slot store.old.objects
         → store.new.objects ≡ change_at number (written place word) store.old.objects }
     ensures stored { AreStored store.old.objects }

@@ -1,10 +1,10 @@
 //! Objects in slots, found by their numbers: what an object is, and what is read and written of one by its slot. It
 //! stands on `ash_host`, for words and host objects, and on a slab. It promises that a store is a list of objects by
-//! ascending number, each in a slot of its own, that each call changes of that list exactly what its contract names, and
-//! that each object which lost its last count, or is new, is on the list of slots that the next sweep looks at.
+//! ascending number, each in a slot of its own, that each call changes of that list exactly what its contract names,
+//! and that each object which lost its last count, or is new, is on the list of slots that the next sweep looks at.
 //!
-//! In reading order: `words` and `body` (what an object is), `entry` (what is kept of it), `store` (objects in slots),
-//! `counting` (the count of an object), `fields` and `elements` (its words), `calling` (its box).
+//! In reading order: `words` and `body` (what an object is), `entry` (what a store has of it), `store` (objects in
+//! slots), `counting` (the count of an object), `fields` and `elements` (its words), `calling` (its box).
 #![tactic(auto)]
 
 mod body;

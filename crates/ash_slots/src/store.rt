@@ -1,5 +1,6 @@
 //! Objects in slots, found by their numbers.
-ghost use Rattle.std.specs.Prelude.{◌≡◌, ◌≤◌, ◌+◌, ◌↔◌, IsTrue, ℕ, [], true, false, length, option_map, nat_eq, IsSomeAnd, IfSome, IfNone, OnSome, IfOk, IfErr, OnErr, Some, None};
+ghost use Rattle.std.specs.Prelude.{◌≡◌, ◌≤◌, ◌+◌, ◌↔◌, IsTrue, ℕ, [], true, false, length, option_map};
+ghost use Rattle.std.specs.Prelude.{nat_eq, IsSomeAnd, IfSome, IfNone, OnSome, IfOk, IfErr, OnErr, Some, None};
 ghost use Rattle.std.specs.Map.{remove_entry};
 ghost use Rattle.ash_host.specs.Objects.{object_at, with_at, IsInOrder};
 ghost use Rattle.std.specs.Borrow.{sem};
@@ -23,9 +24,9 @@ pub struct Store<B> {
 
 impl<B> Model for Store<B> {
     ghost use Rattle.std.specs.Prelude.{length, vec_capacity};
-    ghost use Rattle.ash_slots.specs.Store.{Store as Shelf, placed_in, IsStored};
+    ghost use Rattle.ash_slots.specs.Store.{Store as StoreModel, placed_in, IsStored};
 
-    ghost Value = { Shelf B };
+    ghost Value = { StoreModel B };
 
     ghost view = { λ s. record {
       objects = placed_in s.entries s.index.entries;
@@ -150,7 +151,8 @@ impl<B> Store<B> {
 
     /// Takes a slot from the list of those that the next sweep looks at. The slot may be empty.
     pub fn next_waiting(&mut self) -> Option<usize>
-        ensures objects { IfSome result (λ slot. self.new.objects ≡ change_in slot (with_waiting false) self.old.objects) }
+        ensures objects { IfSome result
+            (λ slot. self.new.objects ≡ change_in slot (with_waiting false) self.old.objects) }
         ensures fewer { OnSome result (self.new.pending + 1 ≡ self.old.pending) }
         ensures room { self.new.room ≡ self.old.room }
         ensures same { IfNone result (self.new ≡ self.old) }
@@ -178,8 +180,10 @@ impl<B> Store<B> {
     /// Puts an object of a new number into the vacant slot. The next sweep looks at it.
     pub fn insert(&mut self, number: u64, item: Item<B>) -> Result<usize, AllocFailed<Item<B>>>
         requires { object_at number self.old.objects ≡ None }
-        ensures objects { IfOk result (λ slot. self.new.objects
-            ≡ with_at number (record { slot = slot; waiting = true; item = item }) self.old.objects) }
+        ensures objects { IfOk result
+            (λ slot. self.new.objects
+            ≡ with_at number (record { slot = slot; waiting = true; item = item })
+            self.old.objects) }
         ensures slot { IfOk result (λ slot. slot ≡ self.old.vacant) }
         ensures unchanged { OnErr result (self.new.objects ≡ self.old.objects) }
         ensures given_back { IfErr result (λ failed. failed.value ≡ item) }
@@ -208,7 +212,8 @@ impl<B> Store<B> {
     pub fn remove(&mut self, slot: usize) -> Entry<B>
         requires { IsOccupied slot self.old.objects }
         ensures number { IsIn result.number slot self.old.objects }
-        ensures item { IsSomeAnd (object_at result.number self.old.objects) (λ object. object.item ≡ result.item) }
+        ensures item { IsSomeAnd (object_at result.number self.old.objects)
+            (λ object. object.item ≡ result.item) }
         ensures objects { self.new.objects ≡ remove_entry (nat_eq result.number) self.old.objects }
         ensures in_order { IsInOrder self.new.objects }
         ensures room { self.new.room ≡ self.old.room }

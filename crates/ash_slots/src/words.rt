@@ -1,5 +1,6 @@
 //! The words that an object holds.
-ghost use Rattle.std.specs.Prelude.{◌≡◌, ◌<◌, ◌-◌, ◌++◌, [], length, take, drop, replicate, slice_get, slice_set, Some, OnOk, OnErr};
+ghost use Rattle.std.specs.Prelude.{◌≡◌, ◌<◌, ◌-◌, ◌++◌, [], length, take};
+ghost use Rattle.std.specs.Prelude.{drop, replicate, slice_get, slice_set, Some, OnOk, OnErr};
 
 use ash_host::{NoMemory, Word};
 use std::marker::Model;
@@ -42,8 +43,8 @@ impl Words {
         self.words.as_slice()
     }
 
-    /// The words from a place on, in order; none where there is no such place.
-    pub fn after(&self, place: usize) -> &[Word]
+    /// The words from a place on, in order; none where the place is beyond them.
+    pub fn suffix(&self, place: usize) -> &[Word]
         ensures { result.now ≡ drop place self.now }
     {
         match self.words.get(place..) {
@@ -77,7 +78,8 @@ impl Words {
 
     /// Appends a word until there are so many. Where memory is refused nothing is appended.
     pub fn grow(&mut self, len: usize, word: Word) -> Result<(), NoMemory>
-        ensures grown { OnOk result (self.new ≡ self.old ++ replicate (len - length self.old) word) }
+        ensures grown { OnOk result
+            (self.new ≡ self.old ++ replicate (len - length self.old) word) }
         ensures unchanged { OnErr result (self.new ≡ self.old) }
     {
         let more = len.saturating_sub(self.words.len());
@@ -95,7 +97,7 @@ impl Words {
         self.words.truncate(len);
     }
 
-    /// Hands out the words, and leaves none. It takes no memory.
+    /// Moves the words out, and leaves none. It takes no memory.
     pub fn take(&mut self) -> Words
         ensures value { result ≡ self.old }
         ensures none { self.new ≡ [] }

@@ -1,7 +1,9 @@
--- The items of a module and the members of a class by kind, in source order, and their names.
+-- These definitions say what the items of a module and the members of a class are by kind, in source order, and what
+-- their names are.
 use Rattle.std.specs.Prelude.{◌+◌, ℕ, List, [], ◌∷◌, ◌++◌, map}
 use Rattle.ash_tree.specs.declared.tree.places.Place.{Place}
-use Rattle.ash_tree.specs.Tree.{Decl, Vars, Stmt, Parameter, Function, Constructor, Member, AMethod, AField, AConstructor, Class, Interface, Item, AClass, AnInterface, AFunction, AGlobal}
+use Rattle.ash_tree.specs.Tree.{Decl, Vars, Stmt, Parameter, Function, Constructor, Member, AMethod, AField}
+use Rattle.ash_tree.specs.Tree.{AConstructor, Class, Interface, Item, AClass, AnInterface, AFunction, AGlobal}
 
 abbrev pub classes_of : List Item → List Class
 classes_of [] = []
@@ -13,7 +15,8 @@ interfaces_of [] = []
 interfaces_of (AnInterface i ∷ is) = i ∷ interfaces_of is
 interfaces_of (_ ∷ is) = interfaces_of is
 
--- how many classes are declared before each interface, where there are so many before the first item
+-- `classes_before count items` says of each interface how many classes are declared before it, where there are `count`
+-- before the first item.
 abbrev pub classes_before : ℕ → List Item → List ℕ
 classes_before count [] = []
 classes_before count (AnInterface i ∷ is) = count ∷ classes_before count is
@@ -45,27 +48,25 @@ constructors_of [] = []
 constructors_of (AConstructor c ∷ ms) = c ∷ constructors_of ms
 constructors_of (_ ∷ ms) = constructors_of ms
 
--- names
-
 abbrev pub decl_name : Decl → List ℕ
 decl_name d = d.name
 
 abbrev pub names_of : Vars → List (List ℕ)
 names_of v = map decl_name v.decls
 
--- the names of variables
+-- `variable_names vs` are the names of variables.
 abbrev pub variable_names : List Vars → List (List ℕ)
 variable_names [] = []
 variable_names (v ∷ vs) = names_of v ++ variable_names vs
 
--- the names of a class's fields and methods
+-- `member_names ms` are the names of a class's fields and methods.
 abbrev pub member_names : List Member → List (List ℕ)
 member_names [] = []
 member_names (AField v ∷ ms) = names_of v ++ member_names ms
 member_names (AMethod f ∷ ms) = f.name ∷ member_names ms
 member_names (AConstructor c ∷ ms) = member_names ms
 
--- the names of a module's classes, interfaces, functions and variables
+-- `item_names items` are the names of a module's classes, interfaces, functions and variables.
 abbrev pub item_names : List Item → List (List ℕ)
 item_names [] = []
 item_names (AClass c ∷ is) = c.name ∷ item_names is
@@ -76,9 +77,7 @@ item_names (AGlobal v ∷ is) = names_of v ++ item_names is
 abbrev pub parameter_name : Parameter → List ℕ
 parameter_name p = p.name
 
--- what has a body
-
--- a function, a method or a constructor, as it is written after its result
+-- A routine is a function, a method or a constructor, as it is written after its result.
 pub record Routine : Type 0 where
   pub place : Place
   pub name : List ℕ

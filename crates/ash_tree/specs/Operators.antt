@@ -1,4 +1,5 @@
--- Which tokens are operators, and which words name primitive types (AngelScript manual, "Operator precedence").
+-- These definitions say which tokens are operators, and which words name primitive types (AngelScript manual, "Operator
+-- precedence").
 use Rattle.std.specs.Prelude.{ℕ, Option, Some, None}
 use Rattle.ash_lex.specs.Tokens.{Meaning, sign, reserved}
 use Rattle.ash_lex.specs.declared.signs.Sign.TheVariants as signs
@@ -12,7 +13,7 @@ use Rattle.ash_tree.specs.declared.tree.operators.BinaryOp.TheVariants as binary
 use Rattle.ash_tree.specs.declared.tree.operators.AssignOp.{AssignOp}
 use Rattle.ash_tree.specs.declared.tree.operators.AssignOp.TheVariants as assigns
 
--- the primitive type that a word names
+-- `primitive m` is the primitive type that a word names.
 unfoldable pub primitive : Meaning → Option Primitive
 primitive (reserved words.Bool) = Some primitives.Bool
 primitive (reserved words.Int) = Some primitives.Int
@@ -23,7 +24,7 @@ primitive (reserved words.Uint32) = Some primitives.Uint
 primitive (reserved words.Uint64) = Some primitives.Uint64
 primitive _ = None
 
--- the operator that a token is before its operand
+-- `unary_operator m` is the operator that a token is before its operand.
 unfoldable pub unary_operator : Meaning → Option UnaryOp
 unary_operator (sign signs.Plus) = Some unary.Plus
 unary_operator (sign signs.Minus) = Some unary.Minus
@@ -35,7 +36,7 @@ unary_operator (sign signs.Decrement) = Some unary.Decrement
 unary_operator (sign signs.Handle) = Some unary.Handle
 unary_operator _ = None
 
--- the operator that a token is between two operands
+-- `binary_operator m` is the operator that a token is between two operands.
 unfoldable pub binary_operator : Meaning → Option BinaryOp
 binary_operator (sign signs.Star) = Some binary.Multiply
 binary_operator (sign signs.Slash) = Some binary.Divide
@@ -64,7 +65,7 @@ binary_operator (sign signs.LogicalOr) = Some binary.Or
 binary_operator (reserved words.Or) = Some binary.Or
 binary_operator _ = None
 
--- the level of an operator, from 1 for the tightest
+-- `level operator` is the level of an operator, from 1 for the tightest.
 unfoldable pub level : BinaryOp → ℕ
 level binary.Multiply = 1
 level binary.Divide = 1
@@ -89,11 +90,11 @@ level binary.Xor = 8
 level binary.And = 9
 level binary.Or = 10
 
--- the loosest level
+-- `LEVELS` is the loosest level.
 abbrev pub LEVELS : ℕ
 LEVELS = 10
 
--- the operator that a token is after what it writes to
+-- `assign_operator m` is the operator that a token is after what it writes to.
 unfoldable pub assign_operator : Meaning → Option AssignOp
 assign_operator (sign signs.Assign) = Some assigns.Assign
 assign_operator (sign signs.PlusAssign) = Some assigns.Add

@@ -1,14 +1,14 @@
--- The tokens of a script as the grammar sees them: what each means, and its place.
+-- These definitions say what the tokens of a script are to the grammar: what each means, and its place.
 use Rattle.std.specs.Prelude.{List, map}
 use Rattle.ash_lex.specs.Tokens.{Meaning, meaning_of}
 use Rattle.ash_lex.specs.declared.tokens.Token.{Token}
 use Rattle.ash_tree.specs.declared.tree.places.Place.{Place}
 
--- tokens in order
+-- Tokens are in the order of the text.
 abbrev pub Tokens : Type 0
 Tokens = List (Meaning × Place)
 
--- where a token stands: its first byte, and its line
+-- `place_of_token t` is the place of a token: its first byte, and its line.
 abbrev pub place_of_token : Token → Place
 place_of_token t = record { at = t.from; line = t.line }
 

@@ -1,4 +1,4 @@
--- The trees of scripts, without where their parts lie in memory. Each node stands at a place.
+-- These definitions say what the trees of scripts are, without where their parts lie in memory. Each node has a place.
 use Rattle.std.specs.Prelude.{ℕ, Bool, List, [], ◌∷◌, Option}
 use Rattle.ash_tree.specs.declared.tree.places.Place.{Place}
 use Rattle.ash_tree.specs.declared.tree.types.Primitive.{Primitive}
@@ -7,12 +7,12 @@ use Rattle.ash_tree.specs.declared.tree.operators.BinaryOp.{BinaryOp}
 use Rattle.ash_tree.specs.declared.tree.operators.AssignOp.{AssignOp}
 use Rattle.ash_tree.specs.declared.tree.statements.Label.{Label}
 
--- the type of an array's elements: a primitive, or a handle of an object type
+-- The type of an array's elements is a primitive, or a handle of an object type.
 pub data Element : Type 0 where
   PrimElement : Place → Primitive → Element
   HandleElement : Place → List ℕ → Element
 
--- a type as it is written: a primitive, an object type, a handle of one, an array, or a handle of one
+-- A type, as it is written, is a primitive, an object type, a handle of one, an array, or a handle of one.
 pub data Named : Type 0 where
   Prim : Place → Primitive → Named
   Object : Place → List ℕ → Named
@@ -20,12 +20,12 @@ pub data Named : Type 0 where
   Array : Place → Element → Named
   ArrayHandle : Place → Element → Named
 
--- the name of a class or an interface where it is referred to
+-- A type name is the name of a class or an interface where it is referred to.
 pub record TypeName : Type 0 where
   pub place : Place
   pub name : List ℕ
 
--- an expression; the arguments of a call, the suffixes of an operand and the operators of one level stand as lists
+-- The arguments of a call, the suffixes of an operand and the operators of one level are lists in an expression.
 mutual
   pub data Expr : Type 0 where
     Number : Place → ℕ → Expr
@@ -48,7 +48,7 @@ mutual
     no_expr : Exprs
     expr : Expr → Exprs → Exprs
 
-  -- what stands after an operand
+  -- A suffix follows an operand.
   pub data Suffix : Type 0 where
     Field : Place → List ℕ → Suffix
     Method : Place → List ℕ → Exprs → Suffix
@@ -60,12 +60,12 @@ mutual
     no_suffix : Suffixes
     suffix : Suffix → Suffixes → Suffixes
 
-  -- each operator of a level with its right operand
+  -- Links are the operators of a level, each with its right operand.
   pub data Links : Type 0 where
     no_link : Links
     link : BinaryOp → Expr → Links → Links
 
--- what a variable begins with
+-- An initializer is what a variable begins with.
 pub data Initializer : Type 0 where
   Default : Initializer
   Value : Expr → Initializer
@@ -76,12 +76,12 @@ pub record Decl : Type 0 where
   pub name : List ℕ
   pub initializer : Initializer
 
--- variables of one type
+-- These variables are declared together, with one type.
 pub record Vars : Type 0 where
   pub of : Named
   pub decls : List Decl
 
--- a statement, or the declaration of variables in a block
+-- A statement may also be the declaration of variables in a block.
 mutual
   pub data Stmt : Type 0 where
     Empty : Place → Stmt
@@ -102,7 +102,7 @@ mutual
     no_stmt : Stmts
     stmt : Stmt → Stmts → Stmts
 
-  -- a label of a switch, with the statements after it
+  -- A case is a label of a switch, with the statements after it.
   pub data Case : Type 0 where
     labelled : Place → Label → Stmts → Case
 
@@ -115,7 +115,7 @@ pub record Parameter : Type 0 where
   pub place : Place
   pub name : List ℕ
 
--- a function, which is void without a result
+-- A function is void without a result.
 pub record Function : Type 0 where
   pub place : Place
   pub result : Option Named
@@ -129,20 +129,20 @@ pub record Constructor : Type 0 where
   pub parameters : List Parameter
   pub body : List Stmt
 
--- a member of a class
+-- A member of a class is a method, a field or a constructor.
 pub data Member : Type 0 where
   AMethod : Function → Member
   AField : Vars → Member
   AConstructor : Constructor → Member
 
--- a class with the interfaces that it lists
+-- A class has the interfaces that it lists.
 pub record Class : Type 0 where
   pub place : Place
   pub name : List ℕ
   pub interfaces : List TypeName
   pub members : List Member
 
--- a method that an interface declares, which is void without a result
+-- A method that an interface declares is void without a result.
 pub record InterfaceMethod : Type 0 where
   pub place : Place
   pub result : Option Named
@@ -154,14 +154,14 @@ pub record Interface : Type 0 where
   pub name : List ℕ
   pub methods : List InterfaceMethod
 
--- an item of a module
+-- An item of a module is a class, an interface, a function or global variables.
 pub data Item : Type 0 where
   AClass : Class → Item
   AnInterface : Interface → Item
   AFunction : Function → Item
   AGlobal : Vars → Item
 
--- a function without a body
+-- A signature is a function without a body.
 pub record Signature : Type 0 where
   pub place : Place
   pub result : Option Named
@@ -173,12 +173,12 @@ pub record Property : Type 0 where
   pub of : Named
   pub name : List ℕ
 
--- what a host registers
+-- A declaration is what a host registers.
 pub data Declaration : Type 0 where
   ASignature : Signature → Declaration
   AProperty : Property → Declaration
 
--- where an expression stands: its first token
+-- `place_of e` is the place of an expression: its first token.
 abbrev pub place_of : Expr → Place
 place_of (Number p n) = p
 place_of (Truth p b) = p
@@ -203,7 +203,7 @@ place_of_type (Handle p t) = p
 place_of_type (Array p t) = p
 place_of_type (ArrayHandle p t) = p
 
--- the lists in a tree, from lists
+-- `exprs es` is the list of these expressions as it is in a tree.
 abbrev pub exprs : List Expr → Exprs
 exprs [] = no_expr
 exprs (e ∷ es) = expr e (exprs es)
@@ -212,7 +212,7 @@ abbrev pub suffixes : List Suffix → Suffixes
 suffixes [] = no_suffix
 suffixes (s ∷ ss) = suffix s (suffixes ss)
 
--- an operator with its right operand
+-- An operation is an operator with its right operand.
 pub record Operation : Type 0 where
   pub operator : BinaryOp
   pub operand : Expr
@@ -229,12 +229,12 @@ abbrev pub cases : List Case → Cases
 cases [] = no_case
 cases (c ∷ cs) = next_case c (cases cs)
 
--- an operand alone is itself, and with operators after it one node with all of them
+-- `chained first more` is the operand itself without operators, and one node with all of them where there are any.
 abbrev pub chained : Expr → List Operation → Expr
 chained first [] = first
 chained first (l ∷ ls) = Binary (place_of first) first (links (l ∷ ls))
 
--- an operand alone is itself, and with suffixes after it one node with all of them
+-- `suffixed operand more` is the operand itself without suffixes, and one node with all of them where there are any.
 abbrev pub suffixed : Expr → List Suffix → Expr
 suffixed operand [] = operand
 suffixed operand (s ∷ ss) = Postfix (place_of operand) operand (suffixes (s ∷ ss))

@@ -14,13 +14,20 @@ use Rattle.ash_tree.specs.Operators.{primitive}
 
 -- "<" elem ">", where elem = prim | NAME "@". The last token is the sign `>` alone: `>>` and `>=` are other signs.
 pub data IsElement : Tokens → Element → Tokens → Type 0 where
-  prim_element : {m : Meaning} {o p z : Place} {k : Primitive} {left : Tokens} → primitive m ≡ Some k → IsElement ((sign signs.Less, o) ∷ (m, p) ∷ (sign signs.Greater, z) ∷ left) (PrimElement p k) left
-  handle_element : {o p q z : Place} {text : List ℕ} {left : Tokens} → IsElement ((sign signs.Less, o) ∷ (name text, p) ∷ (sign signs.Handle, q) ∷ (sign signs.Greater, z) ∷ left) (HandleElement p text) left
+  prim_element : {m : Meaning} {o p z : Place} {k : Primitive} {left : Tokens} → primitive m ≡ Some k
+      → IsElement ((sign signs.Less, o) ∷ (m, p) ∷ (sign signs.Greater, z) ∷ left) (PrimElement p k) left
+  handle_element : {o p q z : Place} {text : List ℕ} {left : Tokens}
+      → IsElement ((sign signs.Less, o) ∷ (name text, p) ∷ (sign signs.Handle, q) ∷ (sign signs.Greater, z) ∷ left)
+      (HandleElement p text) left
 
 -- type = prim | NAME ["@"] | "array" "<" elem ">" ["@"]
 pub data IsType : Tokens → Named → Tokens → Type 0 where
-  prim : {m : Meaning} {p : Place} {k : Primitive} {left : Tokens} → primitive m ≡ Some k → IsType ((m, p) ∷ left) (Prim p k) left
+  prim : {m : Meaning} {p : Place} {k : Primitive} {left : Tokens} → primitive m ≡ Some k
+      → IsType ((m, p) ∷ left) (Prim p k) left
   object : {p : Place} {text : List ℕ} {left : Tokens} → IsType ((name text, p) ∷ left) (Object p text) left
-  handle : {p q : Place} {text : List ℕ} {left : Tokens} → IsType ((name text, p) ∷ (sign signs.Handle, q) ∷ left) (Handle p text) left
-  array : {p : Place} {from left : Tokens} {e : Element} → IsElement from e left → IsType ((reserved words.Array, p) ∷ from) (Array p e) left
-  array_handle : {p q : Place} {from left : Tokens} {e : Element} → IsElement from e ((sign signs.Handle, q) ∷ left) → IsType ((reserved words.Array, p) ∷ from) (ArrayHandle p e) left
+  handle : {p q : Place} {text : List ℕ} {left : Tokens}
+      → IsType ((name text, p) ∷ (sign signs.Handle, q) ∷ left) (Handle p text) left
+  array : {p : Place} {from left : Tokens} {e : Element} → IsElement from e left
+      → IsType ((reserved words.Array, p) ∷ from) (Array p e) left
+  array_handle : {p q : Place} {from left : Tokens} {e : Element} → IsElement from e ((sign signs.Handle, q) ∷ left)
+      → IsType ((reserved words.Array, p) ∷ from) (ArrayHandle p e) left

@@ -1,4 +1,4 @@
--- What the code's trees stand for.
+-- These definitions say what the code's trees represent.
 use Rattle.std.specs.Prelude.{List, option_map, map, string_bytes}
 use Rattle.ash_tree.specs.declared.tree.places.Place.{Place}
 use Rattle.ash_tree.specs.declared.tree.types.TypeKind as type_kind
@@ -36,7 +36,16 @@ use Rattle.ash_tree.specs.declared.tree.items.Module as script
 use Rattle.ash_tree.specs.declared.tree.items.Signature as signature
 use Rattle.ash_tree.specs.declared.tree.items.Declaration as declaration
 use Rattle.ash_tree.specs.declared.tree.items.Declaration.TheVariants as declarations
-use Rattle.ash_tree.specs.Tree.{Element, PrimElement, HandleElement, Named, Prim, Object, Handle, Array, ArrayHandle, TypeName, Expr, Number, Truth, Null, This, Name, Call, Brackets, Convert, NewArray, Cast, Postfix, Unary, Binary, Conditional, Assign, Exprs, no_expr, expr, Suffix, Field, Method, Index, Increment, Decrement, Suffixes, no_suffix, suffix, Links, no_link, link, Operation, Initializer, Default, Value, Arguments, Decl, Vars, Stmt, Empty, Declare, Evaluate, Block, If, IfElse, While, DoWhile, For, Switch, Break, Continue, Return, Stmts, no_stmt, stmt, Case, labelled, Cases, no_case, next_case, Parameter, Function, Constructor, Member, AMethod, AField, AConstructor, Class, InterfaceMethod, Interface, Item, AClass, AnInterface, AFunction, AGlobal, Signature, Declaration, ASignature, AProperty}
+use Rattle.ash_tree.specs.Tree.{Element, PrimElement, HandleElement, Named, Prim, Object, Handle, Array, ArrayHandle}
+use Rattle.ash_tree.specs.Tree.{TypeName, Expr, Number, Truth, Null, This, Name, Call, Brackets, Convert, NewArray}
+use Rattle.ash_tree.specs.Tree.{Cast, Postfix, Unary, Binary, Conditional, Assign, Exprs, no_expr, expr, Suffix, Field}
+use Rattle.ash_tree.specs.Tree.{Method, Index, Increment, Decrement, Suffixes, no_suffix, suffix, Links, no_link, link}
+use Rattle.ash_tree.specs.Tree.{Operation, Initializer, Default, Value, Arguments, Decl, Vars, Stmt, Empty, Declare}
+use Rattle.ash_tree.specs.Tree.{Evaluate, Block, If, IfElse, While, DoWhile, For, Switch, Break, Continue, Return}
+use Rattle.ash_tree.specs.Tree.{Stmts, no_stmt, stmt, Case, labelled, Cases, no_case, next_case, Parameter, Function}
+use Rattle.ash_tree.specs.Tree.{Constructor, Member, AMethod, AField, AConstructor, Class, InterfaceMethod, Interface}
+use Rattle.ash_tree.specs.Tree.{Item, AClass, AnInterface, AFunction, AGlobal, Signature, Declaration, ASignature}
+use Rattle.ash_tree.specs.Tree.{AProperty}
 
 abbrev pub element_at : Place → element_kind.ElementKind → Element
 element_at place (element_kinds.Primitive k) = PrimElement place k
@@ -98,7 +107,7 @@ abbrev mutual
 abbrev pub expr_of : expr_code.Expr → Expr
 expr_of e = expr_at e.place e.kind
 
--- an operator of the code with its operand
+-- `operation_of l` is the operator with its right operand that the code's link represents.
 abbrev pub operation_of : link_code.Link → Operation
 operation_of l = record { operator = l.operator; operand = expr_of l.operand }
 
@@ -123,7 +132,8 @@ abbrev mutual
   stmt_at p (stmts_code.IfElse' c a q k b r l) = IfElse p (expr_of c) (stmt_at q k) (stmt_at r l)
   stmt_at p (stmts_code.While' c a q k) = While p (expr_of c) (stmt_at q k)
   stmt_at p (stmts_code.DoWhile' a q k c) = DoWhile p (stmt_at q k) (expr_of c)
-  stmt_at p (stmts_code.For' a q k c es b r l) = For p (stmt_at q k) (option_map expr_of c) (map expr_of es.items) (stmt_at r l)
+  stmt_at p (stmts_code.For' a q k c es b r l) =
+      For p (stmt_at q k) (option_map expr_of c) (map expr_of es.items) (stmt_at r l)
   stmt_at p (stmts_code.Switch' e shape cs) = Switch p (expr_of e) (cases_of cs)
   stmt_at p stmts_code.Break = Break p
   stmt_at p stmts_code.Continue = Continue p
@@ -147,10 +157,21 @@ abbrev pub parameter_of : parameter.Parameter → Parameter
 parameter_of p = record { of = type_of p.of; place = p.place; name = string_bytes p.name }
 
 abbrev pub function_of : function.Function → Function
-function_of f = record { place = f.place; result = option_map type_of f.result; name = string_bytes f.name; parameters = map parameter_of f.parameters.items; body = map stmt_of f.body.items }
+function_of f = record {
+  place = f.place;
+  result = option_map type_of f.result;
+  name = string_bytes f.name;
+  parameters = map parameter_of f.parameters.items;
+  body = map stmt_of f.body.items;
+}
 
 abbrev pub constructor_of : constructor.Constructor → Constructor
-constructor_of f = record { place = f.place; name = string_bytes f.name; parameters = map parameter_of f.parameters.items; body = map stmt_of f.body.items }
+constructor_of f = record {
+  place = f.place;
+  name = string_bytes f.name;
+  parameters = map parameter_of f.parameters.items;
+  body = map stmt_of f.body.items;
+}
 
 abbrev pub member_of : member.Member → Member
 member_of (members.Function f) = AMethod (function_of f)
@@ -158,13 +179,27 @@ member_of (members.Vars v) = AField (vars_of v)
 member_of (members.Constructor f) = AConstructor (constructor_of f)
 
 abbrev pub class_of : class.Class → Class
-class_of c = record { place = c.place; name = string_bytes c.name; interfaces = map type_name_of c.interfaces.items; members = map member_of c.members.items }
+class_of c = record {
+  place = c.place;
+  name = string_bytes c.name;
+  interfaces = map type_name_of c.interfaces.items;
+  members = map member_of c.members.items;
+}
 
 abbrev pub interface_method_of : interface_method.InterfaceMethod → InterfaceMethod
-interface_method_of m = record { place = m.place; result = option_map type_of m.result; name = string_bytes m.name; parameters = map parameter_of m.parameters.items }
+interface_method_of m = record {
+  place = m.place;
+  result = option_map type_of m.result;
+  name = string_bytes m.name;
+  parameters = map parameter_of m.parameters.items;
+}
 
 abbrev pub interface_of : interface.Interface → Interface
-interface_of i = record { place = i.place; name = string_bytes i.name; methods = map interface_method_of i.methods.items }
+interface_of i = record {
+  place = i.place;
+  name = string_bytes i.name;
+  methods = map interface_method_of i.methods.items;
+}
 
 abbrev pub item_of : item.Item → Item
 item_of (items.Class c) = AClass (class_of c)
@@ -176,8 +211,14 @@ abbrev pub module_of : script.Module → List Item
 module_of m = map item_of m.items.items
 
 abbrev pub signature_of : signature.Signature → Signature
-signature_of s = record { place = s.place; result = option_map type_of s.result; name = string_bytes s.name; parameters = map type_of s.parameters.items }
+signature_of s = record {
+  place = s.place;
+  result = option_map type_of s.result;
+  name = string_bytes s.name;
+  parameters = map type_of s.parameters.items;
+}
 
 abbrev pub declaration_of : declaration.Declaration → Declaration
 declaration_of (declarations.Function s) = ASignature (signature_of s)
-declaration_of (declarations.Property p) = AProperty (record { place = p.place; of = type_of p.of; name = string_bytes p.name })
+declaration_of (declarations.Property p) =
+    AProperty (record { place = p.place; of = type_of p.of; name = string_bytes p.name })

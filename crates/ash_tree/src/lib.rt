@@ -1,12 +1,12 @@
 //! Trees of scripts and the grammar that they are derived by.
 //!
 //! A tree is what the tokens of a script derive: `specs/Grammar.antt` says which tokens derive which tree, one
-//! case for each production. What reads tokens stands in `ash_parse`, and whatever goes over scripts goes over
-//! these trees. It stands on `ash_lex`, whose tokens the grammar is about.
+//! case for each production. What reads tokens is in `ash_parse`, and whatever goes over scripts goes over
+//! these trees. It uses `ash_lex`, whose tokens the grammar is about.
 //!
 //! In reading order: `tree`, what a script is made of: `places`, `types`, `operators`, `expressions`,
-//! `statements`, `items`. A node reports the offset that a fault in it names and the line that a tick before it
-//! sets. Operators of one level and the suffixes of an operand stand as lists, so that a tree is as deep as its
+//! `statements`, `items`. A node has the offset that a fault in it names and the line that a tick before it
+//! sets. Operators of one level and the suffixes of an operand are in lists, so that a tree is as deep as its
 //! brackets and statements nest, and no deeper where a sum is long.
 #![tactic(auto)]
 

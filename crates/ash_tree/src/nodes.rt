@@ -1,8 +1,11 @@
 //! Nodes that hold lists.
 
 ghost use Rattle.std.specs.Prelude.{◌≡◌, map, option_map, string_bytes, IfOk};
-ghost use Rattle.ash_tree.specs.Tree.{For, Brackets, Convert, NewArray, Cast, Unary, Assign, Evaluate, Declare, place_of, place_of_type, Block, Switch, labelled, stmts, cases, Call, Method, Index, exprs, chained, suffixed};
-ghost use Rattle.ash_tree.specs.Views.{expr_of, suffix_of, operation_of, stmt_of, case_of, type_of, element_of, type_name_of, vars_of};
+ghost use Rattle.ash_tree.specs.Tree.{Call, Brackets, Convert, NewArray, Cast, Unary, Assign, Method, Index};
+ghost use Rattle.ash_tree.specs.Tree.{Evaluate, Declare, Block, Switch, For, place_of, place_of_type};
+ghost use Rattle.ash_tree.specs.Tree.{exprs, chained, suffixed, stmts, labelled, cases};
+ghost use Rattle.ash_tree.specs.Views.{expr_of, suffix_of, operation_of, stmt_of, case_of, vars_of};
+ghost use Rattle.ash_tree.specs.Views.{type_of, element_of, type_name_of};
 
 use crate::tree::expressions::{Expr, ExprKind, Link, Suffix};
 use crate::tree::operators::{AssignOp, UnaryOp};
@@ -12,7 +15,8 @@ use crate::tree::types::{Element, Primitive, TypeName};
 use std::alloc::{AllocError, Global};
 
 pub fn call(place: Place, name: String, arguments: Vec<Expr>) -> Expr
-    ensures { expr_of result ≡ Call place (string_bytes name) (exprs (map expr_of arguments.items)) }
+    ensures { expr_of result
+        ≡ Call place (string_bytes name) (exprs (map expr_of arguments.items)) }
 {
     Expr {
         place,
@@ -21,7 +25,8 @@ pub fn call(place: Place, name: String, arguments: Vec<Expr>) -> Expr
 }
 
 pub fn method(place: Place, name: String, arguments: Vec<Expr>) -> Suffix
-    ensures { suffix_of result ≡ Method place (string_bytes name) (exprs (map expr_of arguments.items)) }
+    ensures { suffix_of result
+        ≡ Method place (string_bytes name) (exprs (map expr_of arguments.items)) }
 {
     Suffix::Method {
         place,
@@ -37,7 +42,8 @@ pub fn new_array(
     of: Element,
     arguments: Vec<Expr>,
 ) -> Result<Expr, AllocError>
-    ensures { IfOk result (λ e. expr_of e ≡ NewArray place (element_of of) (exprs (map expr_of arguments.items))) }
+    ensures { IfOk result (λ e. expr_of e
+        ≡ NewArray place (element_of of) (exprs (map expr_of arguments.items))) }
 {
     let of = Box::new(alloc, of)?;
     Ok(Expr {
@@ -46,9 +52,10 @@ pub fn new_array(
     })
 }
 
-/// The operand alone, or with the operators after it.
+/// The first operand, with the operators after it where there are any.
 pub fn binary(alloc: Global, first: Expr, links: Vec<Link>) -> Result<Expr, AllocError>
-    ensures { IfOk result (λ e. expr_of e ≡ chained (expr_of first) (map operation_of links.items)) }
+    ensures { IfOk result (λ e. expr_of e
+        ≡ chained (expr_of first) (map operation_of links.items)) }
 {
     if links.is_empty() {
         return Ok(first);
@@ -62,9 +69,10 @@ pub fn binary(alloc: Global, first: Expr, links: Vec<Link>) -> Result<Expr, Allo
     })
 }
 
-/// The operand alone, or with the suffixes after it.
+/// The operand, with the suffixes after it where there are any.
 pub fn postfix(alloc: Global, operand: Expr, suffixes: Vec<Suffix>) -> Result<Expr, AllocError>
-    ensures { IfOk result (λ e. expr_of e ≡ suffixed (expr_of operand) (map suffix_of suffixes.items)) }
+    ensures { IfOk result (λ e. expr_of e
+        ≡ suffixed (expr_of operand) (map suffix_of suffixes.items)) }
 {
     if suffixes.is_empty() {
         return Ok(operand);
@@ -165,7 +173,8 @@ pub fn assign(
     operator: AssignOp,
     value: Expr,
 ) -> Result<Expr, AllocError>
-    ensures { IfOk result (λ e. expr_of e ≡ Assign (place_of (expr_of target)) (expr_of target) operator (expr_of value)) }
+    ensures { IfOk result (λ e. expr_of e
+        ≡ Assign (place_of (expr_of target)) (expr_of target) operator (expr_of value)) }
 {
     let place = target.place;
     let target = Box::new(alloc, target)?;
@@ -203,32 +212,40 @@ pub fn declare(vars: Vars) -> Stmt
 }
 
 /// Two statements, each in a box.
-fn both_boxed(alloc: Global, one: Stmt, other: Stmt) -> Result<(Box<Stmt>, Box<Stmt>), AllocError>
+fn box_both(alloc: Global, one: Stmt, other: Stmt) -> Result<(Box<Stmt>, Box<Stmt>), AllocError>
     ensures { IfOk result (λ both. (both.0.value ≡ one) × (both.1.value ≡ other)) }
 {
-    let one = boxed(alloc, one);
-    let other = boxed(alloc, other);
+    let one = box_statement(alloc, one);
+    let other = box_statement(alloc, other);
     Ok((one?, other?))
 }
 
-fn boxed(alloc: Global, inner: Stmt) -> Result<Box<Stmt>, AllocError>
+fn box_statement(alloc: Global, inner: Stmt) -> Result<Box<Stmt>, AllocError>
     ensures { IfOk result (λ b. b.value ≡ inner) }
 {
     Ok(Box::new(alloc, inner)?)
 }
 
-/// `for (first; condition; steps) body`
-pub fn for_loop(
-    alloc: Global,
-    place: Place,
-    first: Stmt,
-    condition: Option<Expr>,
-    steps: Vec<Expr>,
-    body: Stmt,
-) -> Result<Stmt, AllocError>
-    ensures { IfOk result (λ s. stmt_of s ≡ For place (stmt_of first) (option_map expr_of condition) (map expr_of steps.items) (stmt_of body)) }
+/// What is between the brackets of a `for`: `first; condition; steps`.
+#[derive(Debug, Drop)]
+pub struct ForHead {
+    pub first: Stmt,
+    pub condition: Option<Expr>,
+    pub steps: Vec<Expr>,
+}
+
+/// `for (head) body`
+pub fn for_loop(alloc: Global, place: Place, head: ForHead, body: Stmt) -> Result<Stmt, AllocError>
+    ensures { IfOk result (λ s. stmt_of s
+        ≡ For place (stmt_of head.first) (option_map expr_of head.condition)
+        (map expr_of head.steps.items) (stmt_of body)) }
 {
-    let (first, body) = both_boxed(alloc, first, body)?;
+    let ForHead {
+        first,
+        condition,
+        steps,
+    } = head;
+    let (first, body) = box_both(alloc, first, body)?;
     Ok(Stmt {
         place,
         kind: StmtKind::For {

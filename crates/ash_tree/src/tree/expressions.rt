@@ -43,7 +43,7 @@ pub enum ExprKind {
         to: TypeName,
         value: Box<Expr>,
     },
-    /// An operand with suffixes, one at the least, in the order in which they stand.
+    /// An operand with suffixes, one at the least, in order.
     Postfix {
         operand: Box<Expr>,
         suffixes: Vec<Suffix>,
@@ -71,7 +71,7 @@ pub enum ExprKind {
     },
 }
 
-/// What stands after an operand.
+/// What follows an operand.
 #[cycle(expressions)]
 #[derive(Debug, PartialEq, Drop)]
 pub enum Suffix {

@@ -87,7 +87,7 @@ pub enum Declaration {
     Property(Property),
 }
 
-/// A function without a body, at its name. Names of parameters are not kept.
+/// A function without a body, at its name. Its parameters have no names.
 #[derive(Debug, Drop)]
 pub struct Signature {
     pub place: Place,

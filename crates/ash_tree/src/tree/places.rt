@@ -1,10 +1,10 @@
-//! Where a phrase of a script stands.
+//! Where a phrase of a script is.
 
-/// Where a token stands that stands for its phrase.
+/// Where a phrase is: the place of the token that represents it.
 #[derive(Clone, Copy, Debug, PartialEq, Eq)]
 pub struct Place {
-    /// The offset of its first byte in the source, from 0: what a fault in the phrase reports.
+    /// The offset of its first byte in the source, from 0: what a fault in the phrase names.
     pub at: usize,
-    /// Its line, from 1: what a tick before the phrase reports.
+    /// Its line, from 1: what a tick before the phrase sets.
     pub line: usize,
 }

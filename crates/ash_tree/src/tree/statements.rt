@@ -44,7 +44,7 @@ pub struct Stmt {
 pub enum StmtKind {
     /// `;`
     Empty,
-    /// The declaration of variables. It stands in a block or in the head of a `for`.
+    /// The declaration of variables, in a block or in the head of a `for`.
     Vars(Vars),
     Expr(Expr),
     /// `{ body }`

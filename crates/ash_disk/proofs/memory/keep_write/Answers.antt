@@ -6,8 +6,7 @@ use Rattle.ash_disk.proofs.memory.keep_write.Goals as goal
 pub returns-clause-kept : goal.returns-clause-kept
 returns-clause-kept c =
     let same : c.in_ok-to_vec.field-0.items ≡ c.args.bytes.now = search rules in
-    let pushed = rw c.unwrap.ensures at c.push.ensures.items in
-    (
+    let pushed = rw c.unwrap.ensures at c.push.ensures.items in (
       c.in_ok-to_vec.field-0,
       same,
       pushed ∙ ap (λ (l : List Call). l ++ Write c.args.at c.in_ok-to_vec.field-0 ∷ []) c.reserve.ensures.items,

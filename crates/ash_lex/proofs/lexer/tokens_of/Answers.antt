@@ -9,12 +9,17 @@ pub returns-in_err-len-clause-stopped : goal.returns-in_err-len-clause-stopped
 returns-in_err-len-clause-stopped c =
     let p = err_from_is_err_and c.from_residual-in_err-len.result c.from_residual-in_err-len.ensures.1 in
     let here = rw (take_rest c.args.text.now c.loop-at.at) at c.in_err-len.ensures.stops in
-    rw (p.1, p.2) (stops_text c.args.text.now c.loop-at.at c.loop-at.line (lexemes c.loop-at.tokens.items) c.in_err-len.field-0.0 c.loop-at.invariant here)
+    rw (p.1, p.2) (stops_text c.args.text.now c.loop-at.at c.loop-at.line
+    (lexemes c.loop-at.tokens.items) c.in_err-len.field-0.0 c.loop-at.invariant here)
 
 pub loop-at-preserved-in-Gap : goal.loop-at-preserved-in-Gap
 loop-at-preserved-in-Gap c =
-    gap_keeps c.args.text.now _ c.loop-at.at c.loop-at.line c.line_feeds-line.result c.in-Gap.len (lexemes c.loop-at.tokens.items) c.in_ok-len.field-0 c.loop-at.invariant (take_rest c.args.text.now c.loop-at.at) c.in_ok-len.ensures.passes c.in-Gap.is c.line_feeds-line.ensures
+    gap_keeps c.args.text.now _ c.loop-at.at c.loop-at.line c.line_feeds-line.result c.in-Gap.len
+    (lexemes c.loop-at.tokens.items) c.in_ok-len.field-0 c.loop-at.invariant
+    (take_rest c.args.text.now c.loop-at.at) c.in_ok-len.ensures.passes c.in-Gap.is c.line_feeds-line.ensures
 
 pub loop-at-preserved : goal.loop-at-preserved
 loop-at-preserved c =
-    token_keeps c.args.text.now _ c.loop-at.at c.loop-at.line c.in-Token.len c.in-Token.kind c.loop-at.tokens.items _ c.in_ok-len.field-0 c.loop-at.invariant (take_rest c.args.text.now c.loop-at.at) c.in_ok-len.ensures.passes c.in-Token.is c.in_ok-push-in-Token.ensures.items
+    token_keeps c.args.text.now _ c.loop-at.at c.loop-at.line c.in-Token.len c.in-Token.kind c.loop-at.tokens.items _
+    c.in_ok-len.field-0 c.loop-at.invariant (take_rest c.args.text.now c.loop-at.at) c.in_ok-len.ensures.passes
+    c.in-Token.is c.in_ok-push-in-Token.ensures.items

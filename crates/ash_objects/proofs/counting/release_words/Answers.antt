@@ -24,7 +24,10 @@ loop-word-preserved g c =
           ap (λ (l : List (ℕ × Placed _)). release_all (drop (k + 1) ws) l) c.release.ensures.objects
           ∙ sym (ap (λ (vs : List Word). release_all vs c.loop-word.store.objects) next)
           ∙ c.loop-word.invariant.rest;
-      covers = λ m. rw c.release.ensures.objects (covers_rest (get_or ws k (Bool false)) (drop (k + 1) ws) c.loop-word.store.objects (λ j. rw next at (c.loop-word.invariant.covers j)) m);
+      covers =
+          λ m. rw c.release.ensures.objects
+          (covers_rest (get_or ws k (Bool false)) (drop (k + 1) ws) c.loop-word.store.objects
+          (λ j. rw next at (c.loop-word.invariant.covers j)) m);
       room = c.release.ensures.room ∙ c.loop-word.invariant.room;
     }
 

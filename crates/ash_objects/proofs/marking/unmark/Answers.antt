@@ -3,7 +3,8 @@ use Rattle.ash_objects.proofs.Touching.{unmarked_at, clear_after, clear_empty}
 use Rattle.ash_objects.proofs.marking.unmark.Goals as goal
 
 pub returns-in_default-clause-clear : goal.returns-in_default-clause-clear
-returns-in_default-clause-clear g c = clear_empty c.args.slot c.args.store.now.objects (λ n here. c.in_default.ensures.none (n, here))
+returns-in_default-clause-clear g c =
+    clear_empty c.args.slot c.args.store.now.objects (λ n here. c.in_default.ensures.none (n, here))
 
 pub returns-clause-unmarked : goal.returns-clause-unmarked
 returns-clause-unmarked g c =

@@ -10,8 +10,10 @@ abbrev pub invariant-loop-slot : goal.invariant-loop-slot
 invariant-loop-slot g l = record {
   in_order : IsInOrder l.store.objects;
   listed : AreListed l.store.objects l.marks;
-  alike : (m : ℕ) → option_map unmarked (object_at m l.store.objects) ≡ option_map unmarked (object_at m l.initial.store.objects);
-  sums : (measure : ℕ → ℕ) → sum_by measure l.numbers.items + sum_by measure (marked_in l.store.objects) ≡ sum_by measure (marked_in l.initial.store.objects);
+  alike : (m : ℕ) → option_map unmarked (object_at m l.store.objects)
+      ≡ option_map unmarked (object_at m l.initial.store.objects);
+  sums : (measure : ℕ → ℕ) → sum_by measure l.numbers.items + sum_by measure (marked_in l.store.objects)
+      ≡ sum_by measure (marked_in l.initial.store.objects);
   room : vec_len l.numbers + length l.marks.slots ≤ vec_capacity l.numbers;
 }
 

@@ -17,7 +17,13 @@ loop-number-preserved g c =
     let here = is_in_from n c.in-Some.slot cur (sym c.slot.ensures ∙ c.in-Some.is) in
     let now = c.refer_words.ensures n here in
     record {
-      rest = ap (λ s. refer_objects (drop (k + 1) list) s) now ∙ turn_rest list n k cur next ∙ c.loop-number.invariant.rest;
-      faces = λ m. rw now (turn_faces l cur c.loop-number.invariant.faces n k there.1 there.2 c.loop-number.invariant.fits m);
-      fits = λ m. rw now (turn_fits l cur c.loop-number.invariant.faces n k there.1 there.2 c.loop-number.invariant.fits m);
+      rest =
+          ap (λ s. refer_objects (drop (k + 1) list) s) now ∙ turn_rest list n k cur next
+          ∙ c.loop-number.invariant.rest;
+      faces =
+          λ m. rw now (turn_faces l cur c.loop-number.invariant.faces n k there.1 there.2 c.loop-number.invariant.fits
+          m);
+      fits =
+          λ m. rw now (turn_fits l cur c.loop-number.invariant.faces n k there.1 there.2 c.loop-number.invariant.fits
+          m);
     }

@@ -15,7 +15,11 @@ loop-object-preserved g c =
     let o = c.object-item.result in
     let next : drop k objects ≡ o ∷ drop (k + 1) objects = rest_got objects k o c.loop-object-test.true ∙ ap (λ (x : Stored). x ∷ drop (k + 1) objects) (sym c.object-item.is) in
     record {
-      drawn = drawn_more G objects k o c.loop-object.boxes.items c.push_reserved.new.self.items c.in_ok-take_box.field-0 c.loop-object.pool.items c.take_box.new.pool.items (draw_boxes G objects c.args.pool.now.items) next c.loop-object.invariant.drawn c.in_ok-take_box.ensures.taken c.push_reserved.ensures.items;
+      drawn =
+          drawn_more G objects k o c.loop-object.boxes.items c.push_reserved.new.self.items c.in_ok-take_box.field-0
+          c.loop-object.pool.items c.take_box.new.pool.items
+          (draw_boxes G objects c.args.pool.now.items) next c.loop-object.invariant.drawn
+          c.in_ok-take_box.ensures.taken c.push_reserved.ensures.items;
       many = omega (arith, c.push_reserved.ensures.len, c.loop-object.invariant.many);
       room = omega (arith, c.push_reserved.ensures.capacity, c.loop-object.invariant.room);
     }

@@ -21,7 +21,10 @@ loop-slot-preserved-then-is_idle g c =
     let order = rw is at c.take_idle.ensures.stays_in_order in
     let now = rw is at c.take_idle.ensures.objects in
     record {
-      gone = rw (now, c.push_reserved.ensures.items) (one_more c.args.store.now.objects l slot c.loop-slot.taken.items e c.loop-slot.invariant.gone c.next_waiting.ensures.stored idle here mine order);
+      gone =
+          rw (now, c.push_reserved.ensures.items)
+          (one_more c.args.store.now.objects l slot c.loop-slot.taken.items e c.loop-slot.invariant.gone
+          c.next_waiting.ensures.stored idle here mine order);
       room = c.push_reserved.ensures.capacity ∙ c.loop-slot.invariant.room;
     }
 

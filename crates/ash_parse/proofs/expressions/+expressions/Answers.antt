@@ -12,14 +12,17 @@ use Rattle.ash_parse.proofs.Climbing.{climb_begins, operand_fails, climbs, climb
 use Rattle.ash_parse.proofs.expressions.+expressions.Goals as goal
 use Rattle.ash_parse.proofs.expressions.+expressions.Goals.{binary-then-climb-test+else-next-level, binary-else-climb-test}
 
-pub below-returns-then-room-eq0 : goal.below-returns-then-room-eq0
-below-returns-then-room-eq0 t c = rw (below-none c.args.room c.args.whole (tokens_of c.args.tokens.now) c.if-room-eq0.true) c.limit.ensures
+pub nested_assign-returns-then-room-eq0 : goal.nested_assign-returns-then-room-eq0
+nested_assign-returns-then-room-eq0 t c = rw (below-none c.args.room true (tokens_of c.args.tokens.now) c.if-room-eq0.true) c.limit.ensures
 
-pub below-returns-then-whole : goal.below-returns-then-whole
-below-returns-then-whole t c = rw (c.if-whole.true, below-whole c.args.room (tokens_of c.args.tokens.now) (omega arith)) c.assign.ensures
+pub nested_assign-returns : goal.nested_assign-returns
+nested_assign-returns t c = rw (below-whole c.args.room (tokens_of c.args.tokens.now) (omega arith)) c.assign.ensures
 
-pub below-returns-else-whole : goal.below-returns-else-whole
-below-returns-else-whole t c = rw (c.if-whole.false, below-part c.args.room (tokens_of c.args.tokens.now) (omega arith)) c.unary.ensures
+pub nested_unary-returns-then-room-eq0 : goal.nested_unary-returns-then-room-eq0
+nested_unary-returns-then-room-eq0 t c = rw (below-none c.args.room false (tokens_of c.args.tokens.now) c.if-room-eq0.true) c.limit.ensures
+
+pub nested_unary-returns : goal.nested_unary-returns
+nested_unary-returns t c = rw (below-part c.args.room (tokens_of c.args.tokens.now) (omega arith)) c.unary.ensures
 
 pub binary-returns-in_err-joined : goal.binary-returns-in_err-joined
 binary-returns-in_err-joined t c =

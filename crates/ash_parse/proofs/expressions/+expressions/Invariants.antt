@@ -7,9 +7,12 @@ use Rattle.ash_parse.proofs.Loop.{with_prefix}
 use Rattle.ash_parse.proofs.Climbing.{rises}
 use Rattle.ash_parse.proofs.expressions.+expressions.Given as goal
 
--- a phrase stands above those that it is made of, and below what is one deeper
-abbrev pub decreases-below : goal.decreases-below
-decreases-below l = l.room * 64
+-- the measure of a phrase is above those of its parts, and of whatever is one deeper
+abbrev pub decreases-nested_assign : goal.decreases-nested_assign
+decreases-nested_assign l = l.room * 64
+
+abbrev pub decreases-nested_unary : goal.decreases-nested_unary
+decreases-nested_unary l = l.room * 64
 
 abbrev pub decreases-assign : goal.decreases-assign
 decreases-assign l = l.room * 64 + 60
@@ -50,8 +53,8 @@ decreases-index l = l.room * 64 + 5
 abbrev pub decreases-primary : goal.decreases-primary
 decreases-primary l = l.room * 64 + 6
 
-abbrev pub decreases-named : goal.decreases-named
-decreases-named l = l.room * 64 + 5
+abbrev pub decreases-name_or_call : goal.decreases-name_or_call
+decreases-name_or_call l = l.room * 64 + 5
 
 abbrev pub decreases-new_array : goal.decreases-new_array
 decreases-new_array l = l.room * 64 + 5

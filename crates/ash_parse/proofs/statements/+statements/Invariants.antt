@@ -6,7 +6,7 @@ use Rattle.ash_parse.specs.StatementReader.{nested_at, cases_with, stmts_with, l
 use Rattle.ash_parse.proofs.Loop.{with_prefix}
 use Rattle.ash_parse.proofs.statements.+statements.Given as goal
 
--- a phrase stands above those that it is made of, and below what is one deeper
+-- the measure of a phrase is above those of its parts, and of whatever is one deeper
 abbrev pub decreases-nested : goal.decreases-nested
 decreases-nested l = l.room * 16
 

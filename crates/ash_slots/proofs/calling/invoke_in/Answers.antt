@@ -22,5 +22,7 @@ returns g c = λ number is_in.
         same_relation = c.invoke.ensures.same_relation;
         bounded = c.invoke.ensures.bounded;
       };
-      becomes = boxed_at number c.args.store.now.objects c.item_mut-item.result.now mine c.args.slot c.item_mut-item.ensures.stored is_in c.invoke.new.self;
+      becomes =
+          boxed_at number c.args.store.now.objects c.item_mut-item.result.now mine c.args.slot
+          c.item_mut-item.ensures.stored is_in c.invoke.new.self;
     }

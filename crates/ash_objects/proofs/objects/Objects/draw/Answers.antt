@@ -6,7 +6,7 @@ use Rattle.std.proofs.lemmas.List.Elements.{All-nil}
 use Rattle.ash_host.specs.Objects.{with_at, handle, Lives}
 use Rattle.ash_slots.specs.declared.body.Body.TheVariants.{Host}
 use Rattle.ash_objects.specs.Counting.{living_in}
-use Rattle.ash_objects.specs.Making.{made}
+use Rattle.ash_objects.specs.Making.{new_object}
 use Rattle.ash_objects.proofs.Newcomers.{length-living, got, drawn_is, view_new, table_new, absent}
 use Rattle.ash_objects.proofs.Listed.{listed_covers, listed_new}
 use Rattle.ash_objects.proofs.objects.Objects.draw.Goals as goal
@@ -63,7 +63,7 @@ returns-clause-drawn g c =
     let t = c.self.invariant.table in
     let number : c.in_ok-number.number ≡ c.self.inside.last + 1 = rw (← c.self.view_is) at c.in_ok-number.ensures.number in
     let later : c.self.inside.last < c.in_ok-number.number = omega (arith, number) in
-    let put : living_in c.insert.new.self.objects ≡ with_at c.in_ok-number.number (made c.in_default-insert.field-0 (Host c.remove.result)) (living_in l) =
+    let put : living_in c.insert.new.self.objects ≡ with_at c.in_ok-number.number (new_object c.in_default-insert.field-0 (Host c.remove.result)) (living_in l) =
     ap living_in c.in_default-insert.ensures.objects
     ∙ view_new c.in_ok-number.number (record { slot = c.in_default-insert.field-0; waiting = true; item = record { count = 0; touched = true; body = Host c.remove.result } }) l t.in_order t.counted (absent l c.self.inside.last c.in_ok-number.number t.given later) (All-nil (λ word. IfSome (handle word) (Lives l))) refl refl in
     let first = sym (rw c.deref.ensures.value at c.place_of_kind.ensures) ∙ c.in-Some.is in

@@ -25,7 +25,10 @@ invariant_of-self g c =
     let a = c.invoke_in-answer.ensures c.requires.0 (in_view c.requires.0 c.args.slot l at) in
     rw a.becomes (record {
       table = table_box c.requires.0 l _ _ a.before a.after c.self.invariant.table a.was;
-      listed = listed_change c.requires.0 c.args.slot (boxed a.after) l _ (λ p. refl) (in_view c.requires.0 c.args.slot l at) c.mark.ensures.listed (listed_covers l _ _ c.mark.ensures.covers c.self.invariant.listed);
+      listed =
+          listed_change c.requires.0 c.args.slot (boxed a.after) l _
+          (λ p. refl) (in_view c.requires.0 c.args.slot l at) c.mark.ensures.listed
+          (listed_covers l _ _ c.mark.ensures.covers c.self.invariant.listed);
     })
 
 pub returns-in-NoMemory-clause-answered : goal.returns-in-NoMemory-clause-answered
@@ -38,7 +41,13 @@ returns-in-NoMemory-clause-answered g c = λ number is.
       after = a.after;
       was = rw (← c.self.view_is) (box_view number l ∙ a.was);
       responds = a.responds;
-      becomes = rw (← c.self.view_is, a.becomes, view_box number l a.before a.after c.self.invariant.table.in_order c.self.invariant.table.counted a.was) refl;
+      becomes =
+          rw (
+            ← c.self.view_is,
+            a.becomes,
+            view_box number l a.before a.after c.self.invariant.table.in_order
+                c.self.invariant.table.counted a.was,
+          ) refl;
     }
 
 pub invariant_of-self-2 : goal.invariant_of-self-2
@@ -48,7 +57,10 @@ invariant_of-self-2 g c =
     let a = c.invoke_in-answer.ensures c.requires.0 (in_view c.requires.0 c.args.slot l at) in
     rw a.becomes (record {
       table = table_box c.requires.0 l _ _ a.before a.after c.self.invariant.table a.was;
-      listed = listed_change c.requires.0 c.args.slot (boxed a.after) l _ (λ p. refl) (in_view c.requires.0 c.args.slot l at) c.mark.ensures.listed (listed_covers l _ _ c.mark.ensures.covers c.self.invariant.listed);
+      listed =
+          listed_change c.requires.0 c.args.slot (boxed a.after) l _
+          (λ p. refl) (in_view c.requires.0 c.args.slot l at) c.mark.ensures.listed
+          (listed_covers l _ _ c.mark.ensures.covers c.self.invariant.listed);
     })
 
 pub returns : goal.returns
@@ -62,9 +74,21 @@ returns g c = record {
         after = a.after;
         was = rw (← c.self.view_is) (box_view number l ∙ a.was);
         responds = a.responds;
-        becomes = rw (← c.self.view_is, a.becomes, view_box number l a.before a.after c.self.invariant.table.in_order c.self.invariant.table.counted a.was) refl;
+        becomes =
+            rw (
+              ← c.self.view_is,
+              a.becomes,
+              view_box number l a.before a.after c.self.invariant.table.in_order
+                  c.self.invariant.table.counted a.was,
+            ) refl;
       };
-  called = λ number is. rw (c.push_reserved.ensures.items, c.reserve.ensures.items, c.number-number.ensures number is, called_is (Object number) c.args.method c.invoke_in-answer.result c.in_default.not-NoMemory) refl;
+  called =
+      λ number is. rw (
+        c.push_reserved.ensures.items,
+        c.reserve.ensures.items,
+        c.number-number.ensures number is,
+        called_is (Object number) c.args.method c.invoke_in-answer.result c.in_default.not-NoMemory,
+      ) refl;
   unchanged = tt;
   no_event = tt;
   no_room = tt;

@@ -32,7 +32,10 @@ invariant_of-self-2 g c =
     let all = some_if _ _ a.0 a.1 (c.in_ok-grow_elements.ensures.grown n (in_view n c.args.slot l at)) in
     rw all (record {
       table = table_longer n c.args.len a.0 l _ _ c.self.invariant.table a.1 c.requires.short;
-      listed = listed_change n c.args.slot (refilled (lengthened c.args.len a.0)) l _ (λ p. refl) (in_view n c.args.slot l at) c.mark.ensures.listed (listed_covers l _ _ c.mark.ensures.covers c.self.invariant.listed);
+      listed =
+          listed_change n c.args.slot (refilled (lengthened c.args.len a.0)) l _
+          (λ p. refl) (in_view n c.args.slot l at) c.mark.ensures.listed
+          (listed_covers l _ _ c.mark.ensures.covers c.self.invariant.listed);
     })
 
 pub returns-clause-lengthened : goal.returns-clause-lengthened
@@ -45,7 +48,11 @@ returns-clause-lengthened g c = λ n is.
     rw (all, view_longer n c.args.len array l _ _ c.self.invariant.table a c.requires.short) refl))
 
 pub returns-clause-in_order : goal.returns-clause-in_order
-returns-clause-in_order g c = subst (λ (t : Table _). IsInOrder t.objects) c.self.view_is (order_view c.self.inside.store.objects c.self.invariant.table.in_order)
+returns-clause-in_order g c =
+    subst (λ (t : Table _). IsInOrder t.objects) c.self.view_is
+    (order_view c.self.inside.store.objects c.self.invariant.table.in_order)
 
 pub returns-in_err-grow_elements-clause-in_order : goal.returns-in_err-grow_elements-clause-in_order
-returns-in_err-grow_elements-clause-in_order g c = subst (λ (t : Table _). IsInOrder t.objects) c.self.view_is (order_view c.self.inside.store.objects c.self.invariant.table.in_order)
+returns-in_err-grow_elements-clause-in_order g c =
+    subst (λ (t : Table _). IsInOrder t.objects) c.self.view_is
+    (order_view c.self.inside.store.objects c.self.invariant.table.in_order)

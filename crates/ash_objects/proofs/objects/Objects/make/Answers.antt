@@ -3,7 +3,7 @@ use Rattle.ash_host.specs.Objects.{with_at}
 use Rattle.ash_slots.specs.Bodies.{words_of}
 use Rattle.ash_slots.specs.Store.{Placed}
 use Rattle.ash_objects.specs.Counting.{living_in, refer_all}
-use Rattle.ash_objects.specs.Making.{made}
+use Rattle.ash_objects.specs.Making.{new_object}
 use Rattle.ash_objects.proofs.Referring.{all_alive_view, all_face}
 use Rattle.ash_objects.proofs.Newcomers.{length-living, made_is, view_new, table_new, absent, slot_new, words_new, alive_new, fits_new}
 use Rattle.ash_objects.proofs.Listed.{listed_covers, listed_new, listed_faces}
@@ -45,8 +45,12 @@ invariant_of-self-2 g c =
     let first = listed_covers l _ _ c.mark.ensures.covers (listed_covers l _ _ c.reserve.ensures.covers c.self.invariant.listed) in
     let put = listed_new n p l _ (omega (arith, c.in_ok-reserve.ensures.room, c.vacant.ensures, c.in-Ok.ensures.slot, c.mark.ensures.covers.room)) (λ yes. c.mark.ensures.listed) first in
     rw (referred here, words_new n p l t.in_order t.counted none alive refl) (record {
-      table = table_new n p l t.in_order t.counted none alive refl c.self.inside.last c.self.inside.settled t.given t.cleared refl short few later;
-      listed = listed_faces (refer_all (words_of c.args.body) (with_at n p l)) (with_at n p l) _ (λ m. all_face (words_of c.args.body) m (with_at n p l)) put;
+      table =
+          table_new n p l t.in_order t.counted none alive refl c.self.inside.last c.self.inside.settled t.given
+          t.cleared refl short few later;
+      listed =
+          listed_faces (refer_all (words_of c.args.body) (with_at n p l)) (with_at n p l) _
+          (λ m. all_face (words_of c.args.body) m (with_at n p l)) put;
     })
 
 pub returns-clause-made : goal.returns-clause-made
@@ -61,7 +65,7 @@ returns-clause-made g c =
     let alive = all_alive_view (words_of c.args.body) l (rw (← c.self.view_is) at c.requires.alive) in
     let here = slot_new n p l t.in_order t.counted none alive refl in
     let referred = rw c.in-Ok.ensures.objects at (c.refer_words.ensures n) in
-    let put : living_in c.refer_words.new.store.objects ≡ with_at n (made c.in-Ok.slot c.args.body) (living_in l) =
+    let put : living_in c.refer_words.new.store.objects ≡ with_at n (new_object c.in-Ok.slot c.args.body) (living_in l) =
     ap living_in (referred here ∙ ap (λ ws. refer_all ws (with_at n p l)) (words_new n p l t.in_order t.counted none alive refl))
     ∙ view_new n p l t.in_order t.counted none alive refl refl in
     rw (← c.self.view_is) (made_is _ n c.in-Ok.slot c.args.body (living_in c.refer_words.new.store.objects) number put)

@@ -30,7 +30,14 @@ returns-then-self-clause-spent g c = (
 )
 
 pub returns-clause-room : goal.returns-clause-room
-returns-clause-room g c = rw (← c.self.view_is) (omega (arith, length-living c.self.inside.store.objects c.self.inside.store.objects, c.len.ensures.len, c.if-len-ge-MAX_OBJECTS.false))
+returns-clause-room g c =
+    rw (← c.self.view_is)
+    (omega (
+      arith,
+      length-living c.self.inside.store.objects c.self.inside.store.objects,
+      c.len.ensures.len,
+      c.if-len-ge-MAX_OBJECTS.false,
+    ))
 
 pub returns-clause-full : goal.returns-clause-full
 returns-clause-full g c = (

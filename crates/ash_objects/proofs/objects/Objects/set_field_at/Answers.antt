@@ -63,8 +63,11 @@ invariant_of-self g c =
     let first = listed_faces counted l _ (λ m. face_more (handle c.args.word) m l) (listed_covers l _ _ c.mark.ensures.covers c.self.invariant.listed) in
     let changed = listed_change n c.args.slot (written c.args.place c.args.word) counted _ (λ p. refl) (in_face n c.args.slot counted l same (in_view n c.args.slot l at)) c.mark.ensures.listed first in
     rw (c.release.ensures.objects, c.write_word-before.ensures.written n here, c.refer.ensures) (record {
-      table = table_field l _ _ c.self.invariant.table n c.args.place c.args.word c.write_word-before.result alive there;
-      listed = listed_faces (change_handle once_less (handle c.write_word-before.result) now) now _ (λ m. handle_face once_less (λ p. refl) (handle c.write_word-before.result) m now) changed;
+      table =
+          table_field l _ _ c.self.invariant.table n c.args.place c.args.word c.write_word-before.result alive there;
+      listed =
+          listed_faces (change_handle once_less (handle c.write_word-before.result) now) now _
+          (λ m. handle_face once_less (λ p. refl) (handle c.write_word-before.result) m now) changed;
     })
 
 pub returns : goal.returns

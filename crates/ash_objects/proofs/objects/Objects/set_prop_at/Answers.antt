@@ -24,7 +24,10 @@ invariant_of-self g c =
     let a = c.set_in.ensures c.requires.0 (in_view c.requires.0 c.args.slot l at) in
     rw a.becomes (record {
       table = table_box c.requires.0 l _ _ a.before a.after c.self.invariant.table a.was;
-      listed = listed_change c.requires.0 c.args.slot (boxed a.after) l _ (λ p. refl) (in_view c.requires.0 c.args.slot l at) c.mark.ensures.listed (listed_covers l _ _ c.mark.ensures.covers c.self.invariant.listed);
+      listed =
+          listed_change c.requires.0 c.args.slot (boxed a.after) l _
+          (λ p. refl) (in_view c.requires.0 c.args.slot l at) c.mark.ensures.listed
+          (listed_covers l _ _ c.mark.ensures.covers c.self.invariant.listed);
     })
 
 pub returns : goal.returns
@@ -37,5 +40,11 @@ returns g c = λ number is.
       after = a.after;
       was = rw (← c.self.view_is) (box_view number l ∙ a.was);
       responds = a.responds;
-      becomes = rw (← c.self.view_is, a.becomes, view_box number l a.before a.after c.self.invariant.table.in_order c.self.invariant.table.counted a.was) refl;
+      becomes =
+          rw (
+            ← c.self.view_is,
+            a.becomes,
+            view_box number l a.before a.after c.self.invariant.table.in_order
+                c.self.invariant.table.counted a.was,
+          ) refl;
     }

@@ -34,7 +34,7 @@ release_words-requires g c = λ m.
     let taken = c.take_elements-words.ensures.taken n here in
     let elements = some_if _ _ a.0 a.1 (c.take_elements-words.ensures.elements n here) in
     let es = (a.0).elements in
-    let cut = c.after.ensures ∙ ap (λ (ws : List Word). drop len ws) elements in
+    let cut = c.suffix.ensures ∙ ap (λ (ws : List Word). drop len ws) elements in
     rw (cut, taken) (covers_shorter n len a.0 l _ _ t a.1 m)
 
 pub put_elements-requires : goal.put_elements-requires
@@ -49,7 +49,7 @@ put_elements-requires g c =
     let taken = c.take_elements-words.ensures.taken n here in
     let elements = some_if _ _ a.0 a.1 (c.take_elements-words.ensures.elements n here) in
     let es = (a.0).elements in
-    let cut = c.after.ensures ∙ ap (λ (ws : List Word). drop len ws) elements in
+    let cut = c.suffix.ensures ∙ ap (λ (ws : List Word). drop len ws) elements in
     let released : c.release_words.new.store.objects ≡ release_all (drop len es) (change_at n (refilled []) l) =
     c.release_words.ensures.objects ∙ ap (λ (ws : List Word). release_all ws c.take_elements-words.new.store.objects) cut ∙ ap (λ (k : List (ℕ × Placed _)). release_all (drop len es) k) taken in
     let put_here = subst (λ (k : List (ℕ × Placed _)). IsIn n c.args.slot k) (sym released) (in_shorter n len a.0 l _ _ t a.1 c.args.slot here) in
@@ -73,7 +73,7 @@ invariant_of-self g c =
     let taken = c.take_elements-words.ensures.taken n here in
     let elements = some_if _ _ a.0 a.1 (c.take_elements-words.ensures.elements n here) in
     let es = (a.0).elements in
-    let cut = c.after.ensures ∙ ap (λ (ws : List Word). drop len ws) elements in
+    let cut = c.suffix.ensures ∙ ap (λ (ws : List Word). drop len ws) elements in
     let released : c.release_words.new.store.objects ≡ release_all (drop len es) (change_at n (refilled []) l) =
     c.release_words.ensures.objects ∙ ap (λ (ws : List Word). release_all ws c.take_elements-words.new.store.objects) cut ∙ ap (λ (k : List (ℕ × Placed _)). release_all (drop len es) k) taken in
     let put_here = subst (λ (k : List (ℕ × Placed _)). IsIn n c.args.slot k) (sym released) (in_shorter n len a.0 l _ _ t a.1 c.args.slot here) in
@@ -85,7 +85,10 @@ invariant_of-self g c =
     let left = listed_faces (release_all (drop len es) (change_at n (refilled []) l)) (change_at n (refilled []) l) _ (λ m. released_face (drop len es) m (change_at n (refilled []) l)) emptied in
     rw all (record {
       table = table_shorter n len a.0 l _ _ t a.1;
-      listed = listed_change n c.args.slot (refilled (take len es)) (release_all (drop len es) (change_at n (refilled []) l)) _ (λ p. refl) (in_shorter n len a.0 l _ _ t a.1 c.args.slot here) c.mark.ensures.listed left;
+      listed =
+          listed_change n c.args.slot (refilled (take len es))
+          (release_all (drop len es) (change_at n (refilled []) l)) _
+          (λ p. refl) (in_shorter n len a.0 l _ _ t a.1 c.args.slot here) c.mark.ensures.listed left;
     })
 
 pub returns : goal.returns
@@ -100,7 +103,7 @@ returns g c = λ n is.
     let taken = c.take_elements-words.ensures.taken n here in
     let elements = some_if _ _ array there (c.take_elements-words.ensures.elements n here) in
     let es = array.elements in
-    let cut = c.after.ensures ∙ ap (λ (ws : List Word). drop len ws) elements in
+    let cut = c.suffix.ensures ∙ ap (λ (ws : List Word). drop len ws) elements in
     let released : c.release_words.new.store.objects ≡ release_all (drop len es) (change_at n (refilled []) l) =
     c.release_words.ensures.objects ∙ ap (λ (ws : List Word). release_all ws c.take_elements-words.new.store.objects) cut ∙ ap (λ (k : List (ℕ × Placed _)). release_all (drop len es) k) taken in
     let put_here = subst (λ (k : List (ℕ × Placed _)). IsIn n c.args.slot k) (sym released) (in_shorter n len array l _ _ t there c.args.slot here) in

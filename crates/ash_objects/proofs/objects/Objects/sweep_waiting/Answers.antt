@@ -15,7 +15,8 @@ invariant_of-self-2 g c =
     let t = c.self.invariant.table in
     let h = c.collect.ensures.gone in
     record {
-      table = table_now l now c.collect.new.taken.items t.in_order t.counted h c.self.inside.last c.self.inside.settled t;
+      table =
+          table_now l now c.collect.new.taken.items t.in_order t.counted h c.self.inside.last c.self.inside.settled t;
       listed = listed_left now l _ h.stay c.self.invariant.listed;
     }
 

@@ -7,7 +7,9 @@ pub invariant_of-self : goal.invariant_of-self
 invariant_of-self g c =
     let l = c.self.inside.store.objects in
     record {
-      table = rw c.unmark_listed.ensures.unmarked (cleared_table (marked_in l) l c.self.inside.last c.self.inside.settled c.self.invariant.table);
+      table =
+          rw c.unmark_listed.ensures.unmarked
+          (cleared_table (marked_in l) l c.self.inside.last c.self.inside.settled c.self.invariant.table);
       listed = c.unmark_listed.ensures.listed;
     }
 

@@ -22,7 +22,9 @@ invariant_of-self g c =
     let n = c.requires.0 in
     rw (c.count_less.ensures.counted n (in_view n c.args.slot l at)) (record {
       table = table_less l _ _ c.self.invariant.table n (holds_view n l some);
-      listed = listed_faces (change_at n once_less l) l _ (λ m. handle_face once_less (λ p. refl) (Some n) m l) c.self.invariant.listed;
+      listed =
+          listed_faces (change_at n once_less l) l _
+          (λ m. handle_face once_less (λ p. refl) (Some n) m l) c.self.invariant.listed;
     })
 
 pub returns : goal.returns

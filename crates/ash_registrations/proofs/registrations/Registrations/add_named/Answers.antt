@@ -9,9 +9,13 @@ use Rattle.ash_registrations.proofs.registrations.Registrations.add_named.Goals 
 
 pub invariant_of-self-2-clause-placed : goal.invariant_of-self-2-clause-placed
 invariant_of-self-2-clause-placed c = λ name.
-    let items = c.args.self.now.calls.items in
-    let free : list_any (λ call. takes_name (string_bytes c.args.key) (call_of call)) items ≡ false = sym (any_mapped (takes_name (string_bytes c.args.key)) call_of items) ∙ c.requires.free in
-    let more : c.push.new.self.items ≡ items ++ c.args.call ∷ [] = first_of (search rules, grind (arith, common_steps), cc) in
+    let items = c.args.self.now.registrations.items in
+    let free : list_any (λ r. takes_name (string_bytes c.args.key) (call_of r)) items ≡ false =
+    sym (any_mapped (takes_name (string_bytes c.args.key)) call_of items) ∙ c.requires.free in
+    let more : c.push.new.self.items ≡ items ++ c.args.registration ∷ [] =
+    first_of (search rules, grind (arith, common_steps), cc) in
     let last : c.len-4.result ≡ length items = first_of (search rules, grind (arith, common_steps), omega arith) in
-    hash_map_updates_text (string_bytes c.args.key) c.args.self.now.names c.insert.new.self _ c.in_ok-insert.ensures.updates name
-    ∙ place_of_new (λ n call. takes_name n (call_of call)) items c.push.new.self.items c.args.call (string_bytes c.args.key) name _ c.len-4.result c.requires.named free (c.args.self.now.placed name) last more
+    hash_map_updates_text (string_bytes c.args.key) c.args.self.now.names c.insert.new.self _
+    c.in_ok-insert.ensures.updates name
+    ∙ place_of_new (λ n r. takes_name n (call_of r)) items c.push.new.self.items c.args.registration
+    (string_bytes c.args.key) name _ c.len-4.result c.requires.named free (c.args.self.now.placed name) last more

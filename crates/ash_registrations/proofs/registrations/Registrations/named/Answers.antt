@@ -6,8 +6,12 @@ use Rattle.ash_registrations.proofs.registrations.Registrations.named.Goals as g
 
 pub returns-in_err-at : goal.returns-in_err-at
 returns-in_err-at c =
-    found_by (takes_name c.args.name.now) call_of c.args.self.now.calls.items None (option_copied c.from_residual.result) (c.in_err-at.ensures.value ∙ c.args.self.now.placed c.args.name.now) (ap option_copied c.from_residual.ensures)
+    found_by (takes_name c.args.name.now) call_of c.args.self.now.registrations.items None
+    (option_copied c.from_residual.result) (c.in_err-at.ensures.value ∙ c.args.self.now.placed c.args.name.now)
+    (ap option_copied c.from_residual.ensures)
 
 pub returns : goal.returns
 returns c =
-    found_by (takes_name c.args.name.now) call_of c.args.self.now.calls.items (Some c.in_ok-at.at.now) (option_copied c.call_at.result) (c.in_ok-at.ensures.value ∙ c.args.self.now.placed c.args.name.now) (c.call_at.ensures ∙ ap (λ calls. slice_get calls c.in_ok-at.at.now) c.deref.ensures.value)
+    found_by (takes_name c.args.name.now) call_of c.args.self.now.registrations.items (Some c.in_ok-at.at.now)
+    (option_copied c.registration_at.result) (c.in_ok-at.ensures.value ∙ c.args.self.now.placed c.args.name.now)
+    (c.registration_at.ensures ∙ ap (λ rs. slice_get rs c.in_ok-at.at.now) c.deref.ensures.value)

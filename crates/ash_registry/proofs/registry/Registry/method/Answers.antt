@@ -1,7 +1,7 @@
 use Rattle.std.proofs.Common.{arith, not}
 use Rattle.std.proofs.lemmas.Bool.Decides.{nat_tests}
 use Rattle.ash_registry.specs.declared.fault.RegistryFault.TheVariants.{UnknownType}
-use Rattle.ash_registry.specs.Refusals.{is_known, refusal_of_declared_method, method_call}
+use Rattle.ash_registry.specs.Refusals.{is_known, refusal_of_declared_method, method_registration}
 use Rattle.ash_registry.specs.Registered.{registered}
 use Rattle.ash_registry.proofs.Verdicts.{for_declared}
 use Rattle.ash_registry.proofs.registry.Registry.method.Goals as goal
@@ -10,5 +10,5 @@ pub returns-clause-registers : goal.returns-clause-registers
 returns-clause-registers c =
     for_declared c.args.decl.now (not (is_known (registered c.args.self.now) c.args.of.now)) UnknownType
     (refusal_of_declared_method (registered c.args.self.now) c.args.of.now c.args.id)
-    (method_call c.args.of.now c.args.id) _ _ _ _ c.in_ok-declared.ensures.declared (grind (arith, nat_tests))
+    (method_registration c.args.of.now c.args.id) _ _ _ _ c.in_ok-declared.ensures.declared (grind (arith, nat_tests))
     c.method_of_declaration.ensures

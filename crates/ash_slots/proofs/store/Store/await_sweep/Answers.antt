@@ -19,11 +19,17 @@ returns-then-not-entry-clause-objects g c =
     rw (← c.self.view_is) (written_in (writes_value c.self.inside.entries c.args.slot c.in-Some.entry.now _ (sym c.get_mut.ensures.value ∙ ap option_copied_mut c.in-Some.is) refl) (with_waiting true) (λ s. refl) c.self.inside.index.entries)
 
 pub returns-then-not-entry-clause-stored : goal.returns-then-not-entry-clause-stored
-returns-then-not-entry-clause-stored g c = rw (← c.self.view_is) (are_stored c.self.inside.entries c.self.inside.index.entries c.self.invariant.in_order c.self.invariant.placed)
+returns-then-not-entry-clause-stored g c =
+    rw (← c.self.view_is)
+    (are_stored c.self.inside.entries c.self.inside.index.entries c.self.invariant.in_order
+    c.self.invariant.placed)
 
 pub returns-else-not-entry-clause-objects : goal.returns-else-not-entry-clause-objects
 returns-else-not-entry-clause-objects g c =
     rw (← c.self.view_is) (written_in (writes_value c.self.inside.entries c.args.slot c.in-Some.entry.now _ (sym c.get_mut.ensures.value ∙ ap option_copied_mut c.in-Some.is) refl) (with_waiting true) (λ s. search rules) c.self.inside.index.entries)
 
 pub returns-else-not-entry-clause-stored : goal.returns-else-not-entry-clause-stored
-returns-else-not-entry-clause-stored g c = rw (← c.self.view_is) (are_stored c.self.inside.entries c.self.inside.index.entries c.self.invariant.in_order c.self.invariant.placed)
+returns-else-not-entry-clause-stored g c =
+    rw (← c.self.view_is)
+    (are_stored c.self.inside.entries c.self.inside.index.entries c.self.invariant.in_order
+    c.self.invariant.placed)

@@ -8,7 +8,9 @@ use Rattle.ash_slots.proofs.Moving.{SameBut, stored_regrown, placed_regrown, ins
 use Rattle.ash_slots.proofs.store.Store.insert.Goals as goal
 
 pub invariant_of-self : goal.invariant_of-self
-invariant_of-self g c = stored_regrown c.self.inside.entries c.reserve.new.self c.reserve.new.self.capacity c.self.inside.index.entries c.self.inside.idle.items _ _ c.reserve.ensures.rest_kept (omega arith) c.self.invariant
+invariant_of-self g c =
+    stored_regrown c.self.inside.entries c.reserve.new.self c.reserve.new.self.capacity c.self.inside.index.entries
+    c.self.inside.idle.items _ _ c.reserve.ensures.rest_kept (omega arith) c.self.invariant
 
 pub invariant_of-self-then-is_err-2 : goal.invariant_of-self-then-is_err-2
 invariant_of-self-then-is_err-2 g c =

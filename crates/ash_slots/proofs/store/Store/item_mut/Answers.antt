@@ -23,7 +23,10 @@ returns g c =
             let at = rw (← c.self.view_is) at is_in in
             let found = item_in number c.args.slot c.self.inside.entries c.self.inside.index.entries c.in-Some.entry.now c.self.invariant.placed there at in
             rw (← c.self.view_is, found.0) refl;
-        stored = rw (← c.self.view_is) (are_stored c.self.inside.entries c.self.inside.index.entries c.self.invariant.in_order c.self.invariant.placed);
+        stored =
+            rw (← c.self.view_is)
+            (are_stored c.self.inside.entries c.self.inside.index.entries c.self.invariant.in_order
+            c.self.invariant.placed);
         writes_back = tt;
       },
     )

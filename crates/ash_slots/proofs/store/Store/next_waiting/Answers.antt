@@ -32,10 +32,19 @@ returns-clause-objects g c =
     rw (← c.self.view_is) (written_in (writes_value c.self.inside.entries c.in-Some.slot c.in-Some-get_mut.entry.now _ (sym c.get_mut.ensures.value ∙ ap option_copied_mut c.in-Some-get_mut.is) refl) (with_waiting false) (λ s. refl) c.self.inside.index.entries)
 
 pub returns-in_default-clause-stored : goal.returns-in_default-clause-stored
-returns-in_default-clause-stored g c = rw (← c.self.view_is) (are_stored c.self.inside.entries c.self.inside.index.entries c.self.invariant.in_order c.self.invariant.placed)
+returns-in_default-clause-stored g c =
+    rw (← c.self.view_is)
+    (are_stored c.self.inside.entries c.self.inside.index.entries c.self.invariant.in_order
+    c.self.invariant.placed)
 
 pub returns-in_default-get_mut-clause-stored : goal.returns-in_default-get_mut-clause-stored
-returns-in_default-get_mut-clause-stored g c = rw (← c.self.view_is) (are_stored c.self.inside.entries c.self.inside.index.entries c.self.invariant.in_order c.self.invariant.placed)
+returns-in_default-get_mut-clause-stored g c =
+    rw (← c.self.view_is)
+    (are_stored c.self.inside.entries c.self.inside.index.entries c.self.invariant.in_order
+    c.self.invariant.placed)
 
 pub returns-clause-stored : goal.returns-clause-stored
-returns-clause-stored g c = rw (← c.self.view_is) (are_stored c.self.inside.entries c.self.inside.index.entries c.self.invariant.in_order c.self.invariant.placed)
+returns-clause-stored g c =
+    rw (← c.self.view_is)
+    (are_stored c.self.inside.entries c.self.inside.index.entries c.self.invariant.in_order
+    c.self.invariant.placed)

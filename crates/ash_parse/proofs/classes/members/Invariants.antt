@@ -1,0 +1,12 @@
+use Rattle.std.proofs.Common.{◌≡◌, length, map}
+use Rattle.ash_tree.specs.Tokens.{tokens_of}
+use Rattle.ash_tree.specs.Views.{member_of}
+use Rattle.ash_parse.specs.ItemReader.{members_at}
+use Rattle.ash_parse.proofs.Loop.{with_prefix}
+use Rattle.ash_parse.proofs.classes.members.Given as goal
+
+abbrev pub invariant-more : goal.invariant-more
+invariant-more l = with_prefix (map member_of l.all.items) (members_at (tokens_of l.rest)) ≡ members_at (tokens_of l.fn.tokens)
+
+abbrev pub decreases-more : goal.decreases-more
+decreases-more l = length l.rest

@@ -1,0 +1,13 @@
+use Rattle.std.proofs.Common.{◌≡◌, length, map}
+use Rattle.ash_tree.specs.Tokens.{tokens_of}
+use Rattle.ash_tree.specs.Views.{type_of}
+use Rattle.ash_parse.specs.Readers.{put}
+use Rattle.ash_parse.specs.ItemReader.{more_unnamed_at}
+use Rattle.ash_parse.proofs.Loop.{with_prefix}
+use Rattle.ash_parse.proofs.declarations.more_unnamed.Given as goal
+
+abbrev pub invariant-more : goal.invariant-more
+invariant-more l = with_prefix (map type_of l.all.items) (more_unnamed_at (tokens_of l.rest)) ≡ put (type_of l.fn.first) (more_unnamed_at (tokens_of l.fn.tokens))
+
+abbrev pub decreases-more : goal.decreases-more
+decreases-more l = length l.rest
