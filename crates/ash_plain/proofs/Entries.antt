@@ -10,8 +10,8 @@ use Rattle.std.proofs.Common.{Less, Equal, Greater}
 use Rattle.std.specs.BTreeMap.{is_at, insert_entry}
 use Rattle.std.proofs.lemmas.Bool.Decides.{nat_tests}
 use Rattle.ash_host.specs.Objects.{Plain, Objects, object_at, with_at}
-use Rattle.ash_plain.specs.declared.object.Object as object
-use Rattle.ash_plain.specs.ObjectViews.{object_seen, entry_seen}
+use Rattle.ash_plain_data.specs.declared.object.Object as object
+use Rattle.ash_plain_data.specs.ObjectViews.{object_seen, entry_seen}
 
 is_at_eq : (x y : ℕ) → is_at (nat_cmp x) y ≡ nat_eq x y
 is_at_eq x y = grind (arith, nat_tests)

@@ -1,7 +1,6 @@
 -- The pool, as the code has it and as the definitions see it, and boxes that are drawn from it.
-use Rattle.std.proofs.Common.{◌≡◌, ◌<◌, ◌≤◌, ℕ, zero, suc, Bool, true, false, List, [], ◌∷◌, length, get_or, Option, Some, None, refl, sym, ap, ◌∙◌, map, nat_eq, nat_lt, arith, cond, ◌-◌, ◌+◌, ◌++◌, take, drop, Vec, Global, slice_set}
-use Rattle.std.specs.List.{position, position_from, range_with_len, remove, slice_get}
-use Rattle.std.proofs.lemmas.Iterator.Adapters.{position_from-zero}
+use Rattle.std.proofs.Common.{◌≡◌, ℕ, zero, suc, List, [], ◌∷◌, Option, Some, None, refl, sym, ap, ◌∙◌, map, ◌++◌, take, drop, Vec, Global, slice_set}
+use Rattle.std.specs.List.{remove, slice_get}
 use Rattle.std.proofs.lemmas.List.{map-append, take-map, drop-map}
 use Rattle.ash_host.specs.declared.event.Event.TheVariants.{Drew}
 use Rattle.ash_host.specs.Objects.{Host}
@@ -10,21 +9,6 @@ use Rattle.ash_phrases.specs.Activity.{FreeBox, Activity, in_world}
 use Rattle.ash_phrases.specs.Runs.{Progress, Done, Ended, Raising, Run, give, onward, ◌>>=◌, ◌>>◌, change, found}
 use Rattle.ash_phrases.specs.ObjectSteps.{demand_number, make}
 use Rattle.ash_phrases.specs.HostSteps.{note, place_of_kind, without_box, box_in, box_of_kind, draw}
-
--- the first element that passes a test, found from the prefix
-
-pub position_is : {A : Type 0} (p : A → Bool) (xs : List A) → position p xs ≡ position_from p 0 xs
-position_is p xs = position_from-zero p xs
-
-pub ranged_more : (f : ℕ → ℕ) (p : ℕ → Bool) (n i : ℕ) → i < n → position_from p i (map f (range_with_len i (n - i))) ≡ cond (p (f i)) (Some i) (position_from p (i + 1) (map f (range_with_len (i + 1) (n - (i + 1)))))
-ranged_more f p n i low =
-    let k : n - i ≡ suc (n - (i + 1)) = omega arith in
-    ap (λ (m : ℕ). position_from p i (map f (range_with_len i m))) k
-
-pub ranged_end : (f : ℕ → ℕ) (p : ℕ → Bool) (n i : ℕ) → n ≤ i → position_from p i (map f (range_with_len i (n - i))) ≡ None
-ranged_end f p n i over =
-    let k : n - i ≡ 0 = omega arith in
-    ap (λ (m : ℕ). position_from p i (map f (range_with_len i m))) k
 
 pub states_set : (states : List (Vec ℕ Global)) (i : ℕ) (state : Vec ℕ Global) → map (λ (s : Vec ℕ Global). s.items) (slice_set states i state) ≡ slice_set (map (λ (s : Vec ℕ Global). s.items) states) i state.items
 states_set [] i state = refl

@@ -15,8 +15,8 @@ use Rattle.ash_host.specs.Objects.{Plain, Objects, object_at, numbers, Lives, re
 use Rattle.ash_host.specs.Reach.{Reachable, Root, Field, ReachableIn, is_among, is_reachable, after_sweep, hosts_gone, drops_of_sweep}
 use Rattle.ash_host.proofs.Membership.{or_cases, or_first, or_second, is_among_yes, is_among_says, is_among-numbers, refers_lives}
 use Rattle.ash_host.proofs.ReachLaws.{is_reachable_says, is_reachable_yes, object_at-after_sweep}
-use Rattle.ash_plain.specs.declared.object.Object as object
-use Rattle.ash_plain.specs.ObjectViews.{object_seen, entry_seen}
+use Rattle.ash_plain_data.specs.declared.object.Object as object
+use Rattle.ash_plain_data.specs.ObjectViews.{object_seen, entry_seen}
 use Rattle.ash_plain.specs.Sweeping.{with_one, with_found, gone}
 
 -- words of an object, and what it refers to

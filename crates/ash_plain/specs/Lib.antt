@@ -1,9 +1,5 @@
-pub mod ObjectViews
 pub mod Sweeping
 pub mod Views
 pub mod LocationViews
-pub mod ClassViews
 pub mod FlowViews
-pub mod Running
-pub mod Bodies
-pub mod Phrases
+pub mod Steps

@@ -3,8 +3,8 @@ use Rattle.std.specs.Prelude.{ℕ, Bool, not, ◌&&◌, if◌then◌else◌, Lis
 use Rattle.std.specs.Map.{keys_of}
 use Rattle.ash_host.specs.Objects.{Objects, object_at, is_host}
 use Rattle.ash_host.specs.Reach.{is_among}
-use Rattle.ash_plain.specs.declared.object.Object as object
-use Rattle.ash_plain.specs.ObjectViews.{object_seen}
+use Rattle.ash_plain_data.specs.declared.object.Object as object
+use Rattle.ash_plain_data.specs.ObjectViews.{object_seen}
 
 -- one more number, where an object lives by it that is not found yet
 abbrev pub with_one : Objects (List ℕ) → ℕ → List ℕ → List ℕ

@@ -1,8 +1,8 @@
 //! What runs, and what it runs on.
 
-use crate::host_call::HostRecord;
 use crate::objects::Objects;
 use ash_host::{Event, Word};
+use ash_plain_data::host_call::HostRecord;
 use std::alloc::Global;
 use std::collections::VecDeque;
 

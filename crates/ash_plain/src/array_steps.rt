@@ -7,19 +7,19 @@ ghost use Rattle.ash_host.specs.declared.word.Word.TheVariants.{Null};
 ghost use Rattle.ash_host.specs.Objects.{object_at};
 ghost use Rattle.ash_phrases.specs.ArraySteps.{zero_element, natural_of, index_in, count_in, construct_array, resized, resize, insert_last, remove_last, invoke_array, zero_in};
 ghost use Rattle.ash_phrases.specs.Expressions.{element_at};
+ghost use Rattle.ash_plain_data.specs.ObjectViews.{element_seen, object_seen};
+ghost use Rattle.ash_plain_data.specs.Running.{RunsAs};
 ghost use Rattle.ash_plain.specs.LocationViews.{location_seen};
-ghost use Rattle.ash_plain.specs.ObjectViews.{element_seen, object_seen};
 ghost use Rattle.ash_plain.specs.Views.{activity_seen};
-ghost use Rattle.ash_plain.specs.Running.{RunsAs};
 
 use crate::activity::Activity;
 use crate::locations::Location;
-use crate::object::{Element, Object};
-use crate::operators::zero_of;
-use crate::run_error::{RunError, RunResult};
 use ash_host::Word;
 use ash_integers::number;
 use ash_phrases::Exception;
+use ash_plain_data::object::{Element, Object};
+use ash_plain_data::operators::zero_of;
+use ash_plain_data::run_error::{RunError, RunResult};
 use ash_typed::{ArrayMethod, IntType, VarType};
 use std::alloc::{AllocError, Global};
 
@@ -106,7 +106,8 @@ fn rest_of(alloc: Global, words: &[Word], count: usize) -> Result<Vec<Word>, All
 impl Activity {
     /// The index of an element that is there.
     pub(crate) fn index_in(&self, number: u64, index: Word) -> RunResult<usize>
-        ensures { RunsAs (λ place. place) result (activity_seen self.now) (index_in number index (activity_seen self.now)) }
+        ensures { RunsAs (λ place. place) result (activity_seen self.now)
+            (index_in number index (activity_seen self.now)) }
     {
         let index = natural_of(index) as usize;
         if index < self.words_at(number).len() {
@@ -117,8 +118,9 @@ impl Activity {
     }
 
     /// The element of an array by an index: first null is tested, then the index.
-    pub(crate) fn element_at(&self, array: Word, index: Word) -> RunResult<Location>
-        ensures { RunsAs location_seen result (activity_seen self.now) (element_at array index (activity_seen self.now)) }
+    pub fn element_at(&self, array: Word, index: Word) -> RunResult<Location>
+        ensures { RunsAs location_seen result (activity_seen self.now)
+            (element_at array index (activity_seen self.now)) }
     {
         let number = self.object_of(array)?;
         let place = self.index_in(number, index)?;
@@ -126,8 +128,9 @@ impl Activity {
     }
 
     /// Constructs an array, which takes no frame and no tick.
-    pub(crate) fn construct_array(&mut self, of: Element, args: &[Word]) -> RunResult<Word>
-        ensures { RunsAs (λ w. w) result (activity_seen self.new) (construct_array (element_seen of) args.now (activity_seen self.old)) }
+    pub fn construct_array(&mut self, of: Element, args: &[Word]) -> RunResult<Word>
+        ensures { RunsAs (λ w. w) result (activity_seen self.new)
+            (construct_array (element_seen of) args.now (activity_seen self.old)) }
     {
         self.demand_number()?;
         let count = count_in(args);
@@ -142,7 +145,8 @@ impl Activity {
 
     /// What a new element of an array is.
     fn zero_at(&self, number: u64) -> Word
-        ensures { result ≡ option_map_or zero_in (object_at number (activity_seen self.now).world.objects) Null }
+        ensures { result
+            ≡ option_map_or zero_in (object_at number (activity_seen self.now).world.objects) Null }
     {
         match self.world.objects.get(number) {
             Some(object) => zero_in(object),
@@ -152,7 +156,8 @@ impl Activity {
 
     /// Gives an array so many elements. Those that are taken away are held, as what is overwritten is.
     fn resize(&mut self, number: u64, count: u64) -> RunResult<()>
-        ensures { RunsAs (λ _. tt) result (activity_seen self.new) (resize number count (activity_seen self.old)) }
+        ensures { RunsAs (λ _. tt) result (activity_seen self.new)
+            (resize number count (activity_seen self.old)) }
     {
         if count > MAX_ELEMENTS {
             return Err(RunError::Raised(Exception::ArrayLimit));
@@ -167,7 +172,8 @@ impl Activity {
     }
 
     fn insert_last(&mut self, number: u64, word: Word) -> RunResult<()>
-        ensures { RunsAs (λ _. tt) result (activity_seen self.new) (insert_last number word (activity_seen self.old)) }
+        ensures { RunsAs (λ _. tt) result (activity_seen self.new)
+            (insert_last number word (activity_seen self.old)) }
     {
         let old = self.words_at(number);
         if old.len() as u64 >= MAX_ELEMENTS {
@@ -180,14 +186,15 @@ impl Activity {
     }
 
     fn remove_last(&mut self, number: u64) -> RunResult<()>
-        ensures { RunsAs (λ _. tt) result (activity_seen self.new) (remove_last number (activity_seen self.old)) }
+        ensures { RunsAs (λ _. tt) result (activity_seen self.new)
+            (remove_last number (activity_seen self.old)) }
     {
         let old = self.words_at(number);
         if old.is_empty() {
             return Err(RunError::Raised(Exception::IndexOutOfBounds));
         }
-        let (prefix, last) = old.split_at(old.len() - 1);
-        let words = Vec::from_slice(self.alloc, prefix)?;
+        let (front, last) = old.split_at(old.len() - 1);
+        let words = Vec::from_slice(self.alloc, front)?;
         let gone = Vec::from_slice(self.alloc, last)?;
         self.hold_all(&gone)?;
         self.put_words(number, words)?;
@@ -195,13 +202,14 @@ impl Activity {
     }
 
     /// Runs a method of an array. What gives no value gives null.
-    pub(crate) fn invoke_array(
+    pub fn invoke_array(
         &mut self,
         method: ArrayMethod,
         number: u64,
         args: &[Word],
     ) -> RunResult<Word>
-        ensures { RunsAs (λ w. w) result (activity_seen self.new) (invoke_array method number args.now (activity_seen self.old)) }
+        ensures { RunsAs (λ w. w) result (activity_seen self.new)
+            (invoke_array method number args.now (activity_seen self.old)) }
     {
         match (method, args) {
             (ArrayMethod::Length, _) => {

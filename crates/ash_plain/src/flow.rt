@@ -1,28 +1,47 @@
 //! How statements are left.
 
+ghost use Rattle.std.specs.Prelude.{◌≡◌};
 ghost use Rattle.ash_phrases.specs.Statements.{end_block, after_break};
+ghost use Rattle.ash_phrases.specs.Functions.{value_of};
+ghost use Rattle.ash_plain_data.specs.Running.{RunsAs};
 ghost use Rattle.ash_plain.specs.Views.{activity_seen};
 ghost use Rattle.ash_plain.specs.FlowViews.{flow_seen};
-ghost use Rattle.ash_plain.specs.Running.{RunsAs};
 
 use crate::activity::Activity;
-use crate::run_error::RunResult;
 use ash_host::Word;
+use ash_plain_data::run_error::RunResult;
 
 /// How a statement is left: on to the next, out of a loop or a `switch`, to the next turn of a loop, or out of the
 /// function, with its value where it has one.
 #[derive(Clone, Copy)]
-pub(crate) enum Flow {
+pub enum Flow {
+    /// On to the next statement.
     On,
+    /// Out of a loop or a `switch`.
     Broke,
+    /// To the next turn of a loop.
     Continued,
+    /// Out of the function, with its value.
     Returned(Option<Word>),
+}
+
+impl Flow {
+    /// The value of a function; one that comes to the end of its body has none.
+    pub fn value(self) -> Option<Word>
+        ensures { result ≡ value_of (flow_seen self) }
+    {
+        match self {
+            Flow::Returned(value) => value,
+            Flow::On | Flow::Broke | Flow::Continued => None,
+        }
+    }
 }
 
 impl Activity {
     /// A block that ends by itself is a release point. Those that are left by a jump end together, where the jump leads.
-    pub(crate) fn end_block(&mut self, flow: Flow) -> RunResult<Flow>
-        ensures { RunsAs flow_seen result (activity_seen self.new) (end_block (flow_seen flow) (activity_seen self.old)) }
+    pub fn end_block(&mut self, flow: Flow) -> RunResult<Flow>
+        ensures { RunsAs flow_seen result (activity_seen self.new)
+            (end_block (flow_seen flow) (activity_seen self.old)) }
     {
         if let Flow::On = flow {
             self.release()?;
@@ -31,8 +50,9 @@ impl Activity {
     }
 
     /// A `break` leads past the loop or the `switch`, where the blocks that it leaves end together.
-    pub(crate) fn after_break(&mut self, flow: Flow) -> RunResult<Flow>
-        ensures { RunsAs flow_seen result (activity_seen self.new) (after_break (flow_seen flow) (activity_seen self.old)) }
+    pub fn after_break(&mut self, flow: Flow) -> RunResult<Flow>
+        ensures { RunsAs flow_seen result (activity_seen self.new)
+            (after_break (flow_seen flow) (activity_seen self.old)) }
     {
         if let Flow::Broke = flow {
             self.release()?;

@@ -3,13 +3,13 @@
 
 ghost use Rattle.std.specs.Prelude.{◌≡◌, ◌∷◌, OnOk, string_bytes};
 ghost use Rattle.ash_phrases.specs.Frames.{tick, demand_frame, frame_of, leave};
+ghost use Rattle.ash_plain_data.specs.Running.{RunsAs};
 ghost use Rattle.ash_plain.specs.Views.{activity_seen};
-ghost use Rattle.ash_plain.specs.Running.{RunsAs};
 
 use crate::activity::{Activity, Frame};
-use crate::run_error::{RunError, RunResult};
 use ash_host::Word;
 use ash_phrases::Exception;
+use ash_plain_data::run_error::{RunError, RunResult};
 use std::alloc::AllocError;
 use std::mem;
 
@@ -18,8 +18,9 @@ pub const MAX_FRAMES: usize = 256;
 
 impl Activity {
     /// Takes a tick for what begins at this line. Where none is left the run ends; the line is set either way.
-    pub(crate) fn tick(&mut self, line: usize) -> RunResult<()>
-        ensures { RunsAs (λ _. tt) result (activity_seen self.new) (tick line (activity_seen self.old)) }
+    pub fn tick(&mut self, line: usize) -> RunResult<()>
+        ensures { RunsAs (λ _. tt) result (activity_seen self.new)
+            (tick line (activity_seen self.old)) }
     {
         self.frame.line = line;
         if self.ticks == 0 {
@@ -30,8 +31,9 @@ impl Activity {
     }
 
     /// Raises an exception in the frame that runs, where there is room for no other.
-    pub(crate) fn demand_frame(&self) -> RunResult<()>
-        ensures { RunsAs (λ _. tt) result (activity_seen self.now) (demand_frame (activity_seen self.now)) }
+    pub fn demand_frame(&self) -> RunResult<()>
+        ensures { RunsAs (λ _. tt) result (activity_seen self.now)
+            (demand_frame (activity_seen self.now)) }
     {
         if self.callers.len() + 1 < MAX_FRAMES {
             Ok(())
@@ -41,7 +43,7 @@ impl Activity {
     }
 
     /// Enters a frame.
-    pub(crate) fn enter(
+    pub fn enter(
         &mut self,
         function: String,
         line: usize,
@@ -67,8 +69,9 @@ impl Activity {
 
     /// Leaves a frame: the value passes into what the caller holds, then the whole frame is given up.
     #[tactic(auto, unfolding(crate::specs::Views::activity_seen, ash_phrases::specs::Frames::leave))]
-    pub(crate) fn leave(&mut self, value: Word) -> RunResult<Word>
-        ensures { RunsAs (λ w. w) result (activity_seen self.new) (leave value (activity_seen self.old)) }
+    pub fn leave(&mut self, value: Word) -> RunResult<Word>
+        ensures { RunsAs (λ w. w) result (activity_seen self.new)
+            (leave value (activity_seen self.old)) }
     {
         if !self.callers.is_empty() {
             let mut caller = self.callers.remove(0);

@@ -5,16 +5,17 @@ ghost use Rattle.std.specs.Prelude.{◌≡◌, ◌<◌, Some, OnOk, IfSome, map,
 ghost use Rattle.std.specs.List.{position_from};
 ghost use Rattle.ash_phrases.specs.Activity.{in_world};
 ghost use Rattle.ash_phrases.specs.HostSteps.{with_event, state_of, with_state, call_host, is_of as is_of_type, accept, invoke_host, get_property, set_property, place_of_kind, without_box, draw, construct_host};
-ghost use Rattle.ash_plain.specs.Views.{activity_seen, box_seen, call_seen};
-ghost use Rattle.ash_plain.specs.Running.{RunsAs};
+ghost use Rattle.ash_plain_data.specs.CallViews.{call_seen};
+ghost use Rattle.ash_plain_data.specs.Running.{RunsAs};
+ghost use Rattle.ash_plain.specs.Views.{activity_seen, box_seen};
 
 use crate::activity::{Activity, FreeBox};
-use crate::host_call::HostCall;
-use crate::object::Object;
-use crate::run_error::{RunError, RunResult};
-use crate::same::is_of;
 use ash_host::{Event, HostAnswer, Target, Word};
 use ash_phrases::Exception;
+use ash_plain_data::host_call::HostCall;
+use ash_plain_data::object::Object;
+use ash_plain_data::run_error::{RunError, RunResult};
+use ash_plain_data::same::is_of;
 use ash_typed::{IntType, VarType};
 use std::alloc::AllocError;
 
@@ -34,7 +35,8 @@ fn is_of_type(of: VarType, word: Word) -> bool
 
 impl Activity {
     fn note(&mut self, event: Event) -> Result<(), AllocError>
-        ensures { OnOk result (activity_seen self.new ≡ in_world (with_event event) (activity_seen self.old)) }
+        ensures { OnOk result (activity_seen self.new
+            ≡ in_world (with_event event) (activity_seen self.old)) }
     {
         self.world.events.push(event)?;
         Ok(())
@@ -42,7 +44,8 @@ impl Activity {
 
     /// The state of whom a call goes to.
     fn state_of(&self, target: Target) -> Option<&[u8]>
-        ensures { option_map (λ state. state.now) result ≡ state_of target (activity_seen self.now).world }
+        ensures { option_map (λ state. state.now) result
+            ≡ state_of target (activity_seen self.now).world }
     {
         match target {
             Target::Object(number) => match self.world.objects.get(number) {
@@ -57,7 +60,8 @@ impl Activity {
     }
 
     fn put_state(&mut self, target: Target, state: Vec<u8>) -> Result<(), AllocError>
-        ensures { OnOk result (activity_seen self.new ≡ in_world (with_state target state.items) (activity_seen self.old)) }
+        ensures { OnOk result (activity_seen self.new
+            ≡ in_world (with_state target state.items) (activity_seen self.old)) }
     {
         match target {
             Target::Object(number) => self.world.objects.change_state(self.alloc, number, state),
@@ -70,7 +74,8 @@ impl Activity {
 
     /// Calls a host object or a service. What the host did stays, whatever it answers.
     pub(crate) fn call_host(&mut self, target: Target, call: &HostCall) -> RunResult<HostAnswer>
-        ensures { RunsAs (λ answer. answer) result (activity_seen self.new) (call_host target (call_seen call.now) (activity_seen self.old)) }
+        ensures { RunsAs (λ answer. answer) result (activity_seen self.new)
+            (call_host target (call_seen call.now) (activity_seen self.old)) }
     {
         let Some(before) = self.state_of(target) else {
             return Err(RunError::NoStep);
@@ -90,7 +95,8 @@ impl Activity {
 
     /// What is made of an answer where a result of this type is declared, or none. What gives no value gives null.
     pub(crate) fn accept(&self, of: Option<VarType>, answer: HostAnswer) -> RunResult<Word>
-        ensures { RunsAs (λ w. w) result (activity_seen self.now) (accept of answer (activity_seen self.now)) }
+        ensures { RunsAs (λ w. w) result (activity_seen self.now)
+            (accept of answer (activity_seen self.now)) }
     {
         match (answer, of) {
             (HostAnswer::Nothing, None) => Ok(Word::Null),
@@ -104,14 +110,15 @@ impl Activity {
     }
 
     /// Runs a method of a host object, or a function of a service.
-    pub(crate) fn invoke_host(
+    pub fn invoke_host(
         &mut self,
         target: Target,
         id: u16,
         of: Option<VarType>,
         args: Vec<Word>,
     ) -> RunResult<Word>
-        ensures { RunsAs (λ w. w) result (activity_seen self.new) (invoke_host target id of args.items (activity_seen self.old)) }
+        ensures { RunsAs (λ w. w) result (activity_seen self.new)
+            (invoke_host target id of args.items (activity_seen self.old)) }
     {
         let call = HostCall::Invoke { method: id, args };
         let answer = self.call_host(target, &call)?;
@@ -119,16 +126,20 @@ impl Activity {
         self.accept(of, answer)
     }
 
+    /// What a property of a host object has.
     pub(crate) fn get_property(&mut self, number: u64, id: u16, of: VarType) -> RunResult<Word>
-        ensures { RunsAs (λ w. w) result (activity_seen self.new) (get_property number id of (activity_seen self.old)) }
+        ensures { RunsAs (λ w. w) result (activity_seen self.new)
+            (get_property number id of (activity_seen self.old)) }
     {
         let call = HostCall::Get { property: id };
         let answer = self.call_host(Target::Object(number), &call)?;
         self.accept(Some(of), answer)
     }
 
+    /// Gives a property of a host object a value.
     pub(crate) fn set_property(&mut self, number: u64, id: u16, word: Word) -> RunResult<()>
-        ensures { RunsAs (λ _. tt) result (activity_seen self.new) (set_property number id word (activity_seen self.old)) }
+        ensures { RunsAs (λ _. tt) result (activity_seen self.new)
+            (set_property number id word (activity_seen self.old)) }
     {
         let call = HostCall::Set {
             property: id,
@@ -150,8 +161,10 @@ impl Activity {
     #[tactic(auto, using(crate::proofs::Pools::remove_map), unfolding(crate::specs::Views::activity_seen))]
     fn take_box(&mut self, place: usize) -> FreeBox
         requires { place < vec_len self.old.world.pool }
-        ensures free { slice_get (activity_seen self.old).world.pool place ≡ Some (box_seen result) }
-        ensures taken { activity_seen self.new ≡ in_world (without_box place) (activity_seen self.old) }
+        ensures free { slice_get (activity_seen self.old).world.pool place
+            ≡ Some (box_seen result) }
+        ensures taken { activity_seen self.new
+            ≡ in_world (without_box place) (activity_seen self.old) }
     {
         self.world.pool.remove(place)
     }
@@ -159,7 +172,8 @@ impl Activity {
     /// Takes a box from the pool, as the object of the next number.
     #[tactic(auto)]
     fn draw(&mut self, kind: u16) -> RunResult<u64>
-        ensures { RunsAs (λ n. n) result (activity_seen self.new) (draw kind (activity_seen self.old)) }
+        ensures { RunsAs (λ n. n) result (activity_seen self.new)
+            (draw kind (activity_seen self.old)) }
     {
         self.demand_number()?;
         let Some(place) = self.place_of_kind(kind) else {
@@ -172,8 +186,9 @@ impl Activity {
     }
 
     /// Constructs an object of a registered type: it is held before it is started.
-    pub(crate) fn construct_host(&mut self, kind: u16, args: Vec<Word>) -> RunResult<Word>
-        ensures { RunsAs (λ w. w) result (activity_seen self.new) (construct_host kind args.items (activity_seen self.old)) }
+    pub fn construct_host(&mut self, kind: u16, args: Vec<Word>) -> RunResult<Word>
+        ensures { RunsAs (λ w. w) result (activity_seen self.new)
+            (construct_host kind args.items (activity_seen self.old)) }
     {
         let number = self.draw(kind)?;
         self.hold(Word::Object(number))?;
@@ -200,7 +215,8 @@ fn place_in(pool: &[FreeBox], kind: u16) -> Option<usize>
 /// Puts a state at an index, where there is one.
 #[tactic(auto, using(crate::proofs::Pools::states_set))]
 fn put_at(states: &mut Vec<Vec<u8>>, index: usize, state: Vec<u8>)
-    ensures { map (λ s. s.items) states.new.items ≡ slice_set (map (λ s. s.items) states.old.items) index state.items }
+    ensures { map (λ s. s.items) states.new.items
+        ≡ slice_set (map (λ s. s.items) states.old.items) index state.items }
 {
     if let Some(old) = states.get_mut(index) {
         *old = state;

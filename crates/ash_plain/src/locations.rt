@@ -6,28 +6,33 @@ ghost use Rattle.ash_host.specs.declared.word.Word.TheVariants.{Null};
 ghost use Rattle.ash_phrases.specs.Activity.{in_frame, in_world};
 ghost use Rattle.ash_phrases.specs.ObjectSteps.{words_in};
 ghost use Rattle.ash_phrases.specs.Locations.{location_of_variable, location_of_member, read, with_local, with_global, write};
+ghost use Rattle.ash_plain_data.specs.Running.{RunsAs};
 ghost use Rattle.ash_plain.specs.Views.{activity_seen};
 ghost use Rattle.ash_plain.specs.LocationViews.{location_seen};
-ghost use Rattle.ash_plain.specs.Phrases.{read_held, this_held};
-ghost use Rattle.ash_plain.specs.Running.{RunsAs};
+ghost use Rattle.ash_plain.specs.Steps.{read_held, this_held};
 
 use crate::activity::Activity;
-use crate::run_error::RunResult;
 use ash_host::Word;
+use ash_plain_data::run_error::RunResult;
 use ash_typed::{Member, VarType, Variable};
 use std::alloc::{AllocError, Global};
 
 /// A local, a global, a field or an element by the number of its object and its place there, or a property of a host
 /// object.
 #[derive(Clone, Copy)]
-pub(crate) enum Location {
+pub enum Location {
+    /// A local, by its slot.
     Local(usize),
+    /// A global, by its place.
     Global(usize),
+    /// A field or an element, by the object and its place there.
     Part { number: u64, place: usize },
+    /// A property of a host object.
     Property { number: u64, id: u16, of: VarType },
 }
 
-pub(crate) fn location_of_variable(variable: Variable) -> Location
+/// Where a variable is.
+pub fn location_of_variable(variable: Variable) -> Location
     ensures { location_seen result ≡ location_of_variable variable }
 {
     match variable {
@@ -37,7 +42,7 @@ pub(crate) fn location_of_variable(variable: Variable) -> Location
 }
 
 /// Where an object has a member.
-pub(crate) fn location_of_member(member: Member, number: u64) -> Location
+pub fn location_of_member(member: Member, number: u64) -> Location
     ensures { location_seen result ≡ location_of_member member number }
 {
     match member {
@@ -71,8 +76,9 @@ impl Activity {
     }
 
     /// The object whose method runs, which is held.
-    pub(crate) fn this_held(&mut self) -> RunResult<Word>
-        ensures { RunsAs (λ w. w) result (activity_seen self.new) (this_held (activity_seen self.old)) }
+    pub fn this_held(&mut self) -> RunResult<Word>
+        ensures { RunsAs (λ w. w) result (activity_seen self.new)
+            (this_held (activity_seen self.old)) }
     {
         let this = self.frame.this;
         self.give_held(this)
@@ -91,7 +97,8 @@ impl Activity {
     }
 
     fn part(&self, number: u64, place: usize) -> Word
-        ensures { result ≡ slice_index_or (words_in number (activity_seen self.now).world) place Null }
+        ensures { result
+            ≡ slice_index_or (words_in number (activity_seen self.now).world) place Null }
     {
         self.words_at(number)
             .get(place)
@@ -99,8 +106,10 @@ impl Activity {
             .unwrap_or(Word::Null)
     }
 
+    /// What a location holds.
     pub(crate) fn read(&mut self, location: Location) -> RunResult<Word>
-        ensures { RunsAs (λ w. w) result (activity_seen self.new) (read (location_seen location) (activity_seen self.old)) }
+        ensures { RunsAs (λ w. w) result (activity_seen self.new)
+            (read (location_seen location) (activity_seen self.old)) }
     {
         match location {
             Location::Local(slot) => Ok(self.local(slot)),
@@ -111,15 +120,17 @@ impl Activity {
     }
 
     /// What a location holds, which is held where it is a handle.
-    pub(crate) fn read_held(&mut self, location: Location) -> RunResult<Word>
-        ensures { RunsAs (λ w. w) result (activity_seen self.new) (read_held (location_seen location) (activity_seen self.old)) }
+    pub fn read_held(&mut self, location: Location) -> RunResult<Word>
+        ensures { RunsAs (λ w. w) result (activity_seen self.new)
+            (read_held (location_seen location) (activity_seen self.old)) }
     {
         let word = self.read(location)?;
         self.give_held(word)
     }
 
     fn set_local(&mut self, slot: usize, word: Word)
-        ensures { activity_seen self.new ≡ in_frame (with_local slot word) (activity_seen self.old) }
+        ensures { activity_seen self.new
+            ≡ in_frame (with_local slot word) (activity_seen self.old) }
     {
         if let Some(variable) = self.frame.locals.get_mut(slot) {
             *variable = word;
@@ -127,7 +138,8 @@ impl Activity {
     }
 
     fn set_global(&mut self, place: usize, word: Word)
-        ensures { activity_seen self.new ≡ in_world (with_global place word) (activity_seen self.old) }
+        ensures { activity_seen self.new
+            ≡ in_world (with_global place word) (activity_seen self.old) }
     {
         if let Some(variable) = self.world.globals.get_mut(place) {
             *variable = word;
@@ -135,8 +147,9 @@ impl Activity {
     }
 
     /// Puts a word where another one is, which is held: nothing goes before the full expression ends.
-    pub(crate) fn write(&mut self, location: Location, word: Word) -> RunResult<()>
-        ensures { RunsAs (λ _. tt) result (activity_seen self.new) (write (location_seen location) word (activity_seen self.old)) }
+    pub fn write(&mut self, location: Location, word: Word) -> RunResult<()>
+        ensures { RunsAs (λ _. tt) result (activity_seen self.new)
+            (write (location_seen location) word (activity_seen self.old)) }
     {
         match location {
             Location::Local(slot) => {

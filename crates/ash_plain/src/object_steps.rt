@@ -4,15 +4,15 @@
 ghost use Rattle.std.specs.Prelude.{◌≡◌, ◌<◌, OnOk};
 ghost use Rattle.ash_phrases.specs.Activity.{in_world};
 ghost use Rattle.ash_phrases.specs.ObjectSteps.{object_of, words_in, with_object, with_words, demand_number, max_number, make};
-ghost use Rattle.ash_plain.specs.ObjectViews.{object_seen};
+ghost use Rattle.ash_plain_data.specs.ObjectViews.{object_seen};
+ghost use Rattle.ash_plain_data.specs.Running.{RunsAs};
 ghost use Rattle.ash_plain.specs.Views.{activity_seen};
-ghost use Rattle.ash_plain.specs.Running.{RunsAs};
 
 use crate::activity::Activity;
-use crate::object::Object;
-use crate::run_error::{RunError, RunResult};
 use ash_host::Word;
 use ash_phrases::Exception;
+use ash_plain_data::object::Object;
+use ash_plain_data::run_error::{RunError, RunResult};
 use std::alloc::AllocError;
 
 /// How many objects live at most.
@@ -20,8 +20,9 @@ pub const MAX_OBJECTS: usize = 4096;
 
 impl Activity {
     /// The object of a handle; null has none.
-    pub(crate) fn object_of(&self, word: Word) -> RunResult<u64>
-        ensures { RunsAs (λ n. n) result (activity_seen self.now) (object_of word (activity_seen self.now)) }
+    pub fn object_of(&self, word: Word) -> RunResult<u64>
+        ensures { RunsAs (λ n. n) result (activity_seen self.now)
+            (object_of word (activity_seen self.now)) }
     {
         match word {
             Word::Object(number) => Ok(number),
@@ -38,14 +39,16 @@ impl Activity {
 
     /// Gives an object other words.
     pub(crate) fn put_words(&mut self, number: u64, words: Vec<Word>) -> Result<(), AllocError>
-        ensures { OnOk result (activity_seen self.new ≡ in_world (with_object number (with_words words.items)) (activity_seen self.old)) }
+        ensures { OnOk result (activity_seen self.new
+            ≡ in_world (with_object number (with_words words.items)) (activity_seen self.old)) }
     {
         self.world.objects.change_words(self.alloc, number, words)
     }
 
     /// Raises an exception where no object can be made: as many live as may, or every number was given.
-    pub(crate) fn demand_number(&self) -> RunResult<()>
-        ensures runs { RunsAs (λ _. tt) result (activity_seen self.now) (demand_number (activity_seen self.now)) }
+    pub fn demand_number(&self) -> RunResult<()>
+        ensures runs { RunsAs (λ _. tt) result (activity_seen self.now)
+            (demand_number (activity_seen self.now)) }
         ensures left { OnOk result ((activity_seen self.now).world.last < max_number) }
     {
         if self.world.objects.len() >= MAX_OBJECTS {
@@ -58,9 +61,10 @@ impl Activity {
     }
 
     /// Makes an object, which gets the number after the last.
-    pub(crate) fn make(&mut self, object: Object) -> RunResult<u64>
+    pub fn make(&mut self, object: Object) -> RunResult<u64>
         requires { (activity_seen self.old).world.last < max_number }
-        ensures { RunsAs (λ n. n) result (activity_seen self.new) (make (object_seen object) (activity_seen self.old)) }
+        ensures { RunsAs (λ n. n) result (activity_seen self.new)
+            (make (object_seen object) (activity_seen self.old)) }
     {
         let number = self.world.last + 1;
         self.world.objects.insert(number, object)?;

@@ -8,11 +8,11 @@ ghost use Rattle.ash_host.specs.Objects.{object_at, with_at, handles, fields_of}
 ghost use Rattle.ash_host.specs.Reach.{is_among, is_reachable, after_sweep, drops_of_sweep};
 ghost use Rattle.ash_phrases.specs.ObjectSteps.{change_at, with_words};
 ghost use Rattle.ash_phrases.specs.HostSteps.{with_state_in};
-ghost use Rattle.ash_plain.specs.ObjectViews.{object_seen};
+ghost use Rattle.ash_plain_data.specs.ObjectViews.{object_seen};
 ghost use Rattle.ash_plain.specs.Sweeping.{with_found, gone};
 
-use crate::object::Object;
 use ash_host::{Event, Word};
+use ash_plain_data::object::Object;
 use std::alloc::{AllocError, Global};
 use std::collections::BTreeMap;
 use std::marker::Model;
@@ -26,7 +26,7 @@ pub struct Objects {
 impl Model for Objects {
     ghost use Rattle.std.specs.Prelude.{ℕ, List, map};
     ghost use Rattle.ash_host.specs.Objects as plain;
-    ghost use Rattle.ash_plain.specs.ObjectViews.{entry_seen};
+    ghost use Rattle.ash_plain_data.specs.ObjectViews.{entry_seen};
 
     ghost Value = { plain.Objects (List ℕ) };
 
@@ -58,7 +58,8 @@ fn report(
     found: &[u64],
     events: &mut Vec<Event>,
 ) -> Result<(), AllocError>
-    ensures { OnOk result (events.new.items ≡ events.old.items ++ map Dropped (gone found.now entries.now.entries)) }
+    ensures { OnOk result (events.new.items
+        ≡ events.old.items ++ map Dropped (gone found.now entries.now.entries)) }
 {
     for (number, object) in entries {
         if object.is_host() && !is_among(found, *number) {
@@ -187,7 +188,8 @@ impl Objects {
         events: &mut Vec<Event>,
     ) -> Result<(), AllocError>
         ensures objects { OnOk result (self.new ≡ after_sweep held.now self.old) }
-        ensures events { OnOk result (events.new.items ≡ events.old.items ++ map Dropped (drops_of_sweep held.now self.old)) }
+        ensures events { OnOk result (events.new.items
+            ≡ events.old.items ++ map Dropped (drops_of_sweep held.now self.old)) }
     {
         let found = self.reached(alloc, held)?;
         report(&self.entries, &found, events)?;

@@ -4,14 +4,14 @@
 ghost use Rattle.std.specs.Prelude.{◌≡◌, [], ◌∷◌, ◌++◌, map, length, flat_map, IfOk, OnOk};
 ghost use Rattle.ash_host.specs.Objects.{handles};
 ghost use Rattle.ash_phrases.specs.Activity.{in_frame};
-ghost use Rattle.ash_phrases.specs.Releases.{holding, give_held, roots_of_frame, roots, release, end_expression, declaring, keeping};
-ghost use Rattle.ash_plain.specs.Views.{frame_seen, activity_seen};
-ghost use Rattle.ash_plain.specs.Running.{RunsAs};
+ghost use Rattle.ash_phrases.specs.Releases.{holding, give_held, roots_of_frame, roots, sweep, release, end_expression, declaring, keeping};
+ghost use Rattle.ash_plain_data.specs.Running.{RunsAs};
+ghost use Rattle.ash_plain.specs.Views.{world_seen, frame_seen, activity_seen};
 
-use crate::activity::{Activity, Frame};
+use crate::activity::{Activity, Frame, World};
 use crate::objects::push_handles;
-use crate::run_error::RunResult;
 use ash_host::Word;
+use ash_plain_data::run_error::RunResult;
 use std::alloc::{AllocError, Global};
 
 /// The objects that words are handles to, and then those that are held already.
@@ -26,7 +26,8 @@ fn held_with(alloc: Global, words: &[Word], held: &[u64]) -> Result<Vec<u64>, Al
 
 /// Appends what frames reach by themselves.
 fn push_roots(frames: &[Frame], roots: &mut Vec<u64>) -> Result<(), AllocError>
-    ensures { OnOk result (roots.new.items ≡ roots.old.items ++ flat_map roots_of_frame (map frame_seen frames.now)) }
+    ensures { OnOk result (roots.new.items
+        ≡ roots.old.items ++ flat_map roots_of_frame (map frame_seen frames.now)) }
 {
     for frame in frames {
         frame.push_roots(roots)?;
@@ -37,7 +38,8 @@ fn push_roots(frames: &[Frame], roots: &mut Vec<u64>) -> Result<(), AllocError>
 impl Frame {
     /// Holds what a word is a handle to until the full expression ends.
     pub(crate) fn hold(&mut self, word: Word) -> Result<(), AllocError>
-        ensures { OnOk result (frame_seen self.new ≡ holding (handles (word ∷ [])) (frame_seen self.old)) }
+        ensures { OnOk result (frame_seen self.new
+            ≡ holding (handles (word ∷ [])) (frame_seen self.old)) }
     {
         if let Word::Object(number) = word {
             self.held.insert(0, number)?;
@@ -47,7 +49,8 @@ impl Frame {
 
     /// Appends what the frame reaches by itself.
     fn push_roots(&self, roots: &mut Vec<u64>) -> Result<(), AllocError>
-        ensures { OnOk result (roots.new.items ≡ roots.old.items ++ roots_of_frame (frame_seen self.now)) }
+        ensures { OnOk result (roots.new.items
+            ≡ roots.old.items ++ roots_of_frame (frame_seen self.now)) }
     {
         push_handles(&[self.this], roots)?;
         push_handles(&self.locals, roots)?;
@@ -56,24 +59,41 @@ impl Frame {
     }
 }
 
+impl World {
+    /// The release point at the end of a run: all frames are given up at once.
+    #[tactic(auto, unfolding(ash_phrases::specs::Releases::sweep))]
+    pub fn give_up_frames(&mut self, alloc: Global) -> Result<(), AllocError>
+        ensures { OnOk result (world_seen self.new ≡ sweep [] (world_seen self.old)) }
+    {
+        let mut held = Vec::from_slice(alloc, &self.outside)?;
+        push_handles(&self.globals, &mut held)?;
+        self.objects.sweep(alloc, &held, &mut self.events)?;
+        Ok(())
+    }
+}
+
 impl Activity {
     /// Holds what these words are handles to until the full expression ends.
     pub(crate) fn hold_all(&mut self, words: &[Word]) -> Result<(), AllocError>
-        ensures { OnOk result (activity_seen self.new ≡ in_frame (holding (handles words.now)) (activity_seen self.old)) }
+        ensures { OnOk result (activity_seen self.new
+            ≡ in_frame (holding (handles words.now)) (activity_seen self.old)) }
     {
         self.frame.held = held_with(self.alloc, words, &self.frame.held)?;
         Ok(())
     }
 
+    /// Holds what a word is a handle to until the full expression ends.
     pub(crate) fn hold(&mut self, word: Word) -> Result<(), AllocError>
-        ensures { OnOk result (activity_seen self.new ≡ in_frame (holding (handles (word ∷ []))) (activity_seen self.old)) }
+        ensures { OnOk result (activity_seen self.new
+            ≡ in_frame (holding (handles (word ∷ []))) (activity_seen self.old)) }
     {
         self.frame.hold(word)
     }
 
     /// A value, which is held where it is a handle.
     pub(crate) fn give_held(&mut self, word: Word) -> RunResult<Word>
-        ensures { RunsAs (λ w. w) result (activity_seen self.new) (give_held word (activity_seen self.old)) }
+        ensures { RunsAs (λ w. w) result (activity_seen self.new)
+            (give_held word (activity_seen self.old)) }
     {
         self.hold(word)?;
         Ok(word)
@@ -82,7 +102,8 @@ impl Activity {
     /// From where everything is reached.
     fn roots(&self) -> Result<Vec<u64>, AllocError>
         ensures { IfOk result (λ found. found.items
-            ≡ roots ((activity_seen self.now).frame ∷ (activity_seen self.now).callers) (activity_seen self.now).world) }
+            ≡ roots ((activity_seen self.now).frame ∷ (activity_seen self.now).callers)
+            (activity_seen self.now).world) }
     {
         let mut found = Vec::from_slice(self.alloc, &self.world.outside)?;
         push_handles(&self.world.globals, &mut found)?;
@@ -93,8 +114,9 @@ impl Activity {
 
     /// A release point: what can't be reached goes.
     #[tactic(auto, unfolding(crate::specs::Views::activity_seen, ash_phrases::specs::Releases::release, ash_phrases::specs::Releases::sweep))]
-    pub(crate) fn release(&mut self) -> RunResult<()>
-        ensures { RunsAs (λ _. tt) result (activity_seen self.new) (release (activity_seen self.old)) }
+    pub fn release(&mut self) -> RunResult<()>
+        ensures { RunsAs (λ _. tt) result (activity_seen self.new)
+            (release (activity_seen self.old)) }
     {
         let alloc = self.alloc;
         let found = self.roots()?;
@@ -104,30 +126,32 @@ impl Activity {
     }
 
     /// The end of a full expression: nothing is held any more.
-    pub(crate) fn end_expression(&mut self) -> RunResult<()>
-        ensures { RunsAs (λ _. tt) result (activity_seen self.new) (end_expression (activity_seen self.old)) }
+    pub fn end_expression(&mut self) -> RunResult<()>
+        ensures { RunsAs (λ _. tt) result (activity_seen self.new)
+            (end_expression (activity_seen self.old)) }
     {
         self.frame.held.clear();
         self.release()
     }
 
     /// How many locals there are.
-    pub(crate) fn count_locals(&self) -> usize
+    pub fn count_locals(&self) -> usize
         ensures { result ≡ length (activity_seen self.now).frame.locals }
     {
         self.frame.locals.len()
     }
 
     /// One more local.
-    pub(crate) fn declare(&mut self, word: Word) -> Result<(), AllocError>
-        ensures { OnOk result (activity_seen self.new ≡ in_frame (declaring word) (activity_seen self.old)) }
+    pub fn declare(&mut self, word: Word) -> Result<(), AllocError>
+        ensures { OnOk result (activity_seen self.new
+            ≡ in_frame (declaring word) (activity_seen self.old)) }
     {
         self.frame.locals.push(word)?;
         Ok(())
     }
 
     /// Leaves blocks, whose locals are those after the first so many.
-    pub(crate) fn leave_blocks(&mut self, count: usize)
+    pub fn leave_blocks(&mut self, count: usize)
         ensures { activity_seen self.new ≡ in_frame (keeping count) (activity_seen self.old) }
     {
         self.frame.locals.truncate(count);

@@ -3,17 +3,18 @@
 ghost use Rattle.std.specs.Prelude.{◌≡◌};
 ghost use Rattle.ash_phrases.specs.Operators.{calculate, operate};
 ghost use Rattle.ash_phrases.specs.Expressions.{store, update, count_at};
+ghost use Rattle.ash_phrases.specs.Functions.{write_field};
+ghost use Rattle.ash_plain_data.specs.Running.{RunsAs};
 ghost use Rattle.ash_plain.specs.Views.{activity_seen};
 ghost use Rattle.ash_plain.specs.LocationViews.{location_seen};
-ghost use Rattle.ash_plain.specs.Running.{RunsAs};
 
 use crate::activity::Activity;
 use crate::locations::Location;
-use crate::operators::{calculated_by, converted_to, counted, given_by, holds};
-use crate::run_error::{RunError, RunResult};
 use ash_host::Word;
 use ash_integers::DivisionFault;
 use ash_phrases::Exception;
+use ash_plain_data::operators::{calculated_by, converted_to, counted, given_by, holds};
+use ash_plain_data::run_error::{RunError, RunResult};
 use ash_typed::{Calculation, IntType, Operation, Step};
 
 impl Activity {
@@ -24,7 +25,8 @@ impl Activity {
         left: Word,
         right: Word,
     ) -> RunResult<Word>
-        ensures { RunsAs (λ w. w) result (activity_seen self.now) (calculate calculation left right (activity_seen self.now)) }
+        ensures { RunsAs (λ w. w) result (activity_seen self.now)
+            (calculate calculation left right (activity_seen self.now)) }
     {
         match calculated_by(calculation.operator, calculation.of, left, right) {
             Ok(word) => Ok(word),
@@ -34,8 +36,9 @@ impl Activity {
     }
 
     /// What an operator makes of two operands.
-    pub(crate) fn operate(&self, operation: Operation, left: Word, right: Word) -> RunResult<Word>
-        ensures { RunsAs (λ w. w) result (activity_seen self.now) (operate operation left right (activity_seen self.now)) }
+    pub fn operate(&self, operation: Operation, left: Word, right: Word) -> RunResult<Word>
+        ensures { RunsAs (λ w. w) result (activity_seen self.now)
+            (operate operation left right (activity_seen self.now)) }
     {
         match operation {
             Operation::Calculate(calculation) => self.calculate(calculation, left, right),
@@ -46,22 +49,24 @@ impl Activity {
     }
 
     /// Stores a value, and gives it.
-    pub(crate) fn store(&mut self, word: Word, location: Location) -> RunResult<Word>
-        ensures { RunsAs (λ w. w) result (activity_seen self.new) (store word (location_seen location) (activity_seen self.old)) }
+    pub fn store(&mut self, word: Word, location: Location) -> RunResult<Word>
+        ensures { RunsAs (λ w. w) result (activity_seen self.new)
+            (store word (location_seen location) (activity_seen self.old)) }
     {
         self.write(location, word)?;
         Ok(word)
     }
 
     /// Stores what an operator makes of what a location holds, converted to its type.
-    pub(crate) fn update(
+    pub fn update(
         &mut self,
         kind: IntType,
         calculation: Calculation,
         right: Word,
         location: Location,
     ) -> RunResult<Word>
-        ensures { RunsAs (λ w. w) result (activity_seen self.new) (update kind calculation right (location_seen location) (activity_seen self.old)) }
+        ensures { RunsAs (λ w. w) result (activity_seen self.new)
+            (update kind calculation right (location_seen location) (activity_seen self.old)) }
     {
         let left = self.read(location)?;
         let word = self.calculate(calculation, converted_to(calculation.of, left), right)?;
@@ -69,17 +74,23 @@ impl Activity {
     }
 
     /// `++` or `--` at a location.
-    pub(crate) fn count_at(
-        &mut self,
-        kind: IntType,
-        step: Step,
-        location: Location,
-    ) -> RunResult<Word>
-        ensures { RunsAs (λ w. w) result (activity_seen self.new) (count_at kind step (location_seen location) (activity_seen self.old)) }
+    pub fn count_at(&mut self, kind: IntType, step: Step, location: Location) -> RunResult<Word>
+        ensures { RunsAs (λ w. w) result (activity_seen self.new)
+            (count_at kind step (location_seen location) (activity_seen self.old)) }
     {
         let old = self.read(location)?;
         let new = counted(step, kind, old);
         self.write(location, new)?;
         Ok(given_by(step, old, new))
+    }
+
+    /// Writes a field of the object whose method runs.
+    pub fn write_field(&mut self, place: usize, word: Word) -> RunResult<()>
+        ensures { RunsAs (λ _. tt) result (activity_seen self.new)
+            (write_field place word (activity_seen self.old)) }
+    {
+        let this = self.this();
+        let number = self.object_of(this)?;
+        self.write(Location::Part { number, place }, word)
     }
 }

@@ -1,6 +1,6 @@
 use Rattle.std.proofs.Common.{ap, ◌∙◌, map}
 use Rattle.ash_host.specs.Objects.{with_at}
-use Rattle.ash_plain.specs.ObjectViews.{object_seen, entry_seen}
+use Rattle.ash_plain_data.specs.ObjectViews.{object_seen, entry_seen}
 use Rattle.ash_plain.proofs.Entries.{seen_with}
 use Rattle.ash_plain.proofs.objects.Objects.insert.Goals as goal
 

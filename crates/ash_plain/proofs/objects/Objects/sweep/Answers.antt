@@ -5,7 +5,7 @@ use Rattle.ash_host.specs.declared.event.Event.{Event}
 use Rattle.ash_host.specs.declared.event.Event.TheVariants.{Dropped}
 use Rattle.ash_host.specs.Objects.{is_host}
 use Rattle.ash_host.specs.Reach.{is_among}
-use Rattle.ash_plain.specs.ObjectViews.{entry_seen}
+use Rattle.ash_plain_data.specs.ObjectViews.{entry_seen}
 use Rattle.ash_plain.specs.Sweeping.{gone}
 use Rattle.ash_plain.proofs.Sweeps.{swept_objects, swept_hosts, gone_seen}
 use Rattle.ash_plain.proofs.Entries.{seen_filter}

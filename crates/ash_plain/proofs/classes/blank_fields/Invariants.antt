@@ -1,8 +1,0 @@
-use Rattle.std.proofs.Common.{◌≡◌, map, take}
-use Rattle.ash_typed.specs.BodyViews.{value_of}
-use Rattle.ash_typed.specs.StatementTree.{Initialization}
-use Rattle.ash_phrases.specs.Operators.{zero_of}
-use Rattle.ash_plain.proofs.classes.blank_fields.Given as goal
-
-abbrev pub invariant-loop-field : goal.invariant-loop-field
-invariant-loop-field l = l.words.items ≡ map (λ (v : Initialization). zero_of v.of) (map value_of (take l.field-index l.fields))

@@ -1,5 +1,0 @@
-use Rattle.std.proofs.Common.{length}
-use Rattle.ash_plain.proofs.same.+are_same_bytes.Given as goal
-
-abbrev pub decreases-are_same_bytes : goal.decreases-are_same_bytes
-decreases-are_same_bytes l = length l.left.now

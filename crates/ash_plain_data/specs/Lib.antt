@@ -1,0 +1,5 @@
+pub mod ObjectViews
+pub mod CallViews
+pub mod ClassViews
+pub mod Conversions
+pub mod Running

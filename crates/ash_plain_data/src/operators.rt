@@ -1,0 +1,167 @@
+//! Operators on words.
+
+ghost use Rattle.std.specs.Prelude.{◌≡◌, pos};
+ghost use Rattle.ash_host.specs.Records.{is_same_word};
+ghost use Rattle.ash_integers.specs.Integers.{number_of};
+ghost use Rattle.ash_phrases.specs.Operators.{word_at, converted_to, zero_of, is_true, calculated_by, holds_of_numbers, holds_of_words, holds, altered, counted, given_by};
+ghost use Rattle.ash_plain_data.specs.Conversions.{converted_by};
+
+use ash_host::Word;
+use ash_integers::{
+    Arithmetic, Comparison, DivisionFault, IntType, Shift, calculate, compare, complement, convert,
+    negate, number, shift_by, word_from,
+};
+use ash_typed::{Calculator, Change, Comparator, Conversion, Operands, Step, VarType};
+
+/// A number that a script writes.
+pub fn numeral(kind: IntType, value: u64) -> Word
+    ensures { result ≡ word_at kind (pos value) }
+{
+    word_from(kind, i128::from(value))
+}
+
+/// A word of any integer type, converted.
+pub fn converted_to(kind: IntType, word: Word) -> Word
+    ensures { result ≡ converted_to kind word }
+{
+    convert(kind, word)
+}
+
+/// A word, converted where a conversion is named.
+pub fn converted_by(conversion: Option<Conversion>, word: Word) -> Word
+    ensures { result ≡ converted_by conversion word }
+{
+    match conversion {
+        None => word,
+        Some(conversion) => converted_to(conversion.to, word),
+    }
+}
+
+/// What a variable holds before anything is written to it.
+pub fn zero_of(of: VarType) -> Word
+    ensures { result ≡ zero_of of }
+{
+    match of {
+        VarType::Bool => Word::Bool(false),
+        VarType::Integer(kind) => word_from(kind, 0),
+        VarType::Object(_) | VarType::Handle(_) => Word::Null,
+    }
+}
+
+/// Whether a word is `true`.
+pub fn is_true(word: Word) -> bool
+    ensures { result ≡ is_true word }
+{
+    match word {
+        Word::Bool(value) => value,
+        _ => false,
+    }
+}
+
+/// What an operator that makes an integer of two gives, or why a quotient is refused.
+pub fn calculated_by(
+    calculator: Calculator,
+    of: IntType,
+    left: Word,
+    right: Word,
+) -> Result<Word, DivisionFault>
+    ensures { result ≡ calculated_by calculator of left right }
+{
+    match calculator {
+        Calculator::Multiply => calculate(Arithmetic::Multiply, of, left, right),
+        Calculator::Divide => calculate(Arithmetic::Divide, of, left, right),
+        Calculator::Remainder => calculate(Arithmetic::Remainder, of, left, right),
+        Calculator::Add => calculate(Arithmetic::Add, of, left, right),
+        Calculator::Subtract => calculate(Arithmetic::Subtract, of, left, right),
+        Calculator::ShiftLeft => Ok(shift_by(Shift::Left, of, left, right)),
+        Calculator::ShiftRight => Ok(shift_by(Shift::Right, of, left, right)),
+        Calculator::ShiftRightArithmetic => {
+            Ok(shift_by(Shift::RightArithmetic, of, left, right))
+        }
+        Calculator::BitAnd => calculate(Arithmetic::BitAnd, of, left, right),
+        Calculator::BitXor => calculate(Arithmetic::BitXor, of, left, right),
+        Calculator::BitOr => calculate(Arithmetic::BitOr, of, left, right),
+    }
+}
+
+fn holds_of_numbers(comparator: Comparator, left: Word, right: Word) -> bool
+    ensures { result ≡ holds_of_numbers comparator (number_of left) (number_of right) }
+{
+    match comparator {
+        Comparator::Less => compare(Comparison::Less, left, right),
+        Comparator::LessOrEqual => compare(Comparison::LessOrEqual, left, right),
+        Comparator::Greater => compare(Comparison::Greater, left, right),
+        Comparator::GreaterOrEqual => compare(Comparison::GreaterOrEqual, left, right),
+        Comparator::Equal => compare(Comparison::Equal, left, right),
+        Comparator::NotEqual => compare(Comparison::NotEqual, left, right),
+        Comparator::Is | Comparator::NotIs | Comparator::Xor => false,
+    }
+}
+
+/// Whether two words are one.
+pub fn is_same_word(left: Word, right: Word) -> bool
+    ensures { result ≡ is_same_word left right }
+{
+    match (left, right) {
+        (Word::Bool(left), Word::Bool(right)) => left == right,
+        (Word::Int(left), Word::Int(right)) => left == right,
+        (Word::Uint(left), Word::Uint(right)) => left == right,
+        (Word::Int64(left), Word::Int64(right)) => left == right,
+        (Word::Uint64(left), Word::Uint64(right)) => left == right,
+        (Word::Null, Word::Null) => true,
+        (Word::Object(left), Word::Object(right)) => left == right,
+        _ => false,
+    }
+}
+
+fn holds_of_words(comparator: Comparator, left: Word, right: Word) -> bool
+    ensures { result ≡ holds_of_words comparator left right }
+{
+    match comparator {
+        Comparator::Equal | Comparator::Is => is_same_word(left, right),
+        Comparator::NotEqual | Comparator::NotIs | Comparator::Xor => !is_same_word(left, right),
+        _ => false,
+    }
+}
+
+/// Whether a comparison holds.
+pub fn holds(comparator: Comparator, of: Operands, left: Word, right: Word) -> bool
+    ensures { result ≡ holds comparator of left right }
+{
+    match of {
+        Operands::Integers(_) => holds_of_numbers(comparator, left, right),
+        Operands::Bools | Operands::Handles => holds_of_words(comparator, left, right),
+    }
+}
+
+/// What an operation before its operand gives.
+pub fn altered(change: Change, word: Word) -> Word
+    ensures { result ≡ altered change word }
+{
+    match change {
+        Change::Negate(kind) => negate(kind, word),
+        Change::Complement(kind) => complement(kind, word),
+        Change::Not => Word::Bool(!is_true(word)),
+    }
+}
+
+/// What `++` and `--` leave in a place of this type.
+pub fn counted(step: Step, kind: IntType, word: Word) -> Word
+    ensures { result ≡ counted step kind word }
+{
+    let number = number(word);
+    match step {
+        Step::Increment | Step::IncrementAfter => word_from(kind, number + 1),
+        Step::Decrement | Step::DecrementAfter => word_from(kind, number - 1),
+    }
+}
+
+/// Which of the values of its place `++` or `--` gives.
+pub fn given_by(step: Step, old: Word, new: Word) -> Word
+    ensures { result ≡ given_by step old new }
+{
+    match step {
+        Step::Increment | Step::Decrement => new,
+        Step::IncrementAfter | Step::DecrementAfter => old,
+    }
+}

@@ -1,0 +1,40 @@
+//! Why a run of the code ends before it has its value.
+
+ghost use Rattle.std.specs.Prelude.{◌≡◌};
+ghost use Rattle.ash_plain_data.specs.declared.run_error.RunError.TheVariants.{NoMemory};
+
+use ash_phrases::Exception;
+use std::alloc::{AllocError, AllocFailed};
+
+/// Why a run of the code ends before it has its value.
+#[derive(Clone, Copy, Debug)]
+pub enum RunError {
+    /// The script raised an exception.
+    Raised(Exception),
+    /// A tick was to be taken where none was left.
+    OutOfTicks,
+    /// The meaning has no step: no host answer is left, or the next is of another call, or something is named that is
+    /// not there.
+    NoStep,
+    /// Memory ran out.
+    NoMemory,
+}
+
+/// What a run of the code gives.
+pub type RunResult<T> = Result<T, RunError>;
+
+impl From<AllocError> for RunError {
+    ghost from_gives = { λ _ error. error ≡ NoMemory };
+
+    fn from(_error: AllocError) -> RunError {
+        RunError::NoMemory
+    }
+}
+
+impl<T: Drop> From<AllocFailed<T>> for RunError {
+    ghost from_gives = { λ _ error. error ≡ NoMemory };
+
+    fn from(_error: AllocFailed<T>) -> RunError {
+        RunError::NoMemory
+    }
+}
