@@ -32,6 +32,6 @@ pub use outcomes::{
     worked_order_examples, worked_point_examples, worked_pool_examples,
 };
 pub use tables::{
-    worked_conversions, worked_int_table, worked_int64_table, worked_ticks, worked_uint_table,
-    worked_uint64_table,
+    worked_changes, worked_comparisons, worked_conversions, worked_frame_ticks, worked_int_table,
+    worked_int64_table, worked_jump_ticks, worked_ticks, worked_uint_table, worked_uint64_table,
 };

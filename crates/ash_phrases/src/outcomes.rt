@@ -100,7 +100,8 @@ pub fn worked_array_examples()
         ((1, Array Ints []) ∷ []) }
     ensures inserted_last { HasObjects (call_function arrays.inserting 0 [] 9 (with_elements 2))
         ((1, Array Ints (Word.Int (pos 0) ∷ Word.Int (pos 0) ∷ Word.Int (pos 1) ∷ [])) ∷ []) }
-    ensures no_room { Throws (call_function arrays.inserting 0 [] 9 (with_elements 4096)) Exception.ArrayLimit f }
+    ensures no_room { Throws
+        (call_function arrays.inserting 0 [] 9 (with_elements 4096)) Exception.ArrayLimit f }
     ensures taken_away { HasEvents (call_function arrays.shortened 0 [] 9
         (with_counters 4 (started 2 1 ∷ started 3 2 ∷ started 4 3 ∷ started 5 4 ∷ [])
         (loaded arrays.shortened)))
@@ -146,7 +147,8 @@ pub fn worked_order_examples()
         (call_function orders.not_listed 0 [] 9 (loaded orders.not_listed)) (Word.Bool true) }
     ensures frame_of_the_caller { Throws
         (call_function orders.in_turn 0 [] 512 empty_world) Exception.StackOverflow (codes "g") }
-    ensures frame_of_a_load { Throws (load_module orders.endless_load 511 empty_world) Exception.StackOverflow f }
+    ensures frame_of_a_load { Throws
+        (load_module orders.endless_load 511 empty_world) Exception.StackOverflow f }
     ensures ticks_of_a_load { Aborts (load_module orders.endless_load 510 empty_world) f }
 {}
 
@@ -197,7 +199,8 @@ pub fn worked_point_examples()
 
 /// Exceptions in each sort of phrase, with the function and the line of the last tick.
 pub fn worked_exception_examples()
-    ensures local { ThrowsAt (call_function exceptions.in_a_local 0 [] 9 empty_world) Exception.DivideByZero f 3 }
+    ensures local { ThrowsAt
+        (call_function exceptions.in_a_local 0 [] 9 empty_world) Exception.DivideByZero f 3 }
     ensures if_condition { ThrowsAt
         (call_function exceptions.in_an_if 0 [] 9 empty_world) Exception.DivideByZero f 3 }
     ensures do_condition { ThrowsAt
@@ -224,7 +227,8 @@ pub fn worked_exception_examples()
     ensures step { Throws (call_function exceptions.with_a_head 0 [] 9
         (counters 2 (started 1 1 ∷ started 2 2 ∷ [])))
         Exception.DivideByZero f }
-    ensures global { Throws (load_module exceptions.in_a_call_of_a_global 9 empty_world) Exception.DivideByZero f }
+    ensures global { Throws
+        (load_module exceptions.in_a_call_of_a_global 9 empty_world) Exception.DivideByZero f }
 {}
 
 /// What is left where a run ends by an exception, or is aborted: what was done stays, and what only its frames held
