@@ -1,5 +1,5 @@
 -- Small modules whose meaning is computed: of arrays.
-use Rattle.std.specs.Prelude.{ℕ, pos, List, [], ◌∷◌, replicate, Some, None}
+use Rattle.std.specs.Prelude.{ℕ, pos, [], ◌∷◌, replicate, Some, None}
 use Rattle.ash_host.specs.declared.word.Word.TheVariants as words
 use Rattle.ash_host.specs.Objects.{Array, Ints}
 use Rattle.ash_typed.specs.declared.types.Kind.TheVariants as kinds
@@ -48,7 +48,7 @@ through_no_array = program (module_of [] (alone (variable handle None) ∷ []) (
     index : Expr
     index =
         Convert (record { from = kinds.Int; to = kinds.Uint })
-          (calculate calculators.Divide (number 1) (Read (local 0 int)))
+        (calculate calculators.Divide (number 1) (Read (local 0 int)))
 
     element : Expr
     element = Read (Indexed (Read (global 0 handle)) index (elements.Integer kinds.Int))

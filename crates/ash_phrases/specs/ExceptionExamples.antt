@@ -135,7 +135,7 @@ written_before = program (module_of [] (alone (variable int (Some (number 0))) �
     main : Function
     main =
         function f None []
-          (evaluate (Assign (global 0 int) (number 1)) ∷ evaluate (Assign (global 0 int) failing) ∷ [])
+        (evaluate (Assign (global 0 int) (number 1)) ∷ evaluate (Assign (global 0 int) failing) ∷ [])
 
 -- `int a = f(); int f() { return 1 / 0; }`
 abbrev pub in_a_call_of_a_global : Program

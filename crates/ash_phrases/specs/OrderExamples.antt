@@ -158,7 +158,7 @@ deciding operator left = program (module_of [] (zero_global ∷ []) (g ∷ main 
     g : Function
     g =
         function (codes "g") (Some vars.Bool) []
-          (evaluate (Update n kinds.Int addition (number 1)) ∷ returning (Truth true) ∷ [])
+        (evaluate (Update n kinds.Int addition (number 1)) ∷ returning (Truth true) ∷ [])
 
     decided : Expr
     decided = Lazily operator (Truth left) (Call (targets.Function 0 (Some vars.Bool)) [] (exprs []))

@@ -1,6 +1,5 @@
 -- Small modules whose meaning is computed: of objects that go with a full expression, with blocks and with a frame.
 use Rattle.std.specs.Prelude.{ℕ, pos, List, [], ◌∷◌, codes, Option, Some, None}
-use Rattle.ash_host.specs.declared.word.Word.TheVariants as words
 use Rattle.ash_host.specs.Ints.{int_bytes}
 use Rattle.ash_host.specs.Objects.{Host}
 use Rattle.ash_tree.specs.declared.tree.statements.Label.TheVariants as labels

@@ -167,7 +167,7 @@ every_jump = program (module_of [] [] (main ∷ []))
     inside : Loop
     inside =
         repeated tests.First (Some (compare comparators.Less 2))
-          (Count (local 0 int) kinds.Int steps.IncrementAfter ∷ []) (Block 2 (stmts (once ∷ Break 5 ∷ [])))
+        (Count (local 0 int) kinds.Int steps.IncrementAfter ∷ []) (Block 2 (stmts (once ∷ Break 5 ∷ [])))
 
     jumping : Stmt
     jumping = For 2 (declared_head (variable int (Some (number 0)) ∷ [])) inside

@@ -28,8 +28,8 @@ pub use examples::{
 };
 pub use exception::Exception;
 pub use outcomes::{
-    worked_answer_examples, worked_array_examples, worked_effect_examples, worked_exception_examples,
-    worked_order_examples, worked_point_examples, worked_pool_examples,
+    worked_answer_examples, worked_array_examples, worked_effect_examples,
+    worked_exception_examples, worked_order_examples, worked_point_examples, worked_pool_examples,
 };
 pub use tables::{
     worked_changes, worked_comparisons, worked_conversions, worked_frame_ticks, worked_int_table,

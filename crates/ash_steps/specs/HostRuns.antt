@@ -33,4 +33,4 @@ written_twice = module_of [] (alone (named (codes "n") int (Some (number 0))) �
     main : Function
     main =
         function f None []
-          (evaluate (Assign (global 0 int) (number 1)) ∷ evaluate (Assign (global 0 int) (number 2)) ∷ [])
+        (evaluate (Assign (global 0 int) (number 1)) ∷ evaluate (Assign (global 0 int) (number 2)) ∷ [])
