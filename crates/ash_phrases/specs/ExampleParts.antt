@@ -8,6 +8,7 @@ use Rattle.ash_host.specs.declared.event.Event.{Event}
 use Rattle.ash_host.specs.declared.event.Target.TheVariants as host_targets
 use Rattle.ash_host.specs.Calls as calls
 use Rattle.ash_host.specs.Ints.{int_bytes}
+use Rattle.ash_host.specs.Objects.{Objects}
 use Rattle.ash_host.specs.Records.{HostRecord}
 use Rattle.ash_integers.specs.declared.int_type.IntType.TheVariants as ints
 use Rattle.ash_typed.specs.declared.types.ObjectType.TheVariants as objects
@@ -110,6 +111,20 @@ HasEvents outcome events = option_map (λ (o : Outcome). (o.world).events) outco
 
 abbrev pub HasServices : Option Outcome → List (List ℕ) → Type 0
 HasServices outcome states = option_map (λ (o : Outcome). (o.world).services) outcome ≡ Some states
+
+abbrev pub HasGlobals : Option Outcome → List Word → Type 0
+HasGlobals outcome globals = option_map (λ (o : Outcome). (o.world).globals) outcome ≡ Some globals
+
+abbrev pub HasObjects : Option Outcome → Objects (List ℕ) → Type 0
+HasObjects outcome objects = option_map (λ (o : Outcome). (o.world).objects) outcome ≡ Some objects
+
+-- the last number that was given to an object
+abbrev pub HasLast : Option Outcome → ℕ → Type 0
+HasLast outcome last = option_map (λ (o : Outcome). (o.world).last) outcome ≡ Some last
+
+-- every number was given to an object
+abbrev pub numbers_spent : World
+numbers_spent = record empty_world { last = 18446744073709551615 }
 
 -- what a load leaves, with the budget of 9 ticks
 abbrev pub loaded : Program → World

@@ -23,4 +23,9 @@ pub mod Examples
 pub mod ObjectExamples
 pub mod ReleaseExamples
 pub mod ControlExamples
+pub mod AnswerExamples
+pub mod ArrayExamples
+pub mod OrderExamples
+pub mod PointExamples
+pub mod ExceptionExamples
 pub mod Tables

@@ -13,12 +13,13 @@
 //! example. A call and a turn of a loop each take a tick, so that the definitions go by how many are left.
 //!
 //! In reading order: `exception` (what a script can raise), `laws` (of the meaning), `examples` (phrases whose
-//! meaning is computed), `tables` (of integers and of ticks).
+//! meaning is computed), `outcomes` (of small modules, with what they leave), `tables` (of integers and of ticks).
 #![tactic(auto)]
 
 mod examples;
 mod exception;
 pub mod laws;
+mod outcomes;
 mod tables;
 
 pub use examples::{
@@ -26,7 +27,11 @@ pub use examples::{
     worked_release_examples,
 };
 pub use exception::Exception;
+pub use outcomes::{
+    worked_answer_examples, worked_array_examples, worked_effect_examples,
+    worked_exception_examples, worked_order_examples, worked_point_examples, worked_pool_examples,
+};
 pub use tables::{
-    worked_conversions, worked_int_table, worked_int64_table, worked_ticks, worked_uint_table,
-    worked_uint64_table,
+    worked_changes, worked_comparisons, worked_conversions, worked_frame_ticks, worked_int_table,
+    worked_int64_table, worked_jump_ticks, worked_ticks, worked_uint_table, worked_uint64_table,
 };

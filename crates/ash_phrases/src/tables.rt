@@ -1,12 +1,15 @@
 //! Tables of integers and of ticks, computed from the definitions. These functions do nothing when they run.
-ghost use Rattle.std.specs.Prelude.{◌≡◌, [], ◌∷◌, ◌++◌, pos, negsuc, Some, Ok, Err};
+ghost use Rattle.std.specs.Prelude.{◌≡◌, [], ◌∷◌, ◌++◌, true, false, pos, negsuc, codes, Some, Ok, Err};
 ghost use Rattle.ash_host.specs.declared.word.Word.{Word};
 ghost use Rattle.ash_integers.specs.declared.arithmetic.DivisionFault.{DivisionFault};
 ghost use Rattle.ash_integers.specs.declared.int_type.IntType.{IntType};
 ghost use Rattle.ash_typed.specs.declared.tree.operations.Calculator.{Calculator};
+ghost use Rattle.ash_typed.specs.declared.tree.operations.Comparator.{Comparator};
 ghost use Rattle.ash_phrases.specs.Ends.{Finished};
+ghost use Rattle.ash_phrases.specs.ExampleParts.{f};
 ghost use Rattle.ash_phrases.specs.Tables.{made_of, signed_pairs, unsigned_pairs, conversions_to, every_statement};
-ghost use Rattle.ash_phrases.specs.Tables.{ends_within, aborted_at};
+ghost use Rattle.ash_phrases.specs.Tables.{compared_of, compared_truths, changed_of, every_jump, every_frame};
+ghost use Rattle.ash_phrases.specs.Tables.{ends_within, aborted_at, aborted_in};
 
 /// Every operator on `int`, at its extremes.
 pub fn worked_int_table()
@@ -160,6 +163,66 @@ pub fn worked_uint64_table()
         Ok (pos 7) ∷ Ok (pos 18446744073709551615) ∷ Ok (pos 5) ∷ Ok (pos 65) ∷ []) }
 {}
 
+/// Every comparison of integers, at their extremes, and of truth values.
+pub fn worked_comparisons()
+    ensures of_int { compared_of IntType.Int (signed_pairs 32)
+        ≡ ((true ∷ true ∷ false ∷ true ∷ false ∷ false ∷ true ∷ [])
+        ∷ (true ∷ true ∷ true ∷ true ∷ false ∷ false ∷ true ∷ [])
+        ∷ (false ∷ false ∷ false ∷ false ∷ true ∷ true ∷ false ∷ [])
+        ∷ (false ∷ false ∷ true ∷ false ∷ true ∷ true ∷ false ∷ [])
+        ∷ (false ∷ false ∷ true ∷ false ∷ false ∷ false ∷ false ∷ [])
+        ∷ (true ∷ true ∷ false ∷ true ∷ true ∷ true ∷ true ∷ []) ∷ []) }
+    ensures of_uint { compared_of IntType.Uint (unsigned_pairs 32)
+        ≡ ((false ∷ false ∷ false ∷ true ∷ true ∷ false ∷ true ∷ [])
+        ∷ (true ∷ false ∷ false ∷ true ∷ true ∷ false ∷ true ∷ [])
+        ∷ (false ∷ true ∷ true ∷ false ∷ false ∷ true ∷ false ∷ [])
+        ∷ (true ∷ true ∷ true ∷ false ∷ false ∷ true ∷ false ∷ [])
+        ∷ (true ∷ false ∷ false ∷ false ∷ false ∷ false ∷ false ∷ [])
+        ∷ (false ∷ true ∷ true ∷ true ∷ true ∷ true ∷ true ∷ []) ∷ []) }
+    ensures of_int64 { compared_of IntType.Int64 (signed_pairs 64)
+        ≡ ((true ∷ true ∷ false ∷ true ∷ false ∷ false ∷ true ∷ [])
+        ∷ (true ∷ true ∷ true ∷ true ∷ false ∷ false ∷ true ∷ [])
+        ∷ (false ∷ false ∷ false ∷ false ∷ true ∷ true ∷ false ∷ [])
+        ∷ (false ∷ false ∷ true ∷ false ∷ true ∷ true ∷ false ∷ [])
+        ∷ (false ∷ false ∷ true ∷ false ∷ false ∷ false ∷ false ∷ [])
+        ∷ (true ∷ true ∷ false ∷ true ∷ true ∷ true ∷ true ∷ []) ∷ []) }
+    ensures of_uint64 { compared_of IntType.Uint64 (unsigned_pairs 64)
+        ≡ ((false ∷ false ∷ false ∷ true ∷ true ∷ false ∷ true ∷ [])
+        ∷ (true ∷ false ∷ false ∷ true ∷ true ∷ false ∷ true ∷ [])
+        ∷ (false ∷ true ∷ true ∷ false ∷ false ∷ true ∷ false ∷ [])
+        ∷ (true ∷ true ∷ true ∷ false ∷ false ∷ true ∷ false ∷ [])
+        ∷ (true ∷ false ∷ false ∷ false ∷ false ∷ false ∷ false ∷ [])
+        ∷ (false ∷ true ∷ true ∷ true ∷ true ∷ true ∷ true ∷ []) ∷ []) }
+    ensures equal_truths { compared_truths Comparator.Equal ≡ (true ∷ false ∷ false ∷ true ∷ []) }
+    ensures different_truths { compared_truths Comparator.NotEqual ≡ (false ∷ true ∷ true ∷ false ∷ []) }
+    ensures exclusive_truths { compared_truths Comparator.Xor ≡ (false ∷ true ∷ true ∷ false ∷ []) }
+{}
+
+/// What unary `-` and `~`, `++` and `--` make of integers, at their extremes: one list for each operator.
+pub fn worked_changes()
+    ensures of_int { changed_of IntType.Int (negsuc 2147483647 ∷ negsuc 0 ∷ pos 0 ∷ pos 2147483647 ∷ [])
+        ≡ ((negsuc 2147483647 ∷ pos 1 ∷ pos 0 ∷ negsuc 2147483646 ∷ [])
+        ∷ (pos 2147483647 ∷ pos 0 ∷ negsuc 0 ∷ negsuc 2147483647 ∷ [])
+        ∷ (negsuc 2147483646 ∷ pos 0 ∷ pos 1 ∷ negsuc 2147483647 ∷ [])
+        ∷ (pos 2147483647 ∷ negsuc 1 ∷ negsuc 0 ∷ pos 2147483646 ∷ []) ∷ []) }
+    ensures of_uint { changed_of IntType.Uint (pos 0 ∷ pos 1 ∷ pos 4294967295 ∷ [])
+        ≡ ((pos 0 ∷ pos 4294967295 ∷ pos 1 ∷ [])
+        ∷ (pos 4294967295 ∷ pos 4294967294 ∷ pos 0 ∷ [])
+        ∷ (pos 1 ∷ pos 2 ∷ pos 0 ∷ [])
+        ∷ (pos 4294967295 ∷ pos 0 ∷ pos 4294967294 ∷ []) ∷ []) }
+    ensures of_int64 { changed_of IntType.Int64
+        (negsuc 9223372036854775807 ∷ negsuc 0 ∷ pos 0 ∷ pos 9223372036854775807 ∷ [])
+        ≡ ((negsuc 9223372036854775807 ∷ pos 1 ∷ pos 0 ∷ negsuc 9223372036854775806 ∷ [])
+        ∷ (pos 9223372036854775807 ∷ pos 0 ∷ negsuc 0 ∷ negsuc 9223372036854775807 ∷ [])
+        ∷ (negsuc 9223372036854775806 ∷ pos 0 ∷ pos 1 ∷ negsuc 9223372036854775807 ∷ [])
+        ∷ (pos 9223372036854775807 ∷ negsuc 1 ∷ negsuc 0 ∷ pos 9223372036854775806 ∷ []) ∷ []) }
+    ensures of_uint64 { changed_of IntType.Uint64 (pos 0 ∷ pos 1 ∷ pos 18446744073709551615 ∷ [])
+        ≡ ((pos 0 ∷ pos 18446744073709551615 ∷ pos 1 ∷ [])
+        ∷ (pos 18446744073709551615 ∷ pos 18446744073709551614 ∷ pos 0 ∷ [])
+        ∷ (pos 1 ∷ pos 2 ∷ pos 0 ∷ [])
+        ∷ (pos 18446744073709551615 ∷ pos 0 ∷ pos 18446744073709551614 ∷ []) ∷ []) }
+{}
+
 /// Every conversion, which leaves the low bits.
 pub fn worked_conversions()
     ensures to_int { conversions_to IntType.Int
@@ -188,4 +251,20 @@ pub fn worked_ticks()
     ensures { ends_within every_statement 25
         ≡ aborted_at (1 ∷ 2 ∷ 3 ∷ 4 ∷ 5 ∷ 6 ∷ 7 ∷ 8 ∷ 10 ∷ 10 ∷ 11 ∷ 10 ∷ 11 ∷ 10 ∷ 12 ∷ 13 ∷ 12 ∷
         14 ∷ 14 ∷ 15 ∷ 14 ∷ 16 ∷ 17 ∷ 18 ∷ []) ++ Some (Finished (Some (Word.Int (pos 9)))) ∷ [] }
+{}
+
+/// The line of each tick of a loop that is left by a `continue` and a `break`, and the number that is returned.
+pub fn worked_jump_ticks()
+    ensures { ends_within every_jump 10
+        ≡ aborted_at (1 ∷ 2 ∷ 2 ∷ 3 ∷ 4 ∷ 2 ∷ 3 ∷ 5 ∷ 6 ∷ [])
+        ++ Some (Finished (Some (Word.Int (pos 1)))) ∷ [] }
+{}
+
+/// The function and the line of each tick where objects are constructed and a method is called. An entry has the line
+/// of the function's name, or of the class's where no constructor is written.
+pub fn worked_frame_ticks()
+    ensures { ends_within every_frame 10
+        ≡ aborted_in ((f, 9) ∷ (f, 10) ∷ (codes "A.A", 5) ∷ (codes "A.A", 6) ∷ (f, 10) ∷ (codes "B.B", 1)
+        ∷ (f, 11) ∷ (codes "A.m", 7) ∷ (codes "A.m", 8) ∷ [])
+        ++ Some (Finished (Some (Word.Int (pos 2)))) ∷ [] }
 {}

@@ -8,3 +8,4 @@ pub mod Examples
 pub mod RunExamples
 pub mod IntegerRuns
 pub mod ObjectRuns
+pub mod HostRuns

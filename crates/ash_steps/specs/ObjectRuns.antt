@@ -18,14 +18,10 @@ use Rattle.ash_typed.specs.declared.tree.operations.Operation.TheVariants as ope
 use Rattle.ash_typed.specs.Tree.{Expr, Null, This, Read, Invoke, Cast, Operate, Assign, Call, Place, Held, exprs}
 use Rattle.ash_typed.specs.StatementTree.{Initialization, Stmt, Declare}
 use Rattle.ash_typed.specs.Modules.{Function, Interface, Class, Module}
-use Rattle.ash_phrases.specs.ExampleParts.{int, handle_of_class, number, local, global, variable, named, alone, returning, evaluate, function, module_of, counter, new_counter, add, f}
+use Rattle.ash_phrases.specs.ExampleParts.{int, handle_of_class, number, local, global, variable, named, alone, returning, evaluate, function, module_of, counter, new_counter, f}
 use Rattle.ash_steps.specs.States.{State}
 use Rattle.ash_steps.specs.Requests.{Fields, Elements, Shown}
 use Rattle.ash_steps.specs.IntegerRuns.{functions}
-
--- `int f() { Counter@ a = Counter(1); @a = @a; return a.add(1); }`
-abbrev pub assigned_to_itself : Module
-assigned_to_itself = functions (function f (Some int) [] (Declare 1 (variable counter (Some (new_counter 1)) ∷ []) ∷ evaluate (Assign (local 0 counter) (Read (local 0 counter))) ∷ returning (add (Read (local 0 counter)) 1) ∷ []) ∷ [])
 
 -- `void f() { Counter c(1); }`
 abbrev pub drawing : Module

@@ -10,6 +10,7 @@ ghost use Rattle.ash_phrases.specs.ExampleParts.{started, added, tallied_by, tot
 ghost use Rattle.ash_phrases.specs.Examples as phrases;
 ghost use Rattle.ash_phrases.specs.ObjectExamples as phrase_objects;
 ghost use Rattle.ash_phrases.specs.ReleaseExamples.{value_read};
+ghost use Rattle.ash_phrases.specs.PointExamples as points;
 ghost use Rattle.ash_steps.specs.declared.argument.Argument.{Argument};
 ghost use Rattle.ash_steps.specs.Requests.{Load, Call, Discard, Global, Object, Seq, Snapshot};
 ghost use Rattle.ash_steps.specs.Requests.{Answered, Value, ShownAs, Number, Done, Refused};
@@ -111,7 +112,7 @@ pub fn worked_object_runs()
         (Load m (0 ∷ []) ∷ Call m f [] ∷ Object 1 ∷ Call m (codes "pick") [] ∷ []) 0 []
         (Answered (Finished None) 1 [] ∷ Answered (Finished (Some (Word.Int (pos 21)))) 2 []
         ∷ ShownAs (class_shown 1 (codes "m.P") 1 ((codes "v", Word.Int (pos 2)) ∷ [])) ∷ Refused NotCallable ∷ []) }
-    ensures assigned_to_itself { RepliesOf (objects.assigned_to_itself ∷ []) (Load m (0 ∷ []) ∷ Call m f [] ∷ []) 1
+    ensures assigned_to_itself { RepliesOf (points.assigned_to_itself.tree ∷ []) (Load m (0 ∷ []) ∷ Call m f [] ∷ []) 1
         (started 1 1 ∷ added 1 1 1 2 ∷ [])
         (Answered (Finished None) 1 []
         ∷ Answered (Finished (Some (Word.Int (pos 2)))) 2 (Drew 1 ∷ Called (Target.Object 1) 1 ∷ Dropped 1 ∷ []) ∷ []) }

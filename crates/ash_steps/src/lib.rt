@@ -9,12 +9,15 @@
 //! `States`, `Requests`, `Tasks` (the refusals of each request, in order), `Steps` (what is done, and runs over
 //! requests), `Premises` (what statements may take as given), `Laws`, and `Examples` with those beside it.
 //!
-//! In reading order: `argument` (what a call is handed), `laws` (of steps), `examples` (runs that are computed).
+//! In reading order: `argument` (what a call is handed), `laws` (of steps), `examples` and `host_runs` (runs that are
+//! computed).
 #![tactic(auto)]
 
 mod argument;
 mod examples;
+mod host_runs;
 pub mod laws;
 
 pub use argument::Argument;
 pub use examples::{worked_integer_runs, worked_limit_runs, worked_object_runs, worked_runs};
+pub use host_runs::worked_host_runs;
