@@ -25,8 +25,8 @@ use Rattle.ash_phrases.specs.ReleaseExamples.{declared}
 
 -- parts
 
-abbrev pub ints : ObjectType
-ints = objects.Array (elements.Integer ints.Int)
+abbrev pub int_array : ObjectType
+int_array = objects.Array (elements.Integer ints.Int)
 
 abbrev pub uint : VarType
 uint = vars.Integer ints.Uint
@@ -43,7 +43,7 @@ abbrev pub through_no_array : Program
 through_no_array = program (module_of [] (alone (variable handle None) ∷ []) (main ∷ []))
   where
     handle : VarType
-    handle = vars.Handle ints
+    handle = vars.Handle int_array
 
     index : Expr
     index =
@@ -61,7 +61,7 @@ abbrev pub inserting : Program
 inserting = program (module_of [] (alone (variable array (Some new)) ∷ []) (main ∷ []))
   where
     array : VarType
-    array = vars.Object ints
+    array = vars.Object int_array
 
     new : Expr
     new = Call (targets.Array (elements.Integer ints.Int)) [] (exprs [])
@@ -91,7 +91,7 @@ shortened = program (module_of [] (alone (variable array (Some new)) ∷ []) (ma
 
 -- `void f(uint n) { array<int> a(n); }`
 abbrev pub making : Program
-making = only None (uint ∷ []) (Declare 1 (variable (vars.Object ints) (Some new) ∷ []) ∷ [])
+making = only None (uint ∷ []) (Declare 1 (variable (vars.Object int_array) (Some new) ∷ []) ∷ [])
   where
     new : Expr
     new = Call (targets.Array (elements.Integer ints.Int)) (uint ∷ []) (exprs (Read (local 0 uint) ∷ []))
