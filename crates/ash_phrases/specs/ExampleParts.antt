@@ -85,8 +85,8 @@ abbrev pub end_of : Option Outcome → Option End
 end_of outcome = option_map (λ (o : Outcome). o.end) outcome
 
 -- a run ends with a value; by an exception, or by a refused tick, in a function at a line; or it has no step
-abbrev pub Gives : Option Outcome → Word → Type 0
-Gives outcome word = end_of outcome ≡ Some (Finished (Some word))
+abbrev pub FinishesWith : Option Outcome → Word → Type 0
+FinishesWith outcome word = end_of outcome ≡ Some (Finished (Some word))
 
 abbrev pub ThrowsAt : Option Outcome → Exception → List ℕ → ℕ → Type 0
 ThrowsAt outcome exception function line = end_of outcome ≡ Some (Threw exception function line)

@@ -6,7 +6,8 @@ ghost use Rattle.ash_phrases.specs.Classes.{Program};
 ghost use Rattle.ash_phrases.specs.Traces.{Trace};
 ghost use Rattle.ash_phrases.specs.Laws.{DepthIsNoPart, ReleasesTheUnreachable, PhrasesAreTraces, TicksFall};
 ghost use Rattle.ash_phrases.specs.Answers.{Answerers, HostsFit};
-ghost use Rattle.ash_phrases.specs.Laws.{NumbersLiveOnce, GoAtReleases, RunsStay, MoreTicksGoOn, BudgetSuffices, TakesInOrder};
+ghost use Rattle.ash_phrases.specs.Laws.{NumbersLiveOnce, GoAtReleases, RunsStay, MoreTicksGoOn, BudgetSuffices};
+ghost use Rattle.ash_phrases.specs.Laws.{TakesInOrder};
 
 use ash_host::HostObject;
 
@@ -19,7 +20,8 @@ pub fn depth_is_no_part()
 /// A release point takes exactly what can't be reached, the host objects among it by ascending number, and changes
 /// nothing else.
 pub fn release_takes_the_unreachable()
-    ensures { (activity : Activity) → IsInOrder activity.world.objects → ReleasesTheUnreachable activity }
+    ensures { (activity : Activity) → IsInOrder activity.world.objects
+        → ReleasesTheUnreachable activity }
 {}
 
 /// Each phrase does one transition after another, and ends for want of a tick only where none is left.
@@ -34,19 +36,22 @@ pub fn ticks_fall()
 
 /// Along a trace each number is drawn at most once, and dropped at most once and only after it was drawn.
 pub fn numbers_live_once()
-    ensures { (first last : Activity) → Trace first last → AreNumbered first.world.last first.world.objects
+    ensures { (first last : Activity) → Trace first last
+        → AreNumbered first.world.last first.world.objects
         → NumbersLiveOnce first.world last.world }
 {}
 
 /// An object that is there before some transitions and not after them went at a release point between them.
 pub fn objects_go_at_releases()
-    ensures { (first last : Activity) → Trace first last → AreNumbered first.world.last first.world.objects
+    ensures { (first last : Activity) → Trace first last
+        → AreNumbered first.world.last first.world.objects
         → GoAtReleases first last }
 {}
 
 /// However a run ends, what it did in globals, objects and services stays.
 pub fn effects_stay()
-    ensures { (program : Program) (budget : ℕ) (world : World) → AreNumbered world.last world.objects
+    ensures { (program : Program) (budget : ℕ) (world : World)
+        → AreNumbered world.last world.objects
         → RunsStay program budget world }
 {}
 
@@ -54,7 +59,8 @@ pub fn effects_stay()
 /// aborted comes to the same within any larger budget, and what an aborted one leaves is on the way.
 pub fn more_ticks_go_on()
     ensures phrases { (program : Program) (depth : ℕ) → MoreTicksGoOn program depth }
-    ensures runs { (program : Program) (budget more : ℕ) (world : World) → AreNumbered world.last world.objects
+    ensures runs { (program : Program) (budget more : ℕ) (world : World)
+        → AreNumbered world.last world.objects
         → BudgetSuffices program budget more world }
 {}
 

@@ -10,7 +10,7 @@ ghost use Rattle.ash_host.specs.Objects.{Script, Array, Ints};
 ghost use Rattle.ash_typed.specs.declared.tree.operations.Lazy.{Lazy};
 ghost use Rattle.ash_phrases.specs.declared.exception.Exception.{Exception};
 ghost use Rattle.ash_phrases.specs.Ends.{call_function, load_module};
-ghost use Rattle.ash_phrases.specs.ExampleParts.{Gives, Throws, ThrowsAt, Aborts, HasNoStep};
+ghost use Rattle.ash_phrases.specs.ExampleParts.{FinishesWith, Throws, ThrowsAt, Aborts, HasNoStep};
 ghost use Rattle.ash_phrases.specs.ExampleParts.{HasEvents, HasServices, HasGlobals, HasObjects, HasLast};
 ghost use Rattle.ash_phrases.specs.ExampleParts.{empty_world, numbers_spent, loaded, counters, with_counters};
 ghost use Rattle.ash_phrases.specs.ExampleParts.{started, added, tallied_by, f};
@@ -42,7 +42,8 @@ pub fn worked_answer_examples()
     ensures other_arguments { HasNoStep (call_function answers.two_counters 0 [] 9
         (counters 2 (started 1 1 ∷ started 2 1 ∷ added 1 2 1 3 ∷ []))) }
     ensures value_for_none { Throws
-        (with_answer objects.failing 2 9 (HostAnswer.Value (Word.Int (pos 1)))) Exception.BadHostAnswer f }
+        (with_answer objects.failing 2 9 (HostAnswer.Value (Word.Int (pos 1))))
+        Exception.BadHostAnswer f }
     ensures value_of_a_start { Throws (call_function answers.drawing 0 [] 9
         (counters 1 (answering (HostAnswer.Value (Word.Int (pos 7))) (started 1 1) ∷ [])))
         Exception.BadHostAnswer f }
@@ -53,15 +54,16 @@ pub fn worked_answer_examples()
         (counters 1 (answering (HostAnswer.Raise 9) (started 1 1) ∷ [])))
         (Drew 1 ∷ Dropped 1 ∷ []) }
     ensures property_of_another_type { Throws (call_function answers.reading 0 [] 9
-        (counters 1 (started 1 1 ∷ answering (HostAnswer.Value (Word.Bool true)) (value_read 1 1) ∷ [])))
+        (counters 1 (started 1 1 ∷ answering (HostAnswer.Value (Word.Bool true)) (value_read 1 1)
+        ∷ [])))
         Exception.BadHostAnswer f }
     ensures property_without_a_value { Throws (call_function answers.reading 0 [] 9
         (counters 1 (started 1 1 ∷ answering HostAnswer.Nothing (value_read 1 1) ∷ [])))
         Exception.BadHostAnswer f }
-    ensures property_written { Gives (call_function answers.writing 0 [] 9
+    ensures property_written { FinishesWith (call_function answers.writing 0 [] 9
         (counters 1 (started 1 1 ∷ value_written 1 1 5 ∷ value_read 1 5 ∷ [])))
         (Word.Int (pos 5)) }
-    ensures property_updated { Gives (call_function answers.updating 0 [] 9
+    ensures property_updated { FinishesWith (call_function answers.updating 0 [] 9
         (counters 1 (started 1 1 ∷ value_read 1 1 ∷ value_written 1 1 5 ∷ [])))
         (Word.Int (pos 5)) }
 {}
@@ -82,7 +84,8 @@ pub fn worked_pool_examples()
         (started 1 1 ∷ found_at 3 (started 2 2) ∷ [])))
         (Drew 1 ∷ Drew 2 ∷ Dropped 1 ∷ Dropped 2 ∷ []) }
     ensures none_of_its_kind { Throws
-        (call_function answers.drawing 0 [] 9 (with_boxes (other_box ∷ []) [])) Exception.PoolEmpty f }
+        (call_function answers.drawing 0 [] 9 (with_boxes (other_box ∷ []) [])) Exception.PoolEmpty
+        f }
     ensures number_before_box { Throws
         (call_function answers.drawing 0 [] 9 numbers_spent) Exception.NumbersSpent f }
 {}
@@ -90,10 +93,12 @@ pub fn worked_pool_examples()
 /// What functions do to arrays: what is tested first, and what stays where an array would be too long.
 pub fn worked_array_examples()
     ensures index_before_null { Throws
-        (call_function arrays.through_no_array 0 (Word.Int (pos 0) ∷ []) 9 (loaded arrays.through_no_array))
+        (call_function arrays.through_no_array 0 (Word.Int (pos 0) ∷ []) 9
+        (loaded arrays.through_no_array))
         Exception.DivideByZero f }
     ensures null_before_bounds { Throws
-        (call_function arrays.through_no_array 0 (Word.Int (pos 1) ∷ []) 9 (loaded arrays.through_no_array))
+        (call_function arrays.through_no_array 0 (Word.Int (pos 1) ∷ []) 9
+        (loaded arrays.through_no_array))
         Exception.NullPointerAccess f }
     ensures too_long_changes_nothing { HasObjects
         (call_function objects.resized 0 (Word.Uint 4097 ∷ []) 9 (loaded objects.resized))
@@ -111,39 +116,44 @@ pub fn worked_array_examples()
     ensures no_number_is_taken { HasLast
         (call_function arrays.making 0 (Word.Uint 4097 ∷ []) 9 empty_world) 0 }
     ensures number_before_length { Throws
-        (call_function arrays.making 0 (Word.Uint 4097 ∷ []) 9 numbers_spent) Exception.NumbersSpent f }
+        (call_function arrays.making 0 (Word.Uint 4097 ∷ []) 9 numbers_spent)
+        Exception.NumbersSpent f }
 {}
 
 /// In which order phrases are computed, what a call through an interface runs, and how many frames there are.
 pub fn worked_order_examples()
-    ensures arguments { Gives
-        (call_function orders.two_arguments 2 [] 20 (loaded orders.two_arguments)) (Word.Int (pos 12)) }
+    ensures arguments { FinishesWith
+        (call_function orders.two_arguments 2 [] 20 (loaded orders.two_arguments))
+        (Word.Int (pos 12)) }
     ensures arguments_before_null { Throws
         (call_function orders.through_null 0 (Word.Int (pos 0) ∷ []) 9 (loaded orders.through_null))
         Exception.DivideByZero f }
     ensures null_after_them { Throws
         (call_function orders.through_null 0 (Word.Int (pos 1) ∷ []) 9 (loaded orders.through_null))
         Exception.NullPointerAccess f }
-    ensures updated_place { Gives
+    ensures updated_place { FinishesWith
         (call_function orders.updated 2 [] 20 (loaded orders.updated)) (Word.Int (pos 21)) }
-    ensures counted_place { Gives
+    ensures counted_place { FinishesWith
         (call_function orders.counted 2 [] 20 (loaded orders.counted)) (Word.Int (pos 1)) }
-    ensures left_operand_first { Gives
-        (call_function orders.read_first 0 (Word.Int (pos 1) ∷ []) 9 empty_world) (Word.Int (pos 6)) }
-    ensures updated_place_last { Gives
-        (call_function orders.read_last 0 (Word.Int (pos 1) ∷ []) 9 empty_world) (Word.Int (pos 10)) }
-    ensures decided_by_true { Gives (call_function (orders.deciding Lazy.Or true) 1 [] 9
+    ensures left_operand_first { FinishesWith
+        (call_function orders.read_first 0 (Word.Int (pos 1) ∷ []) 9 empty_world)
+        (Word.Int (pos 6)) }
+    ensures updated_place_last { FinishesWith
+        (call_function orders.read_last 0 (Word.Int (pos 1) ∷ []) 9 empty_world)
+        (Word.Int (pos 10)) }
+    ensures decided_by_true { FinishesWith (call_function (orders.deciding Lazy.Or true) 1 [] 9
         (loaded (orders.deciding Lazy.Or true)))
         (Word.Int (pos 0)) }
-    ensures left_open_by_false { Gives (call_function (orders.deciding Lazy.Or false) 1 [] 9
+    ensures left_open_by_false { FinishesWith (call_function (orders.deciding Lazy.Or false) 1 [] 9
         (loaded (orders.deciding Lazy.Or false)))
         (Word.Int (pos 1)) }
-    ensures left_open_by_true { Gives (call_function (orders.deciding Lazy.And true) 1 [] 9
+    ensures left_open_by_true { FinishesWith (call_function (orders.deciding Lazy.And true) 1 [] 9
         (loaded (orders.deciding Lazy.And true)))
         (Word.Int (pos 1)) }
-    ensures methods_in_another_order { Gives
-        (call_function orders.in_another_order 0 [] 9 (loaded orders.in_another_order)) (Word.Int (pos 12)) }
-    ensures interface_that_is_not_listed { Gives
+    ensures methods_in_another_order { FinishesWith
+        (call_function orders.in_another_order 0 [] 9 (loaded orders.in_another_order))
+        (Word.Int (pos 12)) }
+    ensures interface_that_is_not_listed { FinishesWith
         (call_function orders.not_listed 0 [] 9 (loaded orders.not_listed)) (Word.Bool true) }
     ensures frame_of_the_caller { Throws
         (call_function orders.in_turn 0 [] 512 empty_world) Exception.StackOverflow (codes "g") }
@@ -173,7 +183,7 @@ pub fn worked_point_examples()
     ensures assignment { HasEvents (call_function points.after_an_assignment 0 [] 9
         (with_counters 2 (started 2 2 ∷ started 3 3 ∷ []) one_counter))
         (Drew 2 ∷ Dropped 1 ∷ Drew 3 ∷ Dropped 3 ∷ []) }
-    ensures assigned_to_itself { Gives (call_function points.assigned_to_itself 0 [] 9
+    ensures assigned_to_itself { FinishesWith (call_function points.assigned_to_itself 0 [] 9
         (counters 1 (started 1 1 ∷ added 1 1 1 2 ∷ [])))
         (Word.Int (pos 2)) }
     ensures blocks_of_a_switch { HasEvents (call_function points.after_a_switch 0 [] 9
@@ -218,7 +228,8 @@ pub fn worked_exception_examples()
         (call_function exceptions.in_a_second_member 0 [] 9 (counters 1 (started 2 1 ∷ [])))
         Exception.DivideByZero (codes "A.A") 3 }
     ensures argument_of_a_construction { Throws
-        (call_function exceptions.before_a_construction 0 [] 9 empty_world) Exception.DivideByZero f }
+        (call_function exceptions.before_a_construction 0 [] 9 empty_world) Exception.DivideByZero
+        f }
     ensures argument_of_a_draw { Throws
         (call_function exceptions.before_a_draw 0 [] 9 (counters 1 [])) Exception.DivideByZero f }
     ensures condition { Throws (call_function exceptions.with_a_condition 0 [] 9
@@ -246,8 +257,10 @@ pub fn worked_effect_examples()
         (Drew 2 ∷ Dropped 2 ∷ []) }
     ensures before_a_construction { HasLast
         (call_function exceptions.before_a_construction 0 [] 9 empty_world) 0 }
-    ensures before_a_draw { HasEvents (call_function exceptions.before_a_draw 0 [] 9 (counters 1 [])) [] }
-    ensures escaped { HasObjects (call_function exceptions.escaped 0 [] 9 (loaded exceptions.escaped))
+    ensures before_a_draw { HasEvents (call_function exceptions.before_a_draw 0 [] 9
+        (counters 1 [])) [] }
+    ensures escaped { HasObjects (call_function exceptions.escaped 0 [] 9
+        (loaded exceptions.escaped))
         ((1, Script (codes "m") 0 (Word.Int (pos 1) ∷ [])) ∷ []) }
     ensures of_a_condition { HasEvents (call_function exceptions.with_a_condition 0 [] 9
         (counters 1 (started 1 1 ∷ value_read 1 1 ∷ [])))

@@ -141,7 +141,8 @@ pub fn worked_uint64_table()
         Ok (pos 18446744073709551615) ∷ Ok (pos 5) ∷ Ok (pos 66) ∷ []) }
     ensures differences { made_of Calculator.Subtract IntType.Uint64 (unsigned_pairs 64)
         ≡ (Ok (pos 0) ∷ Ok (pos 18446744073709551613) ∷ Ok (pos 5) ∷
-        Ok (pos 18446744073709551611) ∷ Ok (pos 1) ∷ Ok (pos 5) ∷ Ok (pos 18446744073709551552) ∷ []) }
+        Ok (pos 18446744073709551611) ∷ Ok (pos 1) ∷ Ok (pos 5) ∷ Ok (pos 18446744073709551552)
+        ∷ []) }
     ensures shifted_left { made_of Calculator.ShiftLeft IntType.Uint64 (unsigned_pairs 64)
         ≡ (Ok (pos 9223372036854775808) ∷ Ok (pos 18446744073709551612) ∷ Ok (pos 28) ∷
         Ok (pos 256) ∷ Ok (pos 0) ∷ Ok (pos 5) ∷ Ok (pos 2) ∷ []) }
@@ -194,13 +195,15 @@ pub fn worked_comparisons()
         ∷ (true ∷ false ∷ false ∷ false ∷ false ∷ false ∷ false ∷ [])
         ∷ (false ∷ true ∷ true ∷ true ∷ true ∷ true ∷ true ∷ []) ∷ []) }
     ensures equal_truths { compared_truths Comparator.Equal ≡ (true ∷ false ∷ false ∷ true ∷ []) }
-    ensures different_truths { compared_truths Comparator.NotEqual ≡ (false ∷ true ∷ true ∷ false ∷ []) }
+    ensures different_truths { compared_truths Comparator.NotEqual
+        ≡ (false ∷ true ∷ true ∷ false ∷ []) }
     ensures exclusive_truths { compared_truths Comparator.Xor ≡ (false ∷ true ∷ true ∷ false ∷ []) }
 {}
 
 /// What unary `-` and `~`, `++` and `--` make of integers, at their extremes: one list for each operator.
 pub fn worked_changes()
-    ensures of_int { changed_of IntType.Int (negsuc 2147483647 ∷ negsuc 0 ∷ pos 0 ∷ pos 2147483647 ∷ [])
+    ensures of_int { changed_of IntType.Int
+        (negsuc 2147483647 ∷ negsuc 0 ∷ pos 0 ∷ pos 2147483647 ∷ [])
         ≡ ((negsuc 2147483647 ∷ pos 1 ∷ pos 0 ∷ negsuc 2147483646 ∷ [])
         ∷ (pos 2147483647 ∷ pos 0 ∷ negsuc 0 ∷ negsuc 2147483647 ∷ [])
         ∷ (negsuc 2147483646 ∷ pos 0 ∷ pos 1 ∷ negsuc 2147483647 ∷ [])
@@ -264,7 +267,8 @@ pub fn worked_jump_ticks()
 /// of the function's name, or of the class's where no constructor is written.
 pub fn worked_frame_ticks()
     ensures { ends_within every_frame 10
-        ≡ aborted_in ((f, 9) ∷ (f, 10) ∷ (codes "A.A", 5) ∷ (codes "A.A", 6) ∷ (f, 10) ∷ (codes "B.B", 1)
+        ≡ aborted_in ((f, 9) ∷ (f, 10) ∷ (codes "A.A", 5) ∷ (codes "A.A", 6) ∷ (f, 10)
+        ∷ (codes "B.B", 1)
         ∷ (f, 11) ∷ (codes "A.m", 7) ∷ (codes "A.m", 8) ∷ [])
         ++ Some (Finished (Some (Word.Int (pos 2)))) ∷ [] }
 {}

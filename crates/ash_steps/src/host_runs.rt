@@ -34,30 +34,36 @@ pub fn worked_host_runs()
         ∷ Answered (Finished None) 2 (Drew 3 ∷ []) ∷ ShownAs (counter_shown 3 1 7) ∷ []) }
     ensures aborted_load { RepliesFrom begin (hosts.long_load ∷ []) 1
         (Load m (0 ∷ []) ∷ Object 1 ∷ []) 1 (started 1 1 ∷ [])
-        (Answered (Aborted (codes "(init)") 1) 1 (Drew 1 ∷ Dropped 1 ∷ []) ∷ Refused NoObject ∷ []) }
+        (Answered (Aborted (codes "(init)") 1) 1 (Drew 1 ∷ Dropped 1 ∷ []) ∷ Refused NoObject
+        ∷ []) }
     ensures discarded { RepliesOf (hosts.two_counters ∷ [])
         (Load m (0 ∷ []) ∷ Discard m ∷ Object 1 ∷ Object 2 ∷ []) 2 (started 1 1 ∷ started 2 2 ∷ [])
         (Answered (Finished None) 1 (Drew 1 ∷ Drew 2 ∷ [])
-        ∷ Answered (Finished None) 2 (Dropped 1 ∷ Dropped 2 ∷ []) ∷ Refused NoObject ∷ Refused NoObject ∷ []) }
+        ∷ Answered (Finished None) 2 (Dropped 1 ∷ Dropped 2 ∷ []) ∷ Refused NoObject
+        ∷ Refused NoObject ∷ []) }
     ensures aborted_call { RepliesFrom begin (hosts.written_twice ∷ []) 2
         (Load m (0 ∷ []) ∷ Call m f [] ∷ Global m (codes "n") ∷ []) 0 []
-        (Answered (Finished None) 1 [] ∷ Answered (Aborted f 1) 2 [] ∷ Value (Word.Int (pos 1)) ∷ []) }
+        (Answered (Finished None) 1 [] ∷ Answered (Aborted f 1) 2 [] ∷ Value (Word.Int (pos 1))
+        ∷ []) }
     ensures numbers_rise { RepliesOf (objects.drawing ∷ [])
         (Load m (0 ∷ []) ∷ Call m f [] ∷ Call m f [] ∷ []) 2 (started 1 1 ∷ started 2 1 ∷ [])
         (Answered (Finished None) 1 [] ∷ Answered (Finished None) 2 (Drew 1 ∷ Dropped 1 ∷ [])
         ∷ Answered (Finished None) 3 (Drew 2 ∷ Dropped 2 ∷ []) ∷ []) }
-    ensures overwritten_in_an_argument { RepliesOf (phrase_objects.overwritten_in_an_argument.tree ∷ [])
+    ensures overwritten_in_an_argument { RepliesOf (phrase_objects.overwritten_in_an_argument.tree
+        ∷ [])
         (Load m (0 ∷ []) ∷ Call m f [] ∷ []) 2
         (started 1 1 ∷ started 2 5 ∷ added 2 1 5 6 ∷ added 2 1 6 7 ∷ [])
         (Answered (Finished None) 1 [] ∷ Answered (Finished (Some (Word.Int (pos 6)))) 2
-        (Drew 1 ∷ Drew 2 ∷ Called (Target.Object 2) 1 ∷ Dropped 1 ∷ Called (Target.Object 2) 1 ∷ Dropped 2 ∷ [])
+        (Drew 1 ∷ Drew 2 ∷ Called (Target.Object 2) 1 ∷ Dropped 1 ∷ Called (Target.Object 2) 1
+        ∷ Dropped 2 ∷ [])
         ∷ []) }
     ensures shared { RepliesOf (phrase_objects.shared.tree ∷ [])
         (Load m (0 ∷ []) ∷ Call m f [] ∷ []) 2 (started 3 1 ∷ started 5 2 ∷ [])
         (Answered (Finished None) 1 []
         ∷ Answered (Finished None) 2 (Drew 3 ∷ Drew 5 ∷ Dropped 3 ∷ Dropped 5 ∷ []) ∷ []) }
     ensures raised { RepliesOf (phrase_objects.failing.tree ∷ [])
-        (Load m (0 ∷ []) ∷ Call m f [] ∷ []) 1 (started 1 1 ∷ answered 2 9 (HostAnswer.Raise 9) ∷ [])
+        (Load m (0 ∷ []) ∷ Call m f [] ∷ []) 1
+        (started 1 1 ∷ answered 2 9 (HostAnswer.Raise 9) ∷ [])
         (Answered (Finished None) 1 [] ∷ Answered (Threw (Exception.Raised 9) f 1) 2
         (Drew 1 ∷ Called (Target.Object 1) 2 ∷ Dropped 1 ∷ []) ∷ []) }
     ensures bad_answer { RepliesOf (phrase_objects.adding.tree ∷ [])
