@@ -95,6 +95,22 @@ pub fn worked_integer_runs()
         ∷ Answered (Finished (Some (Word.Int (pos 3)))) 3 (Called (Target.Service 0) 2 ∷ []) ∷ []) }
     ensures empty_module { RepliesOf (integers.nothing ∷ []) (Load m (0 ∷ []) ∷ []) 0 []
         (Answered (Finished None) 1 [] ∷ []) }
+    ensures refusals { RepliesOf (adding ∷ [])
+        (Load m (0 ∷ []) ∷ Call m (codes "nope") []
+        ∷ Call m f (Argument.Number (pos 1) ∷ Argument.Number (pos 2) ∷ [])
+        ∷ Call m f (Argument.Number (pos (2 ^ 31)) ∷ []) ∷ Call (codes "z") f []
+        ∷ Discard (codes "z")
+        ∷ Global m (codes "q") ∷ Object 9 ∷ Load m (0 ∷ []) ∷ Load (codes "9x") (0 ∷ []) ∷ Seq
+        ∷ Snapshot ∷ []) 0 []
+        (Answered (Finished None) 1 [] ∷ Refused NoFunction ∷ Refused BadArguments
+        ∷ Refused BadArguments
+        ∷ Refused NoModule ∷ Refused NoModule ∷ Refused NoGlobal ∷ Refused NoObject
+        ∷ Refused ModuleTaken
+        ∷ Refused BadName ∷ Number 1 ∷ Done ∷ []) }
+{}
+
+/// What small modules reply that compute in the greatest number, in several integer types, and by shifts.
+pub fn worked_number_runs()
     ensures greatest_number { RepliesOf (integers.greatest ∷ [])
         (Load m (0 ∷ []) ∷ Global m (codes "x") ∷ []) 0 []
         (Answered (Finished None) 1 [] ∷ Value (Word.Uint64 (2 ^ 64 - 1)) ∷ []) }
@@ -111,18 +127,6 @@ pub fn worked_integer_runs()
         (Answered (Finished None) 1 [] ∷ Answered (Finished (Some (Word.Int (pos 15)))) 2 []
         ∷ Answered (Finished (Some (Word.Int (negsuc 0)))) 3 []
         ∷ Answered (Finished (Some (Word.Int (pos 2)))) 4 [] ∷ []) }
-    ensures refusals { RepliesOf (adding ∷ [])
-        (Load m (0 ∷ []) ∷ Call m (codes "nope") []
-        ∷ Call m f (Argument.Number (pos 1) ∷ Argument.Number (pos 2) ∷ [])
-        ∷ Call m f (Argument.Number (pos (2 ^ 31)) ∷ []) ∷ Call (codes "z") f []
-        ∷ Discard (codes "z")
-        ∷ Global m (codes "q") ∷ Object 9 ∷ Load m (0 ∷ []) ∷ Load (codes "9x") (0 ∷ []) ∷ Seq
-        ∷ Snapshot ∷ []) 0 []
-        (Answered (Finished None) 1 [] ∷ Refused NoFunction ∷ Refused BadArguments
-        ∷ Refused BadArguments
-        ∷ Refused NoModule ∷ Refused NoModule ∷ Refused NoGlobal ∷ Refused NoObject
-        ∷ Refused ModuleTaken
-        ∷ Refused BadName ∷ Number 1 ∷ Done ∷ []) }
 {}
 
 /// What requests reply that load and call small modules with objects, and show these.
@@ -172,6 +176,10 @@ pub fn worked_object_runs()
         (Answered (Finished None) 1 []
         ∷ Answered (Finished None) 2
         (Drew 1 ∷ Drew 2 ∷ Dropped 1 ∷ Drew 3 ∷ Dropped 2 ∷ Dropped 3 ∷ []) ∷ []) }
+{}
+
+/// What requests reply that call through interfaces and use arrays.
+pub fn worked_interface_and_array_runs()
     ensures through_an_interface { RepliesOf (objects.through_an_interface ∷ [])
         (Load m (0 ∷ []) ∷ Call m (codes "c") [] ∷ Call m f [] ∷ Call m (codes "c") [] ∷ Object 1
         ∷ Call m (codes "h") [] ∷ Call m (codes "c") [] ∷ []) 0 []

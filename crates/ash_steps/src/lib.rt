@@ -19,5 +19,8 @@ mod host_runs;
 pub mod laws;
 
 pub use argument::Argument;
-pub use examples::{worked_integer_runs, worked_limit_runs, worked_object_runs, worked_runs};
+pub use examples::{
+    worked_integer_runs, worked_interface_and_array_runs, worked_limit_runs, worked_number_runs,
+    worked_object_runs, worked_runs,
+};
 pub use host_runs::worked_host_runs;

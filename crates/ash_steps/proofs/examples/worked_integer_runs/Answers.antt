@@ -30,18 +30,6 @@ pub returns-clause-empty_module : goal.returns-clause-empty_module
 unfolding computing
 returns-clause-empty_module c = refl
 
-pub returns-clause-greatest_number : goal.returns-clause-greatest_number
-unfolding computing
-returns-clause-greatest_number c = refl
-
-pub returns-clause-signs_that_meet : goal.returns-clause-signs_that_meet
-unfolding computing
-returns-clause-signs_that_meet c = refl
-
-pub returns-clause-shifts : goal.returns-clause-shifts
-unfolding computing
-returns-clause-shifts c = refl
-
 pub returns-clause-refusals : goal.returns-clause-refusals
 unfolding computing
 returns-clause-refusals c = refl

@@ -33,11 +33,3 @@ returns-clause-two_modules c = refl
 pub returns-clause-let_go_early : goal.returns-clause-let_go_early
 unfolding computing
 returns-clause-let_go_early c = refl
-
-pub returns-clause-through_an_interface : goal.returns-clause-through_an_interface
-unfolding computing
-returns-clause-through_an_interface c = refl
-
-pub returns-clause-in_an_array : goal.returns-clause-in_an_array
-unfolding computing
-returns-clause-in_an_array c = refl
