@@ -1,0 +1,4 @@
+pub mod Failing
+pub mod Walks
+pub mod Switching
+pub mod Calling
