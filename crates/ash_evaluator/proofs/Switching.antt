@@ -1,22 +1,36 @@
 -- The label of a `switch` that the code goes to is the one that the definitions go to.
-use Rattle.std.proofs.Common.{◌≡◌, ◌<◌, ℕ, ℤ, Bool, true, false, cond, List, [], ◌∷◌, Option, length, refl, sym, ap, ◌∙◌, map, rules, arith, Vec, Global}
+use Rattle.std.proofs.Common.{◌≡◌, ◌<◌, ◌≤◌, ◌+◌, ℕ, ℤ, get_or, drop, Bool, true, false, cond, List, [], ◌∷◌, Option, length, refl, sym, ap, ◌∙◌, map, rules, arith, Vec, Global}
 use Rattle.std.specs.Prelude.{is_none}
+use Rattle.std.proofs.lemmas.List.{drop_more}
+use denote.Param.Weighed.{most}
 use Rattle.ash_tree.specs.declared.tree.statements.Label.{Label}
 use Rattle.ash_typed.specs.declared.tree.statements.StmtKind.TheViews as views
 use Rattle.ash_typed.specs.declared.tree.statements.Stmt as stmt_code
 use Rattle.ash_typed.specs.declared.tree.statements.Case as case_code
 use Rattle.ash_typed.specs.StatementTree.{Case, labelled, stmts, cases}
-use Rattle.ash_typed.specs.BodyViews.{stmt_of, case_of}
+use Rattle.ash_typed.specs.BodyViews.{stmt_of, case_of, body_of}
 use Rattle.ash_typed.proofs.StatementRows.{stmts_of-row}
+use Rattle.ash_phrases.specs.Activity.{Activity}
+use Rattle.ash_phrases.specs.Runs.{onward}
 use Rattle.ash_phrases.specs.Calls.{Calls}
-use Rattle.ash_phrases.specs.Statements.{Labelled, case_run, cases as labels, from_label, is_constant, or_else, chosen}
+use Rattle.ash_phrases.specs.Statements.{Labelled, case_run, cases as labels, from_label, is_constant, or_else, chosen, statements, go_on}
 use Rattle.ash_evaluator.specs.Choosing.{constant_in, from_case}
+use Rattle.ash_evaluator.specs.Phrases.{fall_run}
 
 case_made : (l : Label) (body : Vec stmt_code.Stmt Global) → case_of (case_code.roll-Case (record { label = l; body = body })) ≡ labelled l (stmts (map stmt_of body.items))
 case_made l body = search (rules, views.the_lemmas, stmts_of-row)
 
 pub case_is : (c : case_code.Case) → case_of c ≡ labelled (case_code.out-Case c).label (stmts (map stmt_of (case_code.out-Case c).body.items))
 case_is c = ap case_of (sym (case_code.roll-out-Case c)) ∙ case_made (case_code.out-Case c).label (case_code.out-Case c).body
+
+one_more : (c : case_code.Case) (cs left : List case_code.Case) (b : Bool) → most case_code.size-Case left ≤ most case_code.size-Case cs → most case_code.size-Case (cond b (c ∷ cs) left) ≤ most case_code.size-Case (c ∷ cs)
+one_more c cs left true h = omega arith
+one_more c cs left false h = omega (arith, h)
+
+-- what is left from a label on is no deeper
+pub from_most : (test : Option ℤ → Bool) (cs : List case_code.Case) → most case_code.size-Case (from_case test cs) ≤ most case_code.size-Case cs
+from_most test [] = omega arith
+from_most test (c ∷ cs) = one_more c cs (from_case test cs) (test (constant_in c)) (from_most test cs)
 
 module _ (calls : Calls) (depth : ℕ) where
   -- the labels that the code's represent
@@ -55,3 +69,9 @@ module _ (calls : Calls) (depth : ℕ) where
       ap labels_seen default ∙ labels_from is_none all
       ∙ found_none found (from_label is_none (labels_seen all)) none
       ∙ ap (λ (ls : List Labelled). or_else ls (from_label is_none (labels_seen all))) (ap labels_seen is ∙ labels_from (is_constant number) all)
+
+  -- one label, and those after it
+  pub fall_step : (cs : List case_code.Case) (i : ℕ) (x : case_code.Case) (a : Activity) → i < length cs → x ≡ get_or cs i x → fall_run calls depth (drop i cs) a ≡ onward (statements calls depth (body_of (case_code.out-Case x).body.items) a) (go_on (fall_run calls depth (drop (i + 1) cs)))
+  fall_step cs i x a low is =
+      ap (λ (l : List case_code.Case). fall_run calls depth l a) (drop_more cs i x low ∙ ap (λ (y : case_code.Case). y ∷ drop (i + 1) cs) (sym is))
+      ∙ ap (λ (k : Case). onward ((case_run calls depth k).run a) (go_on (fall_run calls depth (drop (i + 1) cs)))) (case_is x)

@@ -1,6 +1,8 @@
 //! Which label of a `switch` is gone to.
 
-ghost use Rattle.std.specs.Prelude.{◌≡◌, ℕ, map, is_none};
+ghost use denote.Param.Weighed.{most};
+ghost use Rattle.std.specs.Prelude.{◌≡◌, ◌≤◌, ℕ, map, is_none};
+ghost use Rattle.ash_typed.specs.declared.tree.statements.Case.{size-Case};
 ghost use Rattle.ash_typed.specs.StatementTree.{cases};
 ghost use Rattle.ash_typed.specs.BodyViews.{case_of};
 ghost use Rattle.ash_typed.specs.SoundStatements.{constant_of};
@@ -66,7 +68,8 @@ fn from_default(all: &[Case]) -> &[Case]
 
 /// From the label with this constant on, or else from `default` on, or else past all.
 pub(crate) fn chosen(all: &[Case], number: i128) -> &[Case]
-    ensures { (calls : Calls) (depth : ℕ) → labelled calls depth (cases (map case_of result.now))
+    ensures smaller { most size-Case result.now ≤ most size-Case all.now }
+    ensures labels { (calls : Calls) (depth : ℕ) → labelled calls depth (cases (map case_of result.now))
         ≡ chosen number (labelled calls depth (cases (map case_of all.now))) }
 {
     let found = from_constant(all, number);
