@@ -194,8 +194,8 @@ impl Activity {
         if old.is_empty() {
             return Err(RunError::Raised(Exception::IndexOutOfBounds));
         }
-        let (front, last) = old.split_at(old.len() - 1);
-        let words = Vec::from_slice(self.alloc, front)?;
+        let (rest, last) = old.split_at(old.len() - 1);
+        let words = Vec::from_slice(self.alloc, rest)?;
         let gone = Vec::from_slice(self.alloc, last)?;
         self.hold_all(&gone)?;
         self.put_words(number, words)?;

@@ -60,26 +60,26 @@ impl Activity {
     /// Stores what an operator makes of what a location holds, converted to its type.
     pub fn update(
         &mut self,
-        kind: IntType,
+        int_type: IntType,
         calculation: Calculation,
         right: Word,
         location: Location,
     ) -> RunResult<Word>
         ensures { RunsAs (λ w. w) result (activity_seen self.new)
-            (update kind calculation right (location_seen location) (activity_seen self.old)) }
+            (update int_type calculation right (location_seen location) (activity_seen self.old)) }
     {
         let left = self.read(location)?;
         let word = self.calculate(calculation, converted_to(calculation.of, left), right)?;
-        self.store(converted_to(kind, word), location)
+        self.store(converted_to(int_type, word), location)
     }
 
     /// `++` or `--` at a location.
-    pub fn count_at(&mut self, kind: IntType, step: Step, location: Location) -> RunResult<Word>
+    pub fn count_at(&mut self, int_type: IntType, step: Step, location: Location) -> RunResult<Word>
         ensures { RunsAs (λ w. w) result (activity_seen self.new)
-            (count_at kind step (location_seen location) (activity_seen self.old)) }
+            (count_at int_type step (location_seen location) (activity_seen self.old)) }
     {
         let old = self.read(location)?;
-        let new = counted(step, kind, old);
+        let new = counted(step, int_type, old);
         self.write(location, new)?;
         Ok(given_by(step, old, new))
     }

@@ -15,17 +15,17 @@ use ash_integers::{
 use ash_typed::{Calculator, Change, Comparator, Conversion, Operands, Step, VarType};
 
 /// A number that a script writes.
-pub fn numeral(kind: IntType, value: u64) -> Word
-    ensures { result ≡ word_at kind (pos value) }
+pub fn numeral(int_type: IntType, value: u64) -> Word
+    ensures { result ≡ word_at int_type (pos value) }
 {
-    word_from(kind, i128::from(value))
+    word_from(int_type, i128::from(value))
 }
 
 /// A word of any integer type, converted.
-pub fn converted_to(kind: IntType, word: Word) -> Word
-    ensures { result ≡ converted_to kind word }
+pub fn converted_to(int_type: IntType, word: Word) -> Word
+    ensures { result ≡ converted_to int_type word }
 {
-    convert(kind, word)
+    convert(int_type, word)
 }
 
 /// A word, converted where a conversion is named.
@@ -44,7 +44,7 @@ pub fn zero_of(of: VarType) -> Word
 {
     match of {
         VarType::Bool => Word::Bool(false),
-        VarType::Integer(kind) => word_from(kind, 0),
+        VarType::Integer(int_type) => word_from(int_type, 0),
         VarType::Object(_) | VarType::Handle(_) => Word::Null,
     }
 }
@@ -140,20 +140,20 @@ pub fn altered(change: Change, word: Word) -> Word
     ensures { result ≡ altered change word }
 {
     match change {
-        Change::Negate(kind) => negate(kind, word),
-        Change::Complement(kind) => complement(kind, word),
+        Change::Negate(int_type) => negate(int_type, word),
+        Change::Complement(int_type) => complement(int_type, word),
         Change::Not => Word::Bool(!is_true(word)),
     }
 }
 
 /// What `++` and `--` leave in a place of this type.
-pub fn counted(step: Step, kind: IntType, word: Word) -> Word
-    ensures { result ≡ counted step kind word }
+pub fn counted(step: Step, int_type: IntType, word: Word) -> Word
+    ensures { result ≡ counted step int_type word }
 {
     let number = number(word);
     match step {
-        Step::Increment | Step::IncrementAfter => word_from(kind, number + 1),
-        Step::Decrement | Step::DecrementAfter => word_from(kind, number - 1),
+        Step::Increment | Step::IncrementAfter => word_from(int_type, number + 1),
+        Step::Decrement | Step::DecrementAfter => word_from(int_type, number - 1),
     }
 }
 
