@@ -13,7 +13,7 @@ use Rattle.ash_phrases.specs.ObjectSteps.{demand_number, make}
 use Rattle.ash_phrases.specs.Classes.{Program, FreeFunction, Callee, Entry, entry_of, entry_of_construction}
 use Rattle.ash_phrases.specs.Calls.{Calls, blank, construct}
 use Rattle.ash_phrases.specs.Functions.{body, calls_within}
-use Rattle.ash_phrases.specs.Ends.{Outcome, outcome_of, begun, call_entry, call_function}
+use Rattle.ash_phrases.specs.Ends.{outcome_of, begun, call_entry, call_function}
 use Rattle.ash_evaluator.specs.Entering.{function_run, construction_run, entry_run}
 use Rattle.ash_evaluator.specs.Bodies.{body_of_callee}
 

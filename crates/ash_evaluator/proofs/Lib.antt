@@ -5,3 +5,4 @@ pub mod Turns
 pub mod Switching
 pub mod Calling
 pub mod Initializing
+pub mod Loading

@@ -1,15 +1,12 @@
 -- Loops, turn by turn.
-use Rattle.std.proofs.Common.{◌≡◌, ◌<◌, ◌≤◌, ◌-◌, ◌+◌, ℕ, zero, suc, Bool, true, false, Option, Some, None, refl, sym, ap, ◌∙◌, subst, arith}
+use Rattle.std.proofs.Common.{◌≡◌, ◌<◌, ◌≤◌, ◌-◌, ◌+◌, ℕ, suc, Bool, true, false, Option, Some, None, refl, ap, ◌∙◌, arith}
 use Rattle.std.specs.Prelude.{if◌then◌else◌}
 use Rattle.ash_phrases.specs.Activity.{Activity}
 use Rattle.ash_phrases.specs.Runs.{Progress, Done, Ended, NoStep, Run, give, onward, ◌>>=◌, ◌>>◌, out_of_ticks}
 use Rattle.ash_phrases.specs.Frames.{tick}
 use Rattle.ash_phrases.specs.Releases.{release}
 use Rattle.ash_phrases.specs.Statements.{Flow, On, Broke, Continued, Returned, Turn, turn, turns, after_body}
-use Rattle.ash_plain_data.specs.declared.run_error.RunError.{RunError}
-use Rattle.ash_plain_data.specs.Running.{FailsAs}
 use Rattle.ash_evaluator.specs.Phrases.{after_turn, turn_run, next_turn}
-use Rattle.ash_evaluator.proofs.Failing.{fails_onward}
 
 -- the next turn, unless the loop is left
 abbrev pub left_or : Run Flow → Option Flow → Run Flow

@@ -13,7 +13,7 @@ use Rattle.ash_typed.specs.declared.tree.operations.Lazy.{Lazy}
 use Rattle.ash_typed.specs.declared.tree.operations.Target.{Target}
 use Rattle.ash_typed.specs.declared.tree.operations.Method.{Method}
 use Rattle.ash_typed.specs.declared.types.VarType.{VarType}
-use Rattle.ash_typed.specs.Tree.{Expr, Exprs, exprs, expr, Operate, Lazily, converted}
+use Rattle.ash_typed.specs.Tree.{Expr, Exprs, exprs, Operate, Lazily, converted}
 use Rattle.ash_typed.specs.Views.{expr_of, linked, chained, all_linked, all_chained, all_lazies}
 use Rattle.ash_typed.proofs.Rows.{path_is, chain_is, lazy_is, call_is, exprs_of-row}
 use Rattle.ash_phrases.specs.Activity.{Activity}

@@ -1,5 +1,6 @@
 pub mod Views
 pub mod Bodies
 pub mod Entering
+pub mod EndViews
 pub mod Phrases
 pub mod Choosing

@@ -5,18 +5,19 @@ ghost use Rattle.ash_typed.specs.BodyViews.{value_of as variable_of};
 ghost use Rattle.ash_typed.specs.Modules.{variables_of};
 ghost use Rattle.ash_phrases.specs.Functions.{initialize_field, initialize_fields, initialize_global};
 ghost use Rattle.ash_phrases.specs.Functions.{initialize_globals, initialize_module};
+ghost use Rattle.ash_phrases.specs.Laws.{initialized};
 ghost use Rattle.ash_plain_data.specs.ClassViews.{program_seen, callee_seen};
 ghost use Rattle.ash_plain_data.specs.Running.{RunsAs};
 ghost use Rattle.ash_plain.specs.Views.{activity_seen};
 ghost use Rattle.ash_evaluator.specs.Views.{calls_seen};
-ghost use Rattle.ash_evaluator.specs.Bodies.{RunsBodies};
+ghost use Rattle.ash_evaluator.specs.Bodies.{RunsBodies, body_of_callee};
 ghost use Rattle.ash_evaluator.specs.Entering.{entry_run};
 
 use crate::evaluator::Evaluator;
 use ash_host::Word;
 use ash_plain::activity::Activity;
 use ash_plain::locations::Location;
-use ash_plain_data::classes::{Callee, entry_of};
+use ash_plain_data::classes::{Callee, Program, entry_of};
 use ash_plain_data::run_error::{RunError, RunResult};
 use ash_typed::{Initialization, Variables};
 
@@ -144,4 +145,58 @@ impl<F: Fn(&mut Activity, Callee) -> RunResult<Option<Word>> + Drop> Evaluator<'
         }
         Ok(())
     }
+}
+
+/// What the frame of a call does after the tick of its entry, where calls go so deep at most.
+#[tactic(auto, using(crate::proofs::Calling::body_deeper, crate::proofs::Calling::body_deepest, crate::proofs::Calling::no_body), unfolding(crate::specs::Bodies::RunsBodies, crate::specs::Views::calls_seen))]
+pub(crate) fn body(
+    program: &Program<'_>,
+    depth: u64,
+    activity: &mut Activity,
+    callee: Callee,
+) -> RunResult<Option<Word>>
+    ensures { RunsAs (λ v. v) result (activity_seen activity.new)
+        (body_of_callee (program_seen program.now) depth (callee_seen callee)
+        (activity_seen activity.old)) }
+{
+    let Some(below) = depth.checked_sub(1) else {
+        return match entry_of(program.alloc, program.tree, callee)? {
+            Some(_) => Err(RunError::OutOfTicks),
+            None => Err(RunError::NoStep),
+        };
+    };
+    let enter = |inside: &mut Activity, called: Callee| -> RunResult<Option<Word>>
+        ensures { RunsAs (λ v. v) result (activity_seen inside.new)
+            (body_of_callee (program_seen program.entry.now) below (callee_seen called)
+            (activity_seen inside.old)) }
+    { body(program, below, inside, called) };
+    let evaluator = Evaluator {
+        program: &*program,
+        depth: below,
+        body: enter,
+    };
+    evaluator.run_entry(activity, callee)
+}
+
+/// The initializers of a module, where calls go so deep at most.
+#[tactic(auto, unfolding(crate::specs::Bodies::RunsBodies, crate::specs::Views::calls_seen))]
+pub(crate) fn initialize(
+    program: &Program<'_>,
+    depth: u64,
+    activity: &mut Activity,
+) -> RunResult<()>
+    ensures { RunsAs (λ _. tt) result (activity_seen activity.new)
+        (initialized (program_seen program.now) depth (activity_seen activity.old)) }
+{
+    let enter = |inside: &mut Activity, called: Callee| -> RunResult<Option<Word>>
+        ensures { RunsAs (λ v. v) result (activity_seen inside.new)
+            (body_of_callee (program_seen program.entry.now) depth (callee_seen called)
+            (activity_seen inside.old)) }
+    { body(program, depth, inside, called) };
+    let evaluator = Evaluator {
+        program: &*program,
+        depth,
+        body: enter,
+    };
+    evaluator.initialize_module(activity, &program.tree.globals)
 }
