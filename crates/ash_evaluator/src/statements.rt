@@ -27,9 +27,8 @@ impl<F: Fn(&mut Activity, Callee) -> RunResult<Option<Word>> + Drop> Evaluator<'
     pub(crate) fn statement(&self, activity: &mut Activity, stmt: &Stmt) -> RunResult<Flow>
         requires callable { F.IsAlwaysCallable self.now.body }
         requires bodies { RunsBodies F.Fn self.now }
-        ensures { RunsAs flow_seen result (activity_seen activity.new)
-            (statement (calls_seen self.now) self.now.depth (stmt_of stmt.now)
-            (activity_seen activity.old)) }
+        ensures { RunsAs flow_seen result (activity_seen activity.new) (statement
+            (calls_seen self.now) self.now.depth (stmt_of stmt.now) (activity_seen activity.old)) }
     {
         let line = stmt.line;
         match &stmt.kind {
