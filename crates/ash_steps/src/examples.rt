@@ -234,7 +234,7 @@ pub fn worked_limit_runs()
     ensures last_number { RepliesFrom (numbers_spent begin) (objects.drawing ∷ []) 20
         (Load m (0 ∷ []) ∷ Call m f [] ∷ []) 0 []
         (Answered (Finished None) 1 [] ∷ Answered (Threw Exception.NumbersSpent f 1) 2 [] ∷ []) }
-    ensures most_objects { RepliesFrom (with_objects 4096 begin) (objects.drawing ∷ []) 20
+    ensures all_objects_taken { RepliesFrom (with_objects 4096 begin) (objects.drawing ∷ []) 20
         (Call m f [] ∷ []) 1 []
         (Answered (Threw Exception.ObjectLimit f 1) 1 [] ∷ []) }
     ensures one_object_fewer { RepliesFrom (with_objects 4095 begin) (objects.drawing ∷ []) 20

@@ -30,9 +30,9 @@ pub returns-clause-last_number : goal.returns-clause-last_number
 unfolding computing
 returns-clause-last_number c = refl
 
-pub returns-clause-most_objects : goal.returns-clause-most_objects
+pub returns-clause-all_objects_taken : goal.returns-clause-all_objects_taken
 unfolding computing
-returns-clause-most_objects c = refl
+returns-clause-all_objects_taken c = refl
 
 pub returns-clause-one_object_fewer : goal.returns-clause-one_object_fewer
 unfolding computing
