@@ -16,13 +16,13 @@ use Rattle.ash_typing.specs.Items.{module_typed}
 use Rattle.ash_expressions.specs.declared.error.CheckError.{CheckError}
 use Rattle.ash_expressions.specs.declared.error.CheckError.TheVariants as errors
 use Rattle.ash_expressions.specs.Agreement.{FailsWith}
-use Rattle.ash_classes.specs.Ways.{IsWay}
+use Rattle.ash_classes.specs.Paths.{IsPath}
 use Rattle.ash_classes.specs.References.{Refers, classes_of}
 use Rattle.ash_classes.specs.ReportedCycle.{reported_cycle}
 use Rattle.ash_check.specs.declared.faults.CheckFault.{CheckFault}
 use Rattle.ash_check.specs.Faults.{rule_fault, fault_of_error}
-use Rattle.ash_check.specs.Checks.{ScriptFault, Cyclic, name_at, round_of, unless_round, checked_by, checked, broken_at}
-use Rattle.ash_check.specs.Checks.{script_fault_of, IsReportedFault, Reports, HoldsNamed, LeadsTo, GoesRound}
+use Rattle.ash_check.specs.Checks.{ScriptFault, Cyclic, name_at, names_of_cycle, unless_cycle, checked_by, checked, broken_at}
+use Rattle.ash_check.specs.Checks.{script_fault_of, IsReportedFault, Reports, HoldsNamed, LeadsTo, IsNamedCycle}
 
 -- faults
 
@@ -54,25 +54,25 @@ reported_if_err (Err fault) why answer P is reports = subst (λ f. Reports answe
 -- where no rule is broken and no class reaches itself, the typed module
 pub typed_is_checked : (calls : List Registration) (items : List Item) (typed : Module) → module_typed calls items ≡ Ok typed → reported_cycle (classes_of items) ≡ None → checked calls items ≡ Ok typed
 unfolding checked
-typed_is_checked calls items typed fine none = ap (checked_by (classes_of items)) fine ∙ ap (λ way. unless_round (classes_of items) way typed) none
+typed_is_checked calls items typed fine none = ap (checked_by (classes_of items)) fine ∙ ap (λ path. unless_cycle (classes_of items) path typed) none
 
 -- else the cycle that is reported
-pub cycle_is_reported : (calls : List Registration) (items : List Item) (typed : Module) (first : ℕ) (others : List ℕ) → module_typed calls items ≡ Ok typed → reported_cycle (classes_of items) ≡ Some (first, others) → checked calls items ≡ Err (Cyclic (round_of (classes_of items) (first, others)))
+pub cycle_is_reported : (calls : List Registration) (items : List Item) (typed : Module) (first : ℕ) (others : List ℕ) → module_typed calls items ≡ Ok typed → reported_cycle (classes_of items) ≡ Some (first, others) → checked calls items ≡ Err (Cyclic (names_of_cycle (classes_of items) (first, others)))
 unfolding checked
-cycle_is_reported calls items typed first others fine some = ap (checked_by (classes_of items)) fine ∙ ap (λ way. unless_round (classes_of items) way typed) some
+cycle_is_reported calls items typed first others fine some = ap (checked_by (classes_of items)) fine ∙ ap (λ path. unless_cycle (classes_of items) path typed) some
 
 -- places of classes
 
 -- what refers, and what is referred to, is a class
 
-pub way_begins_within : (classes : List Class) (from : ℕ) (between : List ℕ) (to : ℕ) → IsWay (Refers classes) from between to → from < length classes
-way_begins_within classes from [] to way = slice_get_within classes from way.2.0 way.2.1
-way_begins_within classes from (next ∷ between) to way = slice_get_within classes from way.0.2.0 way.0.2.1
+pub path_begins_within : (classes : List Class) (from : ℕ) (between : List ℕ) (to : ℕ) → IsPath (Refers classes) from between to → from < length classes
+path_begins_within classes from [] to path = slice_get_within classes from path.2.0 path.2.1
+path_begins_within classes from (next ∷ between) to path = slice_get_within classes from path.0.2.0 path.0.2.1
 
-pub way_is_within : (classes : List Class) (from : ℕ) (between : List ℕ) (to : ℕ) → IsWay (Refers classes) from between to → (k d : ℕ) → k < length between → get_or between k d < length classes
-way_is_within classes from [] to way k d past = absurd (omega arith)
-way_is_within classes from (next ∷ between) to way zero d here = slice_get_within classes next way.0.0 way.0.1
-way_is_within classes from (next ∷ between) to way (suc k) d after = way_is_within classes next between to way.1 k d (omega (arith, after))
+pub path_is_within : (classes : List Class) (from : ℕ) (between : List ℕ) (to : ℕ) → IsPath (Refers classes) from between to → (k d : ℕ) → k < length between → get_or between k d < length classes
+path_is_within classes from [] to path k d past = absurd (omega arith)
+path_is_within classes from (next ∷ between) to path zero d here = slice_get_within classes next path.0.0 path.0.1
+path_is_within classes from (next ∷ between) to path (suc k) d after = path_is_within classes next between to path.1 k d (omega (arith, after))
 
 -- names
 
@@ -88,7 +88,7 @@ one_more_name classes names name places i d within is =
     ∙ ap (λ (n : List ℕ). map string_bytes names ++ n ∷ map (name_at classes) (drop (suc i) places)) is
     ∙ sym (ap (λ (ns : List ℕ). map string_bytes names ++ map (name_at classes) ns) begins)
 
--- a way that a reader can follow
+-- a path that a reader can follow
 
 is_among : (classes : List Class) (place : ℕ) (class : Class) → slice_get classes place ≡ Some class → Contains classes class
 is_among classes place class at = (place, slice_get_within classes place class at, get_or_from_slice_get classes place class class at)
@@ -99,9 +99,9 @@ holds_named classes from to refers =
     let one = refers.2.0 in
     (one, other, is_among classes from one refers.2.1, sym (name_is classes from one refers.2.1), is_among classes to other refers.1, sym (name_is classes to other refers.1), refers.2.2)
 
-leads_to : (classes : List Class) (from : ℕ) (between : List ℕ) (to : ℕ) → IsWay (Refers classes) from between to → LeadsTo classes (name_at classes from) (map (name_at classes) between) (name_at classes to)
-leads_to classes from [] to way = holds_named classes from to way
-leads_to classes from (next ∷ between) to way = (holds_named classes from next way.0, leads_to classes next between to way.1)
+leads_to : (classes : List Class) (from : ℕ) (between : List ℕ) (to : ℕ) → IsPath (Refers classes) from between to → LeadsTo classes (name_at classes from) (map (name_at classes) between) (name_at classes to)
+leads_to classes from [] to path = holds_named classes from to path
+leads_to classes from (next ∷ between) to path = (holds_named classes from next path.0, leads_to classes next between to path.1)
 
-pub goes_round : (classes : List Class) (first : ℕ) (others : List ℕ) → IsWay (Refers classes) first others first → GoesRound classes (round_of classes (first, others))
-goes_round classes first others way = leads_to classes first others first way
+pub named_cycle : (classes : List Class) (first : ℕ) (others : List ℕ) → IsPath (Refers classes) first others first → IsNamedCycle classes (names_of_cycle classes (first, others))
+named_cycle classes first others path = leads_to classes first others first path

@@ -8,7 +8,7 @@ use Rattle.ash_typing.specs.Nesting.{ItemsDeclareInBlocks}
 use Rattle.ash_typing.proofs.ModuleLaws.{module_typed-exact}
 use Rattle.ash_typing.proofs.SoundnessModules.{module_sound}
 use Rattle.ash_classes.specs.References.{Refers, classes_of}
-use Rattle.ash_classes.specs.Ways.{AreRanks}
+use Rattle.ash_classes.specs.Paths.{AreRanks}
 use Rattle.ash_ranks.proofs.RankLaws.{typed_ranks}
 use Rattle.ash_check.specs.CheckedModules.{IsChecked}
 

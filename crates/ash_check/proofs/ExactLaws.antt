@@ -10,9 +10,9 @@ use Rattle.ash_typing.specs.TypedModules.{IsTyped}
 use Rattle.ash_typing.proofs.ModuleLaws.{module_typed-exact}
 use Rattle.ash_classes.specs.References.{Refers, classes_of}
 use Rattle.ash_classes.specs.ReportedCycle.{reported_cycle}
-use Rattle.ash_classes.specs.Ways.{IsReportedCycle, Reaches}
+use Rattle.ash_classes.specs.Paths.{IsReportedCycle, Reaches}
 use Rattle.ash_classes.proofs.CycleSearches.{reported_is, none_is_reported}
-use Rattle.ash_check.specs.Checks.{ScriptFault, Broken, Cyclic, round_of, unless_round, checked_by, checked}
+use Rattle.ash_check.specs.Checks.{ScriptFault, Broken, Cyclic, names_of_cycle, unless_cycle, checked_by, checked}
 use Rattle.ash_check.proofs.CheckLaws.{typed_is_checked, cycle_is_reported}
 
 -- outcomes
@@ -31,9 +31,9 @@ not_cyclic x why h = cc
 
 -- what is accepted
 
-unless_accepted : (classes : List Class) (way : Option (ℕ × List ℕ)) (m typed : Module) → unless_round classes way m ≡ Ok typed → (way ≡ None) × (m ≡ typed)
+unless_accepted : (classes : List Class) (path : Option (ℕ × List ℕ)) (m typed : Module) → unless_cycle classes path m ≡ Ok typed → (path ≡ None) × (m ≡ typed)
 unless_accepted classes None m typed h = (refl, same_answer m typed h)
-unless_accepted classes (Some way) m typed h = absurd (not_accepted (Cyclic (round_of classes way)) typed h)
+unless_accepted classes (Some path) m typed h = absurd (not_accepted (Cyclic (names_of_cycle classes path)) typed h)
 
 by_accepted : (classes : List Class) (r : TypingResult Module) (typed : Module) → checked_by classes r ≡ Ok typed → (r ≡ Ok typed) × (reported_cycle classes ≡ None)
 by_accepted classes (Ok m) typed h = let u = unless_accepted classes (reported_cycle classes) m typed h in (ap Ok u.1, u.0)
@@ -57,53 +57,53 @@ accepted_is calls items typed = (go, back)
 
 -- what is refused for a cycle
 
-unless_cyclic : (classes : List Class) (way : Option (ℕ × List ℕ)) (m : Module) (names : List (List ℕ)) → unless_round classes way m ≡ Err (Cyclic names) → (round : ℕ × List ℕ) × (way ≡ Some round) × (names ≡ round_of classes round)
+unless_cyclic : (classes : List Class) (path : Option (ℕ × List ℕ)) (m : Module) (names : List (List ℕ)) → unless_cycle classes path m ≡ Err (Cyclic names) → (cycle : ℕ × List ℕ) × (path ≡ Some cycle) × (names ≡ names_of_cycle classes cycle)
 unless_cyclic classes None m names h = absurd (not_cyclic m (Cyclic names) h)
-unless_cyclic classes (Some way) m names h = (way, refl, sym (same_names (round_of classes way) names h))
+unless_cyclic classes (Some path) m names h = (path, refl, sym (same_names (names_of_cycle classes path) names h))
 
 other_fault : (f : Fault) (names : List (List ℕ)) → ◌≡◌ {A = Result Module ScriptFault} (Err (Broken f)) (Err (Cyclic names)) → ⊥
 other_fault f names h = cc
 
-by_cyclic : (classes : List Class) (r : TypingResult Module) (names : List (List ℕ)) → checked_by classes r ≡ Err (Cyclic names) → (typed : Module) × (r ≡ Ok typed) × (round : ℕ × List ℕ) × (reported_cycle classes ≡ Some round) × (names ≡ round_of classes round)
+by_cyclic : (classes : List Class) (r : TypingResult Module) (names : List (List ℕ)) → checked_by classes r ≡ Err (Cyclic names) → (typed : Module) × (r ≡ Ok typed) × (cycle : ℕ × List ℕ) × (reported_cycle classes ≡ Some cycle) × (names ≡ names_of_cycle classes cycle)
 by_cyclic classes (Ok m) names h = let u = unless_cyclic classes (reported_cycle classes) m names h in (m, refl, u.0, u.1, u.2)
 by_cyclic classes (Err f) names h = absurd (other_fault f names h)
 
-typed_cyclic : (calls : List Registration) (items : List Item) (names : List (List ℕ)) → checked calls items ≡ Err (Cyclic names) → (typed : Module) × (module_typed calls items ≡ Ok typed) × (round : ℕ × List ℕ) × (reported_cycle (classes_of items) ≡ Some round) × (names ≡ round_of (classes_of items) round)
+typed_cyclic : (calls : List Registration) (items : List Item) (names : List (List ℕ)) → checked calls items ≡ Err (Cyclic names) → (typed : Module) × (module_typed calls items ≡ Ok typed) × (cycle : ℕ × List ℕ) × (reported_cycle (classes_of items) ≡ Some cycle) × (names ≡ names_of_cycle (classes_of items) cycle)
 unfolding checked
 typed_cyclic calls items names h = by_cyclic (classes_of items) (module_typed calls items) names h
 
 -- by the cycle that is returned
-pub cycle_is : (calls : List Registration) (items : List Item) (names : List (List ℕ)) → (checked calls items ≡ Err (Cyclic names)) ↔ ((typed : Module) × (first : ℕ) × (others : List ℕ) × IsTyped calls items typed × IsReportedCycle (Refers (classes_of items)) first others × (names ≡ round_of (classes_of items) (first, others)))
+pub cycle_is : (calls : List Registration) (items : List Item) (names : List (List ℕ)) → (checked calls items ≡ Err (Cyclic names)) ↔ ((typed : Module) × (first : ℕ) × (others : List ℕ) × IsTyped calls items typed × IsReportedCycle (Refers (classes_of items)) first others × (names ≡ names_of_cycle (classes_of items) (first, others)))
 cycle_is calls items names = (go, back)
   where
-    go : checked calls items ≡ Err (Cyclic names) → (typed : Module) × (first : ℕ) × (others : List ℕ) × IsTyped calls items typed × IsReportedCycle (Refers (classes_of items)) first others × (names ≡ round_of (classes_of items) (first, others))
+    go : checked calls items ≡ Err (Cyclic names) → (typed : Module) × (first : ℕ) × (others : List ℕ) × IsTyped calls items typed × IsReportedCycle (Refers (classes_of items)) first others × (names ≡ names_of_cycle (classes_of items) (first, others))
     go h =
         let t = typed_cyclic calls items names h in
         let is : IsTyped calls items t.0 = (module_typed-exact calls items t.0).0 t.1 in
         (t.0, (t.2).0, (t.2).1, is, (reported_is (classes_of items) (t.2).0 (t.2).1).0 t.3, t.4)
 
-    back : (typed : Module) × (first : ℕ) × (others : List ℕ) × IsTyped calls items typed × IsReportedCycle (Refers (classes_of items)) first others × (names ≡ round_of (classes_of items) (first, others)) → checked calls items ≡ Err (Cyclic names)
+    back : (typed : Module) × (first : ℕ) × (others : List ℕ) × IsTyped calls items typed × IsReportedCycle (Refers (classes_of items)) first others × (names ≡ names_of_cycle (classes_of items) (first, others)) → checked calls items ≡ Err (Cyclic names)
     back h =
         let found : reported_cycle (classes_of items) ≡ Some (h.1, h.2) = (reported_is (classes_of items) h.1 h.2).1 h.4 in
         cycle_is_reported calls items h.0 h.1 h.2 ((module_typed-exact calls items h.0).1 h.3) found ∙ ap (λ ns. Err (Cyclic ns)) (sym h.5)
 
-some_round : (classes : List Class) (way : Option (ℕ × List ℕ)) → reported_cycle classes ≡ way → (class : ℕ) → Reaches (Refers classes) class class → (round : ℕ × List ℕ) × (reported_cycle classes ≡ Some round)
-some_round classes None h class reaches = absurd ((none_is_reported classes).0 h class reaches)
-some_round classes (Some round) h class reaches = (round, h)
+some_cycle : (classes : List Class) (path : Option (ℕ × List ℕ)) → reported_cycle classes ≡ path → (class : ℕ) → Reaches (Refers classes) class class → (cycle : ℕ × List ℕ) × (reported_cycle classes ≡ Some cycle)
+some_cycle classes None h class reaches = absurd ((none_is_reported classes).0 h class reaches)
+some_cycle classes (Some cycle) h class reaches = (cycle, h)
 
 -- by the rules
 pub cyclic_is : (calls : List Registration) (items : List Item) → ((names : List (List ℕ)) × (checked calls items ≡ Err (Cyclic names))) ↔ ((typed : Module) × (class : ℕ) × IsTyped calls items typed × Reaches (Refers (classes_of items)) class class)
 cyclic_is calls items = (go, back)
   where
     go : (names : List (List ℕ)) × (checked calls items ≡ Err (Cyclic names)) → (typed : Module) × (class : ℕ) × IsTyped calls items typed × Reaches (Refers (classes_of items)) class class
-    go h = let k = (cycle_is calls items h.0).0 h.1 in (k.0, k.1, k.3, (k.2, (k.4).round.way))
+    go h = let k = (cycle_is calls items h.0).0 h.1 in (k.0, k.1, k.3, (k.2, (k.4).cycle.path))
 
     back : (typed : Module) × (class : ℕ) × IsTyped calls items typed × Reaches (Refers (classes_of items)) class class → (names : List (List ℕ)) × (checked calls items ≡ Err (Cyclic names))
     back h =
         let classes = classes_of items in
-        let r = some_round classes (reported_cycle classes) refl h.1 h.3 in
+        let r = some_cycle classes (reported_cycle classes) refl h.1 h.3 in
         let foremost : IsReportedCycle (Refers classes) (r.0).0 (r.0).1 = (reported_is classes (r.0).0 (r.0).1).0 r.1 in
-        (round_of classes r.0, (cycle_is calls items (round_of classes r.0)).1 (h.0, (r.0).0, (r.0).1, h.2, foremost, refl))
+        (names_of_cycle classes r.0, (cycle_is calls items (names_of_cycle classes r.0)).1 (h.0, (r.0).0, (r.0).1, h.2, foremost, refl))
 
 -- what is refused for a rule that is broken
 
@@ -113,9 +113,9 @@ same_fault x y h = cc
 other_cycle : (names : List (List ℕ)) (f : Fault) → ◌≡◌ {A = Result Module ScriptFault} (Err (Cyclic names)) (Err (Broken f)) → ⊥
 other_cycle names f h = cc
 
-unless_broken : (classes : List Class) (way : Option (ℕ × List ℕ)) (m : Module) (f : Fault) → unless_round classes way m ≡ Err (Broken f) → ⊥
+unless_broken : (classes : List Class) (path : Option (ℕ × List ℕ)) (m : Module) (f : Fault) → unless_cycle classes path m ≡ Err (Broken f) → ⊥
 unless_broken classes None m f h = not_cyclic m (Broken f) h
-unless_broken classes (Some way) m f h = other_cycle (round_of classes way) f h
+unless_broken classes (Some path) m f h = other_cycle (names_of_cycle classes path) f h
 
 by_broken : (classes : List Class) (r : TypingResult Module) (f : Fault) → checked_by classes r ≡ Err (Broken f) → r ≡ Err f
 by_broken classes (Ok m) f h = absurd (unless_broken classes (reported_cycle classes) m f h)

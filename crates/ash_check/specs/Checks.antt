@@ -20,7 +20,7 @@ use Rattle.ash_check.specs.declared.faults.CheckFault.TheVariants as faults
 pub data ScriptFault : Type 0 where
   -- a rule that is broken at an offset
   Broken : Fault → ScriptFault
-  -- classes that could form a cycle, by their names: the first one, and the others on the way back to it
+  -- classes that could form a cycle, by their names: the first one, and the others on the path back to it
   Cyclic : List (List ℕ) → ScriptFault
 
 -- the name of the class at this place
@@ -28,16 +28,16 @@ abbrev pub name_at : List Class → ℕ → List ℕ
 name_at classes place = option_map_or (λ (class : Class). class.name) (slice_get classes place) []
 
 -- the names of the classes on a cycle
-abbrev pub round_of : List Class → ℕ × List ℕ → List (List ℕ)
-round_of classes way = map (name_at classes) (way.0 ∷ way.1)
+abbrev pub names_of_cycle : List Class → ℕ × List ℕ → List (List ℕ)
+names_of_cycle classes cycle = map (name_at classes) (cycle.0 ∷ cycle.1)
 
 -- the typed module, unless there is a cycle
-abbrev pub unless_round : List Class → Option (ℕ × List ℕ) → Module → Result Module ScriptFault
-unless_round classes None typed = Ok typed
-unless_round classes (Some way) typed = Err (Cyclic (round_of classes way))
+abbrev pub unless_cycle : List Class → Option (ℕ × List ℕ) → Module → Result Module ScriptFault
+unless_cycle classes None typed = Ok typed
+unless_cycle classes (Some cycle) typed = Err (Cyclic (names_of_cycle classes cycle))
 
 abbrev pub checked_by : List Class → TypingResult Module → Result Module ScriptFault
-checked_by classes (Ok typed) = unless_round classes (reported_cycle classes) typed
+checked_by classes (Ok typed) = unless_cycle classes (reported_cycle classes) typed
 checked_by classes (Err fault) = Err (Broken fault)
 
 -- The typed module of a script; or its first fault; or, where no rule is broken, the classes that could form a cycle.
@@ -66,7 +66,7 @@ script_fault_of (faults.ConstantOutOfRange at) = broken_at rules.ConstantOutOfRa
 script_fault_of (faults.DuplicateCase at) = broken_at rules.DuplicateCase at
 script_fault_of faults.NoMemory = None
 
--- this is what checking finds, where it is reported at all
+-- Checking finds this fault, if there is one.
 abbrev pub IsReportedFault : Option ScriptFault → Result Module ScriptFault → Type 0
 IsReportedFault None answer = Unit {0}
 IsReportedFault (Some why) answer = answer ≡ Err why
@@ -88,12 +88,12 @@ abbrev pub LeadsTo : List Class → List ℕ → List (List ℕ) → List ℕ �
 LeadsTo classes from [] to = HoldsNamed classes from to
 LeadsTo classes from (next ∷ others) to = HoldsNamed classes from next × LeadsTo classes next others to
 
--- from the class of the first name round and back to it
-abbrev pub GoesRound : List Class → List (List ℕ) → Type 0
-GoesRound classes [] = ⊥
-GoesRound classes (first ∷ others) = LeadsTo classes first others first
+-- The classes of these names form a cycle, from the first one by the others back to it.
+abbrev pub IsNamedCycle : List Class → List (List ℕ) → Type 0
+IsNamedCycle classes [] = ⊥
+IsNamedCycle classes (first ∷ others) = LeadsTo classes first others first
 
--- the names of a cycle go round
-abbrev pub GoesRoundIfCyclic : List Class → Option ScriptFault → Type 0
-GoesRoundIfCyclic classes (Some (Cyclic names)) = GoesRound classes names
-GoesRoundIfCyclic classes _ = Unit {0}
+-- The names that a fault has are those of a cycle.
+abbrev pub IsNamedCycleIfCyclic : List Class → Option ScriptFault → Type 0
+IsNamedCycleIfCyclic classes (Some (Cyclic names)) = IsNamedCycle classes names
+IsNamedCycleIfCyclic classes _ = Unit {0}

@@ -9,7 +9,7 @@ use Rattle.ash_typed.specs.declared.tree.statements.Initialization as initializa
 use Rattle.ash_typed.specs.StatementTree.{Initialization, Stmts, Cases, cases}
 use Rattle.ash_typed.specs.BodyViews.{value_of, case_of, body_of}
 use Rattle.ash_typing.specs.Environment.{Declared}
-use Rattle.ash_typing.specs.Expressions.{Typed}
+use Rattle.ash_typing.specs.Expressions.{TypedExpr}
 use Rattle.ash_typing.specs.Scopes.{Scope}
 use Rattle.ash_expressions.specs.declared.signatures.Binding as binding
 use Rattle.ash_expressions.specs.declared.typed_expr.TypedExpr as typed_expr
@@ -43,5 +43,5 @@ stmts_in body = body_of body.items
 abbrev pub cases_in : Vec case_code.Case Global → Cases
 cases_in labels = cases (map case_of labels.items)
 
-abbrev pub optional_typed_of : Option typed_expr.TypedExpr → Option Typed
+abbrev pub optional_typed_of : Option typed_expr.TypedExpr → Option TypedExpr
 optional_typed_of t = option_map typed_of t

@@ -16,14 +16,14 @@ use std::snapshot::Snapshot;
 /// registered which it was checked against, so that what walks it meets no place out of range and no value of another
 /// type than it awaits; and the ranks fall along what objects of its classes hold of one another.
 #[derive(Drop)]
-pub struct Checked {
+pub struct CheckedScript {
     pub(crate) module: Module,
     pub(crate) ranks: Vec<usize>,
     // What it was checked against, for contracts: it has no bytes.
     pub(crate) registrations: Snapshot<Registrations>,
 }
 
-impl Model for Checked {
+impl Model for CheckedScript {
     ghost use Rattle.std.specs.Coded.{codes};
     ghost use Rattle.ash_registrations.specs.Registered.{registered};
     ghost use Rattle.ash_typed.specs.Modules.{module_of};
@@ -43,7 +43,7 @@ impl Model for Checked {
     ghost invariant = { λ c. IsChecked (registered c.registrations.value) (module_of c.module) c.ranks.items };
 }
 
-impl Checked {
+impl CheckedScript {
     /// What the script declares, typed.
     pub fn module(&self) -> &Module
         ensures tree { result.now ≡ self.now.typed }

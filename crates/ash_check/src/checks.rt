@@ -1,6 +1,7 @@
 //! The check of a script: its typed module with a rank for each class, or why it is refused.
 
-ghost use Rattle.std.specs.Prelude.{◌≡◌, ◌↔◌, ◌<◌, ℕ, List, Ok, Err, length, map, string_bytes, All, IfOk};
+ghost use Rattle.std.specs.Prelude.{◌≡◌, ◌↔◌, ◌<◌, ℕ, List, Ok, Err, length, map, string_bytes};
+ghost use Rattle.std.specs.Prelude.{All, IfOk};
 ghost use Rattle.std.specs.Prelude.{IfErr, OnOk, MatchResult};
 ghost use Rattle.ash_registrations.specs.Calls.{Registration};
 ghost use Rattle.ash_registrations.specs.Registered as table;
@@ -14,12 +15,12 @@ ghost use Rattle.ash_typing.specs.Items as definition;
 ghost use Rattle.ash_typing.specs.Nesting.{ItemsDeclareInBlocks};
 ghost use Rattle.ash_typing.specs.TypedModules.{IsTyped};
 ghost use Rattle.ash_classes.specs.References.{Refers, classes_of, seen};
-ghost use Rattle.ash_classes.specs.Ways.{IsReportedCycle, Reaches, AreRanks};
+ghost use Rattle.ash_classes.specs.Paths.{IsReportedCycle, Reaches, AreRanks};
 ghost use Rattle.ash_check.specs.CheckedModules.{IsChecked};
 ghost use Rattle.ash_check.specs.Checks.{Broken, Cyclic, checked, Reports, script_fault_of};
-ghost use Rattle.ash_check.specs.Checks.{name_at, round_of, GoesRoundIfCyclic};
+ghost use Rattle.ash_check.specs.Checks.{name_at, names_of_cycle, IsNamedCycleIfCyclic};
 
-use crate::checked::Checked;
+use crate::checked::CheckedScript;
 use crate::faults::{CheckFault, ClassNames};
 use crate::items::check_module;
 use ash_classes::{Cycle, class_ranks, classes};
@@ -57,7 +58,7 @@ fn cycle_names(
         cycle.now.others.items }
     ensures { IfOk result
         (λ names. map string_bytes names.0.items
-        ≡ round_of (classes_of (written_module script.now))
+        ≡ names_of_cycle (classes_of (written_module script.now))
         (cycle.now.first, cycle.now.others.items)) }
 {
     let classes = classes(alloc, &script.items)?;
@@ -72,7 +73,7 @@ fn check_against(
     alloc: Global,
     registry: &Registrations,
     script: &ash_tree::Module,
-) -> Result<Checked, CheckFault>
+) -> Result<CheckedScript, CheckFault>
     requires nested { ItemsDeclareInBlocks (written_module script.now) }
     ensures answer { MatchResult result
         (λ done. checked (table.registered registry.now) (written_module script.now)
@@ -89,13 +90,13 @@ fn check_against(
         (λ done. IsChecked (table.registered registry.now) (module_of done.typed) done.ranks) }
     ensures acyclic { OnOk result ((class : ℕ) →
         Reaches (Refers (classes_of (written_module script.now))) class class → ⊥) }
-    ensures round { IfErr result
-        (λ fault. GoesRoundIfCyclic
+    ensures cycle { IfErr result
+        (λ fault. IsNamedCycleIfCyclic
         (classes_of (written_module script.now)) (script_fault_of fault)) }
 {
     let module = check_module(alloc, registry, script)?;
     match class_ranks(alloc, script)? {
-        Ok(ranks) => Ok(Checked {
+        Ok(ranks) => Ok(CheckedScript {
             module,
             ranks,
             registrations: Snapshot::of(registry),
@@ -117,7 +118,7 @@ pub fn check(
     alloc: Global,
     registry: &Registry,
     script: &ash_tree::Module,
-) -> Result<Checked, CheckFault>
+) -> Result<CheckedScript, CheckFault>
     requires nested { ItemsDeclareInBlocks (written_module script.now) }
     ensures answer { MatchResult result
         (λ done. checked (registered registry.now) (written_module script.now)
@@ -132,8 +133,8 @@ pub fn check(
         (λ done. IsChecked (registered registry.now) (module_of done.typed) done.ranks) }
     ensures acyclic { OnOk result ((class : ℕ) →
         Reaches (Refers (classes_of (written_module script.now))) class class → ⊥) }
-    ensures round { IfErr result
-        (λ fault. GoesRoundIfCyclic
+    ensures cycle { IfErr result
+        (λ fault. IsNamedCycleIfCyclic
         (classes_of (written_module script.now)) (script_fault_of fault)) }
 {
     check_against(alloc, registry.registrations(), script)
@@ -141,8 +142,8 @@ pub fn check(
 
 /// That the check accepts a script, with this typed module, exactly where the rules give it this module and no class
 /// reaches itself. And that it returns a cycle exactly where the rules give it a module and some class reaches itself:
-/// the cycle from the first class that does, by the first of its shortest ways back. Else it returns the first fault of
-/// the walk. It does nothing when it runs.
+/// the cycle from the first class that does, by the first of its shortest paths back. Else it returns the first fault
+/// of the walk. It does nothing when it runs.
 pub fn check_is_exact()
     ensures accepted { (calls : List Registration) (items : List Item) (typed : modules.Module) →
         (checked calls items ≡ Ok typed) ↔ (IsTyped calls items typed ×
@@ -155,7 +156,7 @@ pub fn check_is_exact()
         (checked calls items ≡ Err (Cyclic names)) ↔
         ((typed : modules.Module) × (first : ℕ) × (others : List ℕ) × IsTyped calls items typed ×
         IsReportedCycle (Refers (classes_of items)) first others ×
-        (names ≡ round_of (classes_of items) (first, others))) }
+        (names ≡ names_of_cycle (classes_of items) (first, others))) }
     ensures broken { (calls : List Registration) (items : List Item) (fault : Fault) →
         (checked calls items ≡ Err (Broken fault))
         ↔ (definition.module_typed calls items ≡ Err fault) }

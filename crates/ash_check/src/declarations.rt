@@ -14,8 +14,9 @@ ghost use Rattle.ash_expressions.specs.Views.{class_signature_of, classes_of, ty
 ghost use Rattle.ash_check.specs.WalkViews.{optional_expr};
 
 use ash_expressions::{
-    Arguments, Callee, CheckResult, Environment, Parameters, Position, TypedExpr, array_callee,
-    build_call, check_expr, check_exprs, coerce_for_assignment, fault_at, ty_named, var_type,
+    Arguments, AssignmentSide, Callee, CheckResult, Environment, Parameters, TypedExpr,
+    array_callee, build_call, check_expr, check_exprs, coerce_for_assignment, fault_at, ty_named,
+    var_type,
 };
 use ash_tree::{Decl, Element, Initializer, Place, Type, TypeKind};
 use ash_typed::{Expr, Initialization, ObjectType, Target};
@@ -228,7 +229,7 @@ fn check_initializer(
     match initializer {
         Initializer::Default => build_default(env, written),
         Initializer::Value(value) => {
-            let typed = check_expr(env, Position::Value, value)?;
+            let typed = check_expr(env, AssignmentSide::Value, value)?;
             build_value(env, at, written.of, typed)
         }
         Initializer::Arguments(arguments) => {

@@ -37,7 +37,7 @@ pub enum CheckFault {
     /// A phrase that may not be where it is.
     #[error("308 Misplaced {at}")]
     Misplaced { at: usize },
-    /// A class that reaches itself: it and the classes on a shortest way back.
+    /// A class that reaches itself: it and the classes on a shortest path back.
     #[error("309 CyclicType {0}")]
     CyclicType(ClassNames),
     /// An object of a registered type that scripts can't construct.

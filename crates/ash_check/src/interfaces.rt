@@ -7,7 +7,8 @@ ghost use Rattle.ash_expressions.specs.Agreement.{Agrees};
 ghost use Rattle.ash_expressions.specs.Views.{environment_of};
 ghost use Rattle.ash_check.specs.WalkViews.{interface_parts_of};
 
-use crate::names::{MAX_MEMBERS, Names};
+use crate::limits::MAX_CLASS_MEMBERS;
+use crate::names::Names;
 use crate::routines::{check_parameters, check_result_type, types_of};
 use ash_expressions::{CheckResult, Environment, result_type};
 use ash_tree::InterfaceMethod;
@@ -60,7 +61,7 @@ pub(crate) fn check_interface<'a>(
         names: Names {
             registry: None,
             taken: IndexSet::new(env.alloc),
-            room: MAX_MEMBERS,
+            room: MAX_CLASS_MEMBERS,
         },
         methods: Vec::new(env.alloc),
     };

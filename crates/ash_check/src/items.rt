@@ -13,7 +13,8 @@ ghost use Rattle.ash_check.specs.WalkViews.{names_of, routine_of, row_of, member
 use crate::declarations::{WrittenType, check_decl, check_variable_type, place_of, ty_in};
 use crate::implementations::check_listed_interfaces;
 use crate::interfaces::check_interface;
-use crate::names::{MAX_GLOBALS, MAX_MEMBERS, Names};
+use crate::limits::{MAX_CLASS_MEMBERS, MAX_GLOBALS, MAX_MODULE_TYPES};
+use crate::names::Names;
 use crate::routines::{Routine, as_routine, check_result_type, check_routine};
 use crate::signatures::module_signatures;
 use ash_expressions::{CheckResult, Environment, Signatures, fault_at};
@@ -23,9 +24,6 @@ use ash_typed::{Class, Implementation, Module, Variables};
 use ash_typing::{Rule, Ty};
 use indexmap::IndexSet;
 use std::alloc::Global;
-
-/// How many classes and interfaces a module has at most.
-const MAX_TYPES: usize = 256;
 
 /// Checks variables of a module or of a class.
 #[tactic(auto, unfolding(ash_typing::specs::Items::vars_typed))]
@@ -128,7 +126,7 @@ fn check_members<'a>(
     let mut names = Names {
         registry: None,
         taken: IndexSet::new(env.alloc),
-        room: MAX_MEMBERS,
+        room: MAX_CLASS_MEMBERS,
     };
     let mut typed = Class {
         name: class.name.clone()?,
@@ -163,7 +161,7 @@ fn check_class<'a>(
 fn check_type_count(at: usize, typed: &Module) -> CheckResult<usize>
     ensures { Agrees (λ place. place) result (definition.room_for_type at (module_of typed.now)) }
 {
-    if typed.classes.len() + typed.interfaces.len() >= MAX_TYPES {
+    if typed.classes.len() + typed.interfaces.len() >= MAX_MODULE_TYPES {
         return Err(fault_at(Rule::TooMany, at));
     }
     Ok(typed.classes.len())

@@ -11,8 +11,8 @@ ghost use Rattle.ash_check.specs.StatementViews.{scope_of};
 
 use crate::scopes::Scope;
 use ash_expressions::{
-    Binding, CheckResult, Environment, Position, TypedExpr, check_expr, coerce_for_assignment,
-    fault_at, is_void,
+    AssignmentSide, Binding, CheckResult, Environment, TypedExpr, check_expr,
+    coerce_for_assignment, fault_at, is_void,
 };
 use ash_tree::{Expr, Place};
 use ash_typed::{Expr as Tree, Stmt as TypedStmt, StmtKind as TypedKind};
@@ -86,7 +86,7 @@ pub(crate) fn check_return(
         None => None,
         Some(value) => {
             let env = (&*scope).environment(locals);
-            let value = check_expr(&env, Position::Value, value)?;
+            let value = check_expr(&env, AssignmentSide::Value, value)?;
             Some(build_return_value(&env, scope.result, place.at, value)?)
         }
     };

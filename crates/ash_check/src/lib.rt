@@ -7,16 +7,16 @@
 //! `check` returns what it defines, unless memory runs out; `check_is_exact` says what that is by the rules of typing
 //! alone. Expressions are checked by `ash_expressions`.
 //!
-//! What is returned is a `Checked`. Of each value of that type it is known, by the typed tree alone, that its module is
-//! sound and that its ranks fall along what its classes hold: `IsChecked` of `specs/CheckedModules.antt`.
+//! What is returned is a `CheckedScript`. Of each value of that type it is known, by the typed tree alone, that its
+//! module is sound and that its ranks fall along what its classes hold: `IsChecked` of `specs/CheckedModules.antt`.
 //!
 //! A function `check_*` takes a part of a script; a function `build_*` takes parts that are checked, and returns the
 //! typed phrase that they are the parts of, or its fault.
 //!
 //! In reading order: `checked`, what is returned; `checks`, the whole; `faults`, what is reported; `items`, the walk
-//! over a module, with `names`, `interfaces`, `implementations`, `routines`, `declarations` and `bodies`; `signatures`,
-//! what a module declares; `statements`, the walk over a body, with `scopes`, what a statement can refer to, `locals`,
-//! `conditions`, `loops`, `switches` and `jumps`. Beside them `returning`, which statements return.
+//! over a module, with `limits`, `names`, `interfaces`, `implementations`, `routines`, `declarations` and `bodies`;
+//! `signatures`, what a module declares; `statements`, the walk over a body, with `scopes`, what a statement can refer
+//! to, `locals`, `conditions`, `loops`, `switches` and `jumps`. Beside them `returning`, which statements return.
 #![tactic(auto)]
 
 mod bodies;
@@ -29,6 +29,7 @@ mod implementations;
 mod interfaces;
 mod items;
 mod jumps;
+mod limits;
 mod locals;
 mod loops;
 mod names;
@@ -41,6 +42,7 @@ mod switches;
 mod type_names;
 
 pub use ash_classes::search_is_exact;
-pub use checked::Checked;
+pub use checked::CheckedScript;
 pub use checks::{check, check_is_exact};
 pub use faults::{CheckFault, ClassNames};
+pub use limits::{MAX_CLASS_MEMBERS, MAX_GLOBALS, MAX_MODULE_TYPES};

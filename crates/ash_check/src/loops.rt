@@ -14,7 +14,7 @@ ghost use Rattle.ash_check.specs.WalkViews.{optional_expr};
 use crate::locals::check_local_vars;
 use crate::scopes::Scope;
 use ash_expressions::{
-    Binding, CheckResult, Environment, Position, TypedExpr, check_bool, check_expr, fault_at,
+    AssignmentSide, Binding, CheckResult, Environment, TypedExpr, check_bool, check_expr, fault_at,
 };
 use ash_tree::{Expr, Stmt as Source, StmtKind};
 use ash_typed::{Expr as Tree, Head, Stmt, Test, nodes};
@@ -44,7 +44,7 @@ pub(crate) fn check_for_head<'n>(
             Ok(Head::Declare(values))
         }
         StmtKind::Expr(value) => {
-            let value = check_expr(&(&*scope).environment(locals), Position::Value, value)?;
+            let value = check_expr(&(&*scope).environment(locals), AssignmentSide::Value, value)?;
             Ok(Head::Evaluate(value.tree))
         }
         StmtKind::Block(_) | StmtKind::If { .. } | StmtKind::IfElse { .. } => {
@@ -129,7 +129,7 @@ pub(crate) fn check_optional_expr(
 {
     match condition {
         None => Ok(None),
-        Some(condition) => Ok(Some(check_expr(env, Position::Value, condition)?)),
+        Some(condition) => Ok(Some(check_expr(env, AssignmentSide::Value, condition)?)),
     }
 }
 

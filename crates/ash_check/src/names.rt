@@ -15,12 +15,6 @@ use ash_typing::Rule;
 use indexmap::IndexSet;
 use std::alloc::AllocError;
 
-/// How many variables a module has at most.
-pub(crate) const MAX_GLOBALS: usize = 256;
-
-/// How many fields and methods a class has at most, and how many methods an interface.
-pub(crate) const MAX_MEMBERS: usize = 32;
-
 /// The names of a module that are taken: those that are registered, and those of the items before; or those of the
 /// members of a class.
 #[derive(Drop)]

@@ -29,7 +29,8 @@ fn parameter_types(
 ) -> Result<Vec<Ty>, AllocError>
     ensures { IfOk result
         (λ types. types.items
-        ≡ map (definition.parameter_ty (registered registry.now) (signatures_of type_names.now))
+        ≡ map
+        (definition.parameter_ty (registered registry.now) (signatures_of type_names.now))
         (map parameter_of parameters.now)) }
 {
     let mut types = Vec::with_capacity(alloc, parameters.len())?;
@@ -85,7 +86,8 @@ fn interface_methods<'a>(
 ) -> Result<Vec<FunctionSignature<'a>>, AllocError>
     ensures { IfOk result
         (λ all. map function_signature_of all.items
-        ≡ map (definition.signature_declaration (registered registry.now) (signatures_of type_names.now))
+        ≡ map
+        (definition.signature_declaration (registered registry.now) (signatures_of type_names.now))
         (map interface_method_of declared.now)) }
 {
     let mut all = Vec::new(alloc);
@@ -163,7 +165,8 @@ fn class_methods<'a>(
 ) -> Result<Vec<FunctionSignature<'a>>, AllocError>
     ensures { IfOk result
         (λ all. map function_signature_of all.items
-        ≡ map (definition.function_declaration (registered registry.now) (signatures_of type_names.now))
+        ≡ map
+        (definition.function_declaration (registered registry.now) (signatures_of type_names.now))
         (by_kind.methods_of (map member_of members.now))) }
 {
     let mut all = Vec::new(alloc);
@@ -258,7 +261,8 @@ fn interface_signatures<'a>(
 ) -> Result<Vec<InterfaceSignature<'a>>, AllocError>
     ensures { IfOk result
         (λ all. map interface_signature_of all.items
-        ≡ map (definition.interface_declaration (registered registry.now) (signatures_of type_names.now))
+        ≡ map
+        (definition.interface_declaration (registered registry.now) (signatures_of type_names.now))
         (by_kind.interfaces_of (map item_of items.now))) }
 {
     let mut all = Vec::new(alloc);
@@ -278,7 +282,8 @@ fn class_signatures<'a>(
 ) -> Result<Vec<ClassSignature<'a>>, AllocError>
     ensures { IfOk result
         (λ all. map class_signature_of all.items
-        ≡ map (definition.class_declaration (registered registry.now) (signatures_of type_names.now))
+        ≡ map
+        (definition.class_declaration (registered registry.now) (signatures_of type_names.now))
         (by_kind.classes_of (map item_of items.now))) }
 {
     let mut all = Vec::new(alloc);
@@ -298,7 +303,8 @@ fn function_signatures<'a>(
 ) -> Result<Vec<FunctionSignature<'a>>, AllocError>
     ensures { IfOk result
         (λ all. map function_signature_of all.items
-        ≡ map (definition.function_declaration (registered registry.now) (signatures_of type_names.now))
+        ≡ map
+        (definition.function_declaration (registered registry.now) (signatures_of type_names.now))
         (by_kind.functions_of (map item_of items.now))) }
 {
     let mut all = Vec::new(alloc);

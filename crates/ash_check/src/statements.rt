@@ -18,7 +18,9 @@ use crate::loops::{
 };
 use crate::scopes::Scope;
 use crate::switches::{LabelContext, check_label, integer_type_in, is_last};
-use ash_expressions::{Binding, CheckResult, Position, check_expr, check_exprs, integer_type};
+use ash_expressions::{
+    AssignmentSide, Binding, CheckResult, check_expr, check_exprs, integer_type,
+};
 use ash_tree::{Case, Expr, Place, Stmt, StmtKind, Vars};
 use ash_typed::{Case as TypedCase, IntType, Stmt as TypedStmt, StmtKind as TypedKind, nodes};
 
@@ -130,7 +132,7 @@ fn check_evaluation(
         (definition.stmt_typed (scope_of scope.now (map binding_of locals.now))
         (Evaluate place (written.expr_of value.now))) }
 {
-    let value = check_expr(&(&*scope).environment(locals), Position::Value, value)?;
+    let value = check_expr(&(&*scope).environment(locals), AssignmentSide::Value, value)?;
     Ok(TypedStmt {
         line: place.line,
         kind: TypedKind::Evaluate(value.tree),
@@ -213,7 +215,11 @@ fn check_if<'n>(
         (If place (written.expr_of condition.now) (written.stmt_of inner.now))) }
     ensures unchanged { IfOk result (λ _. locals_of locals.new ≡ locals_of locals.old) }
 {
-    let condition = check_expr(&(&*scope).environment(locals), Position::Value, condition)?;
+    let condition = check_expr(
+        &(&*scope).environment(locals),
+        AssignmentSide::Value,
+        condition,
+    )?;
     let inner = check_branch(scope, locals, inner)?;
     build_if(place.line, condition, inner)
 }
@@ -234,7 +240,11 @@ fn check_if_else<'n>(
         (written.stmt_of branches.entry.otherwise.now))) }
     ensures unchanged { IfOk result (λ _. locals_of locals.new ≡ locals_of locals.old) }
 {
-    let condition = check_expr(&(&*scope).environment(locals), Position::Value, condition)?;
+    let condition = check_expr(
+        &(&*scope).environment(locals),
+        AssignmentSide::Value,
+        condition,
+    )?;
     let then = check_branch(scope, locals, branches.then)?;
     let otherwise = check_branch(scope, locals, branches.otherwise)?;
     build_if_else(place.line, condition, then, otherwise)
@@ -255,7 +265,11 @@ fn check_while<'n>(
         (While place (written.expr_of condition.now) (written.stmt_of inner.now))) }
     ensures unchanged { IfOk result (λ _. locals_of locals.new ≡ locals_of locals.old) }
 {
-    let condition = check_expr(&(&*scope).environment(locals), Position::Value, condition)?;
+    let condition = check_expr(
+        &(&*scope).environment(locals),
+        AssignmentSide::Value,
+        condition,
+    )?;
     let repeated = Scope {
         in_loop: true,
         ..*scope
@@ -284,7 +298,11 @@ fn check_do_while<'n>(
         ..*scope
     };
     let inner = check_branch(&repeated, locals, inner)?;
-    let condition = check_expr(&(&*scope).environment(locals), Position::Value, condition)?;
+    let condition = check_expr(
+        &(&*scope).environment(locals),
+        AssignmentSide::Value,
+        condition,
+    )?;
     build_do_while(scope.alloc, place.line, inner, condition)
 }
 
@@ -341,7 +359,7 @@ fn check_switch<'n>(
         (Switch place (written.expr_of value.now) (cases (map written.case_of labels.now)))) }
     ensures unchanged { IfOk result (λ _. locals_of locals.new ≡ locals_of locals.old) }
 {
-    let value = check_expr(&(&*scope).environment(locals), Position::Value, value)?;
+    let value = check_expr(&(&*scope).environment(locals), AssignmentSide::Value, value)?;
     let chosen = Scope {
         in_switch: true,
         ..*scope

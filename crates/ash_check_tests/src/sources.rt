@@ -7,7 +7,7 @@ ghost use Rattle.ash_typing.specs.Nesting.{ItemsDeclareInBlocks};
 
 use crate::cycles::cycle_of;
 use crate::expressions::{operands_of, type_of};
-use ash_check::{Checked, check};
+use ash_check::{CheckedScript, check};
 use ash_lex::lex;
 use ash_parse::parse_module;
 use ash_registry::{Registry, RegistryFault};
@@ -89,7 +89,7 @@ pub(crate) fn tree_of(alloc: Global, source: &str) -> Result<Module, String>
 }
 
 /// The typed module of a source, with the ranks of its classes, or its fault.
-pub(crate) fn checked(alloc: Global, source: &str) -> Result<Checked, String> {
+pub(crate) fn checked(alloc: Global, source: &str) -> Result<CheckedScript, String> {
     let registry = registered(alloc)?;
     let script = tree_of(alloc, source)?;
     match check(alloc, &registry, &script) {

@@ -1,18 +1,18 @@
--- Relations that hold of the same places have the same ranks and the same way round; and at most one way round is
+-- Relations that hold of the same places have the same ranks and the same cycle; and at most one cycle is
 -- reported.
 use Rattle.std.proofs.Common.{◌≡◌, ℕ, ◌<◌, ◌↔◌, List, [], ◌∷◌, length, Vec, Global, Result, Ok, Err, IfOk, IfErr, OnOk}
 use Rattle.std.proofs.Common.{inl, inr, refl, sym, ap₂, subst, subst₂, arith}
 use Rattle.std.proofs.lemmas.List.{length-map}
 use Rattle.std.proofs.lemmas.Option.{slice_get_within}
 use Rattle.ash_tree.specs.Tree.{Class}
-use Rattle.ash_classes.specs.Ways.{IsWay, Reaches, IsNoLater, IsForemost, IsReportedCycle, AreRanks}
+use Rattle.ash_classes.specs.Paths.{IsPath, Reaches, IsNoLater, IsForemost, IsReportedCycle, AreRanks}
 use Rattle.ash_classes.specs.Marking.{rows_of, Goes, AreWithin}
 use Rattle.ash_classes.specs.References.{Refers}
 
-same_way : (R Q : ℕ → ℕ → Type 0) → ((from to : ℕ) → R from to → Q from to) → (from : ℕ) (between : List ℕ) (to : ℕ)
-    → IsWay R from between to → IsWay Q from between to
-same_way R Q there from [] to way = there from to way
-same_way R Q there from (next ∷ between) to way = (there from next way.0, same_way R Q there next between to way.1)
+same_path : (R Q : ℕ → ℕ → Type 0) → ((from to : ℕ) → R from to → Q from to) → (from : ℕ) (between : List ℕ) (to : ℕ)
+    → IsPath R from between to → IsPath Q from between to
+same_path R Q there from [] to path = there from to path
+same_path R Q there from (next ∷ between) to path = (there from next path.0, same_path R Q there next between to path.1)
 
 pub same_ranks : (R Q : ℕ → ℕ → Type 0) (places : ℕ) (ranks : List ℕ) → ((from to : ℕ) → R from to ↔ Q from to)
     → AreRanks R places ranks → AreRanks Q places ranks
@@ -22,7 +22,7 @@ same_ranks R Q places ranks same h =
 pub same_acyclic : (R Q : ℕ → ℕ → Type 0) → ((from to : ℕ) → R from to ↔ Q from to)
     → ((place : ℕ) → Reaches R place place → ⊥) → (place : ℕ) → Reaches Q place place → ⊥
 same_acyclic R Q same h =
-    λ place round. h place (round.0, same_way Q R (λ from to. (same from to).1) place round.0 place round.1)
+    λ place cycle. h place (cycle.0, same_path Q R (λ from to. (same from to).1) place cycle.0 place cycle.1)
 
 pub same_cycle : (R Q : ℕ → ℕ → Type 0) (first : ℕ) (others : List ℕ) → ((from to : ℕ) → R from to ↔ Q from to)
     → IsReportedCycle R first others → IsReportedCycle Q first others
@@ -30,15 +30,15 @@ same_cycle R Q first others same h =
     let there : (from to : ℕ) → R from to → Q from to = λ from to. (same from to).0 in
     let back : (from to : ℕ) → Q from to → R from to = λ from to. (same from to).1 in
     record {
-      round = record {
-        way = same_way R Q there first others first h.round.way;
-        shortest = λ other way. h.round.shortest other (same_way Q R back first other first way);
-        foremost = λ other way long. h.round.foremost other (same_way Q R back first other first way) long;
+      cycle = record {
+        path = same_path R Q there first others first h.cycle.path;
+        shortest = λ other path. h.cycle.shortest other (same_path Q R back first other first path);
+        foremost = λ other path long. h.cycle.foremost other (same_path Q R back first other first path) long;
       };
-      earliest = λ other round. h.earliest other (round.0, same_way Q R back other round.0 other round.1);
+      earliest = λ other cycle. h.earliest other (cycle.0, same_path Q R back other cycle.0 other cycle.1);
     }
 
--- of two ways of one length, neither later than the other
+-- of two paths of one length, neither later than the other
 same_order : (xs ys : List ℕ) → length xs ≡ length ys → IsNoLater xs ys → IsNoLater ys xs → xs ≡ ys
 same_order [] [] e h k = refl
 same_order [] (y ∷ ys) e h k = absurd (omega (arith, e))
@@ -53,18 +53,18 @@ same_order (x ∷ xs) (y ∷ ys) e h k = elim h [
       ]
 ]
 
-same_round : (R : ℕ → ℕ → Type 0) (from to : ℕ) (xs ys : List ℕ) → IsForemost R from xs to → IsForemost R from ys to
+same_foremost : (R : ℕ → ℕ → Type 0) (from to : ℕ) (xs ys : List ℕ) → IsForemost R from xs to → IsForemost R from ys to
     → xs ≡ ys
-same_round R from to xs ys h k =
-    let e : length xs ≡ length ys = omega (arith, h.shortest ys k.way, k.shortest xs h.way) in
-    same_order xs ys e (h.foremost ys k.way (sym e)) (k.foremost xs h.way e)
+same_foremost R from to xs ys h k =
+    let e : length xs ≡ length ys = omega (arith, h.shortest ys k.path, k.shortest xs h.path) in
+    same_order xs ys e (h.foremost ys k.path (sym e)) (k.foremost xs h.path e)
 
 pub only_cycle : (R : ℕ → ℕ → Type 0) (first : ℕ) (others : List ℕ) → IsReportedCycle R first others
     → (a : ℕ) (bs : List ℕ)
     → IsReportedCycle R a bs → (a ≡ first) × (bs ≡ others)
 only_cycle R first others h a bs k =
-    let e : a ≡ first = omega (arith, h.earliest a (bs, k.round.way), k.earliest first (others, h.round.way)) in
-    (e, same_round R first first bs others (subst (λ (n : ℕ). IsForemost R n bs n) e k.round) h.round)
+    let e : a ≡ first = omega (arith, h.earliest a (bs, k.cycle.path), k.earliest first (others, h.cycle.path)) in
+    (e, same_foremost R first first bs others (subst (λ (n : ℕ). IsForemost R n bs n) e k.cycle) h.cycle)
 
 -- whoever refers to a class is a class
 pub rows_within : (classes : List Class) (table : List (Vec ℕ Global)) → length table ≡ length classes

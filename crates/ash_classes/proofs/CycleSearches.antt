@@ -10,13 +10,13 @@ use Rattle.std.specs.List.{Any, list_any}
 use Rattle.std.specs.Option.{option_or}
 use Rattle.ash_tree.specs.Tree.{Element, PrimElement, HandleElement, Named, Prim, Object, Handle, Array, ArrayHandle}
 use Rattle.ash_tree.specs.Tree.{Member, AField, AMethod, AConstructor, Class}
-use Rattle.ash_classes.specs.Ways.{IsWay, Reaches, IsNoLater, IsForemost, IsReportedCycle}
+use Rattle.ash_classes.specs.Paths.{IsPath, Reaches, IsNoLater, IsForemost, IsReportedCycle}
 use Rattle.ash_classes.specs.References.{IsOf, ElementNames, Names, Holds, RefersTo, Refers}
 use Rattle.ash_classes.specs.ReportedCycle.{is_of, element_names, names, holds, refers_to, refers, refers_at}
 use Rattle.ash_classes.specs.ReportedCycle.{first_below}
-use Rattle.ash_classes.specs.ReportedCycle.{foremost, shortest_back, first_round, reported_cycle}
+use Rattle.ash_classes.specs.ReportedCycle.{foremost, shortest_back, first_cycle, reported_cycle}
 use Rattle.ash_classes.proofs.CycleLaws.{only_cycle}
-use Rattle.ash_classes.proofs.Shortcuts.{end_within, short_round}
+use Rattle.ash_classes.proofs.Shortcuts.{end_within, short_cycle}
 
 -- options
 
@@ -74,7 +74,7 @@ below_some value_at (suc n) x h = elim (or_some (first_below value_at n) (value_
 module _ (R : ℕ → ℕ → Type 0) (goes : ℕ → ℕ → Bool) (places : ℕ)
     (decides : (from to : ℕ) → Decides (goes from to) (R from to))
     (within : (from to : ℕ) → R from to → to < places) where
-  -- the way on from a place
+  -- the path on from a place
   abbrev onward : (count from to next : ℕ) → Option (List ℕ)
   onward count from to next =
       cond (goes from next) (option_map (λ others. next ∷ others) (foremost goes places count next to)) None
@@ -86,40 +86,40 @@ module _ (R : ℕ → ℕ → Type 0) (goes : ℕ → ℕ → Bool) (places : �
       (if_none (goes from next) (option_map (λ others. next ∷ others) (foremost goes places count next to)) h
       ((decides from next).1 step))
 
-  -- there is no way with so many places in between
-  missed : (count from to : ℕ) → foremost goes places count from to ≡ None → (other : List ℕ) → IsWay R from other to
+  -- there is no path with so many places in between
+  missed : (count from to : ℕ) → foremost goes places count from to ≡ None → (other : List ℕ) → IsPath R from other to
       → length other ≡ count → ⊥
-  missed zero from to h [] way long =
-      none-some {A = List ℕ} [] (sym (if_none (goes from to) (Some []) h ((decides from to).1 way)))
-  missed zero from to h (next ∷ other) way long = absurd (omega (arith, long))
-  missed (suc count) from to h [] way long = absurd (omega (arith, long))
-  missed (suc count) from to h (next ∷ other) way long =
+  missed zero from to h [] path long =
+      none-some {A = List ℕ} [] (sym (if_none (goes from to) (Some []) h ((decides from to).1 path)))
+  missed zero from to h (next ∷ other) path long = absurd (omega (arith, long))
+  missed (suc count) from to h [] path long = absurd (omega (arith, long))
+  missed (suc count) from to h (next ∷ other) path long =
       let none : onward count from to next ≡ None =
-      below_none (onward count from to) places h next (within from next way.0) in
-      missed count next to (not_onward count from to next none way.0) other way.1 (omega (arith, long))
+      below_none (onward count from to) places h next (within from next path.0) in
+      missed count next to (not_onward count from to next none path.0) other path.1 (omega (arith, long))
 
-  -- the first of the ways with so many places in between
+  -- the first of the paths with so many places in between
   abbrev IsFirstOf : (count from to : ℕ) → List ℕ → Type 0
   IsFirstOf count from to between =
-      IsWay R from between to × (length between ≡ count)
-      × ((other : List ℕ) → IsWay R from other to → length other ≡ count → IsNoLater between other)
+      IsPath R from between to × (length between ≡ count)
+      × ((other : List ℕ) → IsPath R from other to → length other ≡ count → IsNoLater between other)
 
   first_by : (count from to next : ℕ) (rest : List ℕ) → R from next
       → ((before : ℕ) → before < next → onward count from to before ≡ None) → IsFirstOf count next to rest
       → IsFirstOf (suc count) from to (next ∷ rest)
   first_by count from to next rest step none first = ((step, first.0), omega (arith, first.1), later)
     where
-      later : (other : List ℕ) → IsWay R from other to → length other ≡ suc count → IsNoLater (next ∷ rest) other
-      later [] way long = absurd (omega (arith, long))
-      later (q ∷ qs) way long = elim (cases_lt next q) [
+      later : (other : List ℕ) → IsPath R from other to → length other ≡ suc count → IsNoLater (next ∷ rest) other
+      later [] path long = absurd (omega (arith, long))
+      later (q ∷ qs) path long = elim (cases_lt next q) [
         | inl lower ↦ inl lower
         | inr higher ↦ elim (cases_lt q next) [
           | inl before ↦
-              absurd (missed count q to (not_onward count from to q (none q before) way.0) qs way.1
+              absurd (missed count q to (not_onward count from to q (none q before) path.0) qs path.1
               (omega (arith, long)))
           | inr also ↦
               let e : next ≡ q = omega (arith, higher, also) in
-              inr (e, first.2 qs (subst (λ (p : ℕ). IsWay R p qs to) (sym e) way.1) (omega (arith, long)))
+              inr (e, first.2 qs (subst (λ (p : ℕ). IsPath R p qs to) (sym e) path.1) (omega (arith, long)))
         ]
       ]
 
@@ -128,7 +128,7 @@ module _ (R : ℕ → ℕ → Type 0) (goes : ℕ → ℕ → Bool) (places : �
   found zero from to between h =
       let straight = if_some (goes from to) (Some []) between h in
       subst (λ (xs : List ℕ). IsFirstOf zero from to xs) (same_Some [] between straight.1)
-      ((decides from to).0 straight.0, refl, λ other way long. tt)
+      ((decides from to).0 straight.0, refl, λ other path long. tt)
   found (suc count) from to between h =
       let next = below_some (onward count from to) places between h in
       let on = if_some (goes from next.0)
@@ -138,52 +138,52 @@ module _ (R : ℕ → ℕ → Type 0) (goes : ℕ → ℕ → Bool) (places : �
       (first_by count from to next.0 rest.0 ((decides from next.0).0 on.0) next.3
       (found count next.0 to rest.0 rest.1))
 
-  -- the shortest way back, and of these the first
+  -- the shortest path back, and of these the first
   back_some : (place : ℕ) (between : List ℕ) → shortest_back goes places place ≡ Some between
       → IsForemost R place between place
   back_some place between h =
       let count = below_some (λ count. foremost goes places count place place) places between h in
       let first = found count.0 place place between count.2 in
       record {
-        way = first.0;
-        shortest = λ other way. elim (cases_lt (length other) count.0) [
-          | inl lower ↦ absurd (missed (length other) place place (count.3 (length other) lower) other way refl)
+        path = first.0;
+        shortest = λ other path. elim (cases_lt (length other) count.0) [
+          | inl lower ↦ absurd (missed (length other) place place (count.3 (length other) lower) other path refl)
           | inr higher ↦ omega (arith, higher, first.1)
         ];
-        foremost = λ other way long. first.2 other way (long ∙ first.1);
+        foremost = λ other path long. first.2 other path (long ∙ first.1);
       }
 
   back_none : (place : ℕ) → shortest_back goes places place ≡ None → Reaches R place place → ⊥
-  back_none place h round =
-      let short = short_round R places within place round in
+  back_none place h cycle =
+      let short = short_cycle R places within place cycle in
       missed (length short.0) place place
       (below_none (λ count. foremost goes places count place place) places h (length short.0) short.2) short.0
       short.1 refl
 
-  round_some : (first : ℕ) (others : List ℕ) → first_round goes places ≡ Some (first, others) → IsReportedCycle R first others
-  round_some first others h =
+  cycle_some : (first : ℕ) (others : List ℕ) → first_cycle goes places ≡ Some (first, others) → IsReportedCycle R first others
+  cycle_some first others h =
       let place = below_some
       (λ first. option_map (λ others. (first, others)) (shortest_back goes places first)) places (first, others)
       h in
       let back = map_some (λ others. (place.0, others)) (shortest_back goes places place.0) (first, others) place.2 in
       let reported : IsReportedCycle R place.0 back.0 = record {
-        round = back_some place.0 back.0 back.1;
-        earliest = λ other round. elim (cases_lt other place.0) [
+        cycle = back_some place.0 back.0 back.1;
+        earliest = λ other cycle. elim (cases_lt other place.0) [
           | inl lower ↦
               absurd (back_none other
-              (map_none (λ others. (other, others)) (shortest_back goes places other) (place.3 other lower)) round)
+              (map_none (λ others. (other, others)) (shortest_back goes places other) (place.3 other lower)) cycle)
           | inr higher ↦ higher
         ];
       } in
       subst (λ (pair : ℕ × List ℕ). IsReportedCycle R pair.0 pair.1) back.2 reported
 
-  round_none : first_round goes places ≡ None → (place : ℕ) → Reaches R place place → ⊥
-  round_none h place round =
-      let short = short_round R places within place round in
+  cycle_none : first_cycle goes places ≡ None → (place : ℕ) → Reaches R place place → ⊥
+  cycle_none h place cycle =
+      let short = short_cycle R places within place cycle in
       back_none place
       (map_none (λ others. (place, others)) (shortest_back goes places place)
       (below_none (λ first. option_map (λ others. (first, others)) (shortest_back goes places first)) places h place
-      (end_within R places within place place short.0 short.1))) round
+      (end_within R places within place place short.0 short.1))) cycle
 
 -- the test of references
 
@@ -246,17 +246,17 @@ place_within classes from to h = slice_get_within classes to h.0 h.1
 pub cycle_if_some : (classes : List Class) (first : ℕ) (others : List ℕ) → reported_cycle classes ≡ Some (first, others)
     → IsReportedCycle (Refers classes) first others
 cycle_if_some classes =
-    round_some (Refers classes) (refers_at classes) (length classes) (refers_at-Decides classes) (place_within classes)
+    cycle_some (Refers classes) (refers_at classes) (length classes) (refers_at-Decides classes) (place_within classes)
 
 pub acyclic_if_none : (classes : List Class) → reported_cycle classes ≡ None → (class : ℕ)
     → Reaches (Refers classes) class class → ⊥
 acyclic_if_none classes =
-    round_none (Refers classes) (refers_at classes) (length classes) (refers_at-Decides classes) (place_within classes)
+    cycle_none (Refers classes) (refers_at classes) (length classes) (refers_at-Decides classes) (place_within classes)
 
 pub some_if_cycle : (classes : List Class) (first : ℕ) (others : List ℕ) → IsReportedCycle (Refers classes) first others
     → reported_cycle classes ≡ Some (first, others)
 some_if_cycle classes first others reported = elim (none_or_some (reported_cycle classes)) [
-  | inl none ↦ absurd (acyclic_if_none classes none first (others, reported.round.way))
+  | inl none ↦ absurd (acyclic_if_none classes none first (others, reported.cycle.path))
   | inr some ↦
       let same = only_cycle (Refers classes) first others reported some.0.0 some.0.1
       (cycle_if_some classes some.0.0 some.0.1 some.1) in
@@ -267,7 +267,7 @@ pub none_if_acyclic : (classes : List Class) → ((class : ℕ) → Reaches (Ref
     → reported_cycle classes ≡ None
 none_if_acyclic classes acyclic = elim (none_or_some (reported_cycle classes)) [
   | inl none ↦ none
-  | inr some ↦ absurd (acyclic some.0.0 (some.0.1, (cycle_if_some classes some.0.0 some.0.1 some.1).round.way))
+  | inr some ↦ absurd (acyclic some.0.0 (some.0.1, (cycle_if_some classes some.0.0 some.0.1 some.1).cycle.path))
 ]
 
 pub reported_is : (classes : List Class) (first : ℕ) (others : List ℕ)

@@ -1,6 +1,6 @@
 pub mod Markings
 pub mod Rounds
-pub mod WaysBack
+pub mod PathsBack
 pub mod Ranked
 pub mod Searches
 pub mod ReferenceLaws

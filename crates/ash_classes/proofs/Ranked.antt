@@ -6,14 +6,14 @@ use Rattle.std.proofs.lemmas.Option.{none-some}
 use Rattle.std.proofs.lemmas.List.{get_or_past, get_or_push, length-append, get_or_append_left}
 use Rattle.std.proofs.lemmas.List.Elements.{All-from_get_or}
 use Rattle.std.proofs.lemmas.List.Sums.{sum_by-cons, count_by-le-length}
-use Rattle.ash_classes.specs.Ways.{IsWay, Reaches, AreRanks}
+use Rattle.ash_classes.specs.Paths.{IsPath, Reaches, AreRanks}
 use Rattle.ash_classes.specs.Marking.{Goes, AreWithin, IsAt, AreDistances, unmarked}
 
--- whoever goes on along a way gets one step farther
-way_further : (R : ℕ → ℕ → Type 0) (from mid to : ℕ) (between : List ℕ) → IsWay R from between mid → R mid to
-    → IsWay R from (between ++ mid ∷ []) to
-way_further R from mid to [] way step = (way, step)
-way_further R from mid to (next ∷ between) way step = (way.0, way_further R next mid to between way.1 step)
+-- whoever goes on along a path gets one step farther
+path_further : (R : ℕ → ℕ → Type 0) (from mid to : ℕ) (between : List ℕ) → IsPath R from between mid → R mid to
+    → IsPath R from (between ++ mid ∷ []) to
+path_further R from mid to [] path step = (path, step)
+path_further R from mid to (next ∷ between) path step = (path.0, path_further R next mid to between path.1 step)
 
 unmarked-cons : (o : Option ℕ) (os : List (Option ℕ)) → unmarked (o ∷ os) ≡ cond (is_none o) 1 0 + unmarked os
 unmarked-cons o os = sum_by-cons (λ (x : Option ℕ). cond (is_none x) 1 0) o os
@@ -112,9 +112,9 @@ pub none_ranked : (R : ℕ → ℕ → Type 0) (places : ℕ) → AreRanked R pl
 none_ranked R places = record { count = refl; each = λ place h. absurd (omega (arith, h)) }
 
 -- a ranked place doesn't reach itself
-pub not_round : (R : ℕ → ℕ → Type 0) (places place rank : ℕ) → IsRank R places place rank → Reaches R place place → ⊥
-not_round R places place rank r round =
-    let near = r.distances.least place round.0 round.1 in
+pub not_on_cycle : (R : ℕ → ℕ → Type 0) (places place rank : ℕ) → IsRank R places place rank → Reaches R place place → ⊥
+not_on_cycle R places place rank r cycle =
+    let near = r.distances.least place cycle.0 cycle.1 in
     none-some near.0 (sym r.itself_unmarked ∙ near.1)
 
 pub one_ranked : (R : ℕ → ℕ → Type 0) (places before rank : ℕ) (ranks : List ℕ) → AreRanked R places before ranks
@@ -135,8 +135,8 @@ one_ranked R places before rank ranks h r = record {
 -- no place was passed by that reaches itself
 pub earliest_of : (R : ℕ → ℕ → Type 0) (places first : ℕ) (ranks : List ℕ) → AreRanked R places first ranks
     → (other : ℕ) → Reaches R other other → first ≤ other
-earliest_of R places first ranks h other round = elim (cases_lt other first) [
-  | inl lower ↦ absurd (not_round R places other (get_or ranks other 0) (h.each other lower) round)
+earliest_of R places first ranks h other cycle = elim (cases_lt other first) [
+  | inl lower ↦ absurd (not_on_cycle R places other (get_or ranks other 0) (h.each other lower) cycle)
   | inr higher ↦ higher
 ]
 
@@ -147,7 +147,7 @@ greater_of R places from to high low within step f t =
     let covered : IsCovered f.marks t.marks = λ place at h.
     let reached = f.distances.reached place at h in
     let near = t.distances.least place (reached.0 ++ from ∷ [])
-    (way_further R place from to reached.0 reached.2 step) in
+    (path_further R place from to reached.0 reached.2 step) in
     (near.0, near.1) in
     let near = t.distances.least from [] step in
     let less : unmarked t.marks < unmarked f.marks =
@@ -182,10 +182,10 @@ all_ranked rows places ranks e within h = record {
 -- no place reaches itself
 pub all_acyclic : (rows : List (List ℕ)) (places : ℕ) (ranks : List ℕ) → places ≡ length rows → AreWithin rows
     → AreRanked (Goes rows) places places ranks → (place : ℕ) → Reaches (Goes rows) place place → ⊥
-all_acyclic rows places ranks e within h place round = let low : place < places =
-    omega (arith, starts_within round.0 round.1, e) in
-    not_round (Goes rows) places place (get_or ranks place 0) (h.each place low) round
+all_acyclic rows places ranks e within h place cycle = let low : place < places =
+    omega (arith, starts_within cycle.0 cycle.1, e) in
+    not_on_cycle (Goes rows) places place (get_or ranks place 0) (h.each place low) cycle
   where
-    starts_within : (between : List ℕ) → IsWay (Goes rows) place between place → place < length rows
-    starts_within [] way = within place place way
-    starts_within (next ∷ between) way = within place next way.0
+    starts_within : (between : List ℕ) → IsPath (Goes rows) place between place → place < length rows
+    starts_within [] path = within place place path
+    starts_within (next ∷ between) path = within place next path.0

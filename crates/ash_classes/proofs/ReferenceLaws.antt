@@ -11,7 +11,7 @@ use Rattle.ash_tree.specs.declared.tree.items.Class as code_class
 use Rattle.ash_tree.specs.Tree.{Class}
 use Rattle.ash_tree.specs.Views.{class_of}
 use Rattle.ash_classes.specs.Marking.{rows_of, Goes}
-use Rattle.ash_classes.specs.References.{RefersTo, RefersAt, Refers, seen}
+use Rattle.ash_classes.specs.References.{RefersTo, RefersAt, Refers, borrowed_classes}
 use Rattle.ash_classes.proofs.Searches.{IsAnyOf}
 
 -- a list has one that passes
@@ -139,15 +139,15 @@ rows_end classes i rows past h =
     )
 
 -- the class that was read at a place
-pub seen_at : (classes : List (Bor code_class.Class)) (i : ℕ) (x : Bor code_class.Class) → i < length classes
-    → x ≡ get_or classes i x → slice_get (seen classes) i ≡ Some (class_of x.now)
-seen_at classes i x within is =
+pub borrowed_at : (classes : List (Bor code_class.Class)) (i : ℕ) (x : Bor code_class.Class) → i < length classes
+    → x ≡ get_or classes i x → slice_get (borrowed_classes classes) i ≡ Some (class_of x.now)
+borrowed_at classes i x within is =
     slice_get-map (λ (c : Bor code_class.Class). class_of c.now) classes i
     ∙ ap (option_map (λ (c : Bor code_class.Class). class_of c.now))
     (slice_get_read classes (length classes) i x refl within is)
 
-pub length-seen : (classes : List (Bor code_class.Class)) → length (seen classes) ≡ length classes
-length-seen classes = length-map classes (λ (c : Bor code_class.Class). class_of c.now)
+pub length-borrowed_classes : (classes : List (Bor code_class.Class)) → length (borrowed_classes classes) ≡ length classes
+length-borrowed_classes classes = length-map classes (λ (c : Bor code_class.Class). class_of c.now)
 
 -- the rows with one more after them
 pub rows_of-push : (table : List (Vec ℕ Global)) (row : Vec ℕ Global)

@@ -1,4 +1,4 @@
--- Ways found level by level.
+-- Paths found level by level.
 use Rattle.std.proofs.Common.{◌≡◌, ℕ, zero, suc, ◌+◌, ◌<◌, ◌≤◌, ◌⊎◌, List, [], ◌∷◌, ◌++◌, length, take, get_or}
 use Rattle.std.proofs.Common.{replicate, min, Option, None, is_none, Contains, All, Vec, Global, inl, inr, refl, sym}
 use Rattle.std.proofs.Common.{ap, ◌∙◌, subst, arith, take_all, cond}
@@ -9,7 +9,7 @@ use Rattle.std.proofs.lemmas.List.{get_or-map, length-map, length-replicate, get
 use Rattle.std.proofs.lemmas.List.Elements.{Contains-push, Contains-push_cases, Contains-append_left, All-from_get_or}
 use Rattle.std.proofs.lemmas.List.Elements.{Contains-get_or}
 use Rattle.std.proofs.lemmas.List.Sums.{sum_by-cons}
-use Rattle.ash_classes.specs.Ways.{IsWay}
+use Rattle.ash_classes.specs.Paths.{IsPath}
 use Rattle.ash_classes.specs.Marking.{rows_of, Goes, AreWithin, GoesToOne, IsAt, IsNear, Marks, AreDistances, unmarked}
 use Rattle.ash_classes.proofs.Markings.{marks_none, marks_same, marks_then}
 
@@ -78,7 +78,7 @@ pub record IsSearched (R : ℕ → ℕ → Type 0) (places to level : ℕ) (mark
     (found : List ℕ) : Type 0 where
   pub long : length marks ≡ places
   pub reached : (from distance : ℕ) → IsAt marks from distance
-      → (between : List ℕ) × (length between ≡ distance) × IsWay R from between to
+      → (between : List ℕ) × (length between ≡ distance) × IsPath R from between to
   pub low : (from distance : ℕ) → IsAt marks from distance → distance ≤ level
   pub near : (from : ℕ) → R from to → IsNear marks from 0
   pub done : (from mid distance : ℕ) → R from mid → IsAt marks mid distance → distance < level
@@ -130,8 +130,8 @@ next_search R places to level marks later found more some s m = record {
     | inl was ↦ s.reached p at was
     | inr now ↦
         let mid = now.1.0 in
-        let way = s.reached mid level (s.at_frontier mid now.1.1) in
-        (mid ∷ way.0, omega (arith, way.1, now.0), (now.1.2, way.2))
+        let path = s.reached mid level (s.at_frontier mid now.1.1) in
+        (mid ∷ path.0, omega (arith, path.1, now.0), (now.1.2, path.2))
   ];
   low = λ p at h. elim (m.added p at h) [ inl was ↦ omega (arith, s.low p at was) | inr now ↦ omega (arith, now.0) ];
   near = λ p r. let h = s.near p r in (h.0, m.unchanged p h.0 h.1, h.2);
@@ -175,11 +175,11 @@ end_search R places to level marks found none s =
   where
     least_of : (R : ℕ → ℕ → Type 0) (places to level : ℕ) (marks : List (Option ℕ)) (found : List ℕ)
         → IsSearched R places to level marks found → ((mid at : ℕ) → IsAt marks mid at → at < level)
-        → (from : ℕ) (between : List ℕ) → IsWay R from between to → IsNear marks from (length between)
-    least_of R places to level marks found s below from [] way = s.near from way
-    least_of R places to level marks found s below from (next ∷ between) way =
-        let h = least_of R places to level marks found s below next between way.1 in
-        let n = s.done from next h.0 way.0 h.1 (below next h.0 h.1) in
+        → (from : ℕ) (between : List ℕ) → IsPath R from between to → IsNear marks from (length between)
+    least_of R places to level marks found s below from [] path = s.near from path
+    least_of R places to level marks found s below from (next ∷ between) path =
+        let h = least_of R places to level marks found s below next between path.1 in
+        let n = s.done from next h.0 path.0 h.1 (below next h.0 h.1) in
         (n.0, n.1, omega (arith, n.2, h.2))
 
 -- what is marked is a place

@@ -1,4 +1,4 @@
-pub mod Ways
+pub mod Paths
 pub mod Marking
 pub mod References
 pub mod ReportedCycle

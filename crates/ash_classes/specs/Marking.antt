@@ -1,10 +1,10 @@
--- These definitions say how far each place is from one that ways lead to: how many places are between them.
+-- These definitions say how far each place is from one that paths lead to: how many places are between them.
 use Rattle.std.specs.Prelude.{◌≡◌, ℕ, ◌+◌, ◌<◌, ◌≤◌, ◌⊎◌, List, [], length, map, Option, Some, None}
 use Rattle.std.specs.List.{Contains, slice_index_or, count_by}
 use Rattle.std.specs.Option.{is_none}
 use Rattle.std.specs.declared.vec.Vec.{Vec}
 use Rattle.std.specs.declared.alloc.Global.{Global}
-use Rattle.ash_classes.specs.Ways.{IsWay}
+use Rattle.ash_classes.specs.Paths.{IsPath}
 
 -- `rows_of table` has for each place those that go to it.
 abbrev pub rows_of : List (Vec ℕ Global) → List (List ℕ)
@@ -52,9 +52,9 @@ pub record Marks (These : ℕ → Type 0) (distance : ℕ) (old new : List (Opti
   pub listed : (place : ℕ) → Contains found place → Contains before place ⊎ IsAt new place distance
   pub counted : unmarked new + length found ≡ unmarked old + length before
 
--- These are the fewest places between each place and one that it leads to, and none where no way leads there.
+-- These are the fewest places between each place and one that it leads to, and none where no path leads there.
 pub record AreDistances (Goes : ℕ → ℕ → Type 0) (places to : ℕ) (distances : List (Option ℕ)) : Type 0 where
   pub long : length distances ≡ places
   pub reached : (from distance : ℕ) → IsAt distances from distance
-      → (between : List ℕ) × (length between ≡ distance) × IsWay Goes from between to
-  pub least : (from : ℕ) (between : List ℕ) → IsWay Goes from between to → IsNear distances from (length between)
+      → (between : List ℕ) × (length between ≡ distance) × IsPath Goes from between to
+  pub least : (from : ℕ) (between : List ℕ) → IsPath Goes from between to → IsNear distances from (length between)

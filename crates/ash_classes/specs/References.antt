@@ -43,6 +43,6 @@ RefersAt classes from other = (one : Class) × (slice_get classes from ≡ Some 
 abbrev pub Refers : List Class → ℕ → ℕ → Type 0
 Refers classes from to = (other : Class) × (slice_get classes to ≡ Some other) × RefersAt classes from other
 
--- `seen classes` are the classes that the borrowed ones represent.
-abbrev pub seen : List (Bor code.Class) → List Class
-seen classes = map (λ class. class_of class.now) classes
+-- `borrowed_classes classes` are the classes that the borrowed ones represent.
+abbrev pub borrowed_classes : List (Bor code.Class) → List Class
+borrowed_classes classes = map (λ class. class_of class.now) classes

@@ -1,5 +1,5 @@
 -- These definitions find the cycle of classes that is reported, as a reader would look for it: from the first class
--- that leads back to itself, by the first of its shortest ways.
+-- that leads back to itself, by the first of its shortest paths.
 use Rattle.std.specs.Prelude.{ℕ, zero, suc, Bool, false, ◌||◌, List, [], ◌∷◌, length, Option, Some, None, option_map}
 use Rattle.std.specs.Prelude.{slice_get, if◌then◌else◌}
 use Rattle.std.specs.Option.{option_or}
@@ -53,25 +53,25 @@ abbrev pub first_below : {A : Type 0} → (ℕ → Option A) → ℕ → Option 
 first_below value_at zero = None
 first_below value_at (suc n) = option_or (first_below value_at n) (value_at n)
 
--- `foremost goes places count from to` are the places in between on the first way with so many of them: from place to
--- place, to the first from which a way goes on.
+-- `foremost goes places count from to` are the places in between on the first path with so many of them: from place to
+-- place, to the first from which a path goes on.
 abbrev pub foremost : (ℕ → ℕ → Bool) → (places count from to : ℕ) → Option (List ℕ)
 foremost goes places zero from to = if goes from to then Some [] else None
 foremost goes places (suc count) from to =
     first_below (λ next. if goes from next
     then option_map (λ others. next ∷ others) (foremost goes places count next to) else None) places
 
--- `shortest_back goes places place` is the first of the shortest ways back to a place: there are fewer places in
+-- `shortest_back goes places place` is the first of the shortest paths back to a place: there are fewer places in
 -- between than there are places.
 abbrev pub shortest_back : (ℕ → ℕ → Bool) → (places place : ℕ) → Option (List ℕ)
 shortest_back goes places place = first_below (λ count. foremost goes places count place place) places
 
--- `first_round goes places` is the first place from which a way leads back, and those in between.
-abbrev pub first_round : (ℕ → ℕ → Bool) → ℕ → Option (ℕ × List ℕ)
-first_round goes places =
+-- `first_cycle goes places` is the first place from which a path leads back, and those in between.
+abbrev pub first_cycle : (ℕ → ℕ → Bool) → ℕ → Option (ℕ × List ℕ)
+first_cycle goes places =
     first_below (λ first. option_map (λ others. (first, others)) (shortest_back goes places first)) places
 
 -- `reported_cycle classes` is the cycle of classes that is reported, by their places, or none where no class leads back
 -- to itself.
 abbrev pub reported_cycle : List Class → Option (ℕ × List ℕ)
-reported_cycle classes = first_round (refers_at classes) (length classes)
+reported_cycle classes = first_cycle (refers_at classes) (length classes)

@@ -3,7 +3,7 @@
 ghost use Rattle.std.specs.Prelude.{◌≡◌, ◌↔◌, ℕ, List, Some, None, length, IfOk, IfErr, OnOk};
 ghost use Rattle.ash_tree.specs.Tree.{Class};
 ghost use Rattle.ash_tree.specs.Views.{module_of};
-ghost use Rattle.ash_classes.specs.Ways.{IsReportedCycle, Reaches, AreRanks};
+ghost use Rattle.ash_classes.specs.Paths.{IsReportedCycle, Reaches, AreRanks};
 ghost use Rattle.ash_classes.specs.References.{Refers, classes_of};
 ghost use Rattle.ash_classes.specs.ReportedCycle.{reported_cycle};
 
@@ -15,7 +15,7 @@ use std::alloc::{AllocError, Global};
 /// A rank for each class of a module, by its place among them; where a class reaches itself, the cycle that is
 /// reported.
 ///
-/// Handles let objects hold one another, and nothing would take objects back that do so in a ring. So a class that
+/// Handles let objects hold one another, and nothing would take objects back that do so in a cycle. So a class that
 /// reaches itself by what its fields hold is refused. (AngelScript collects such objects instead.)
 pub fn class_ranks(alloc: Global, script: &Module) -> Result<Result<Vec<usize>, Cycle>, AllocError>
     ensures ranks { IfOk result (λ answer. IfOk answer (λ ranks.

@@ -1,13 +1,13 @@
-//! Ranks of places, each greater than those of the places that one goes to from there; or a way round.
+//! Ranks of places, each greater than those of the places that one goes to from there; or a cycle.
 
 ghost use Rattle.std.specs.Prelude.{◌≡◌, ℕ, length, IfOk, IfErr, OnOk};
-ghost use Rattle.ash_classes.specs.Ways.{IsForemost, IsReportedCycle, Reaches, AreRanks};
+ghost use Rattle.ash_classes.specs.Paths.{IsForemost, IsReportedCycle, Reaches, AreRanks};
 ghost use Rattle.ash_classes.specs.Marking.{rows_of, Goes, AreWithin, IsAt, AreDistances, IsNearest, unmarked};
 
 use crate::distances::distances_to;
 use std::alloc::{AllocError, Global};
 
-/// A way round: from the first place to the others in turn, and back.
+/// A cycle: from the first place to the others in turn, and back.
 #[derive(Debug, PartialEq, Eq, Drop)]
 pub struct Cycle {
     pub first: usize,
@@ -32,8 +32,8 @@ fn nearest(
     None
 }
 
-// The places between on the foremost of the shortest ways back.
-fn way_back(
+// The places between on the foremost of the shortest paths back.
+fn path_back(
     alloc: Global,
     referrers: &[Vec<usize>],
     distances: &[Option<usize>],
@@ -43,9 +43,10 @@ fn way_back(
     requires distances { AreDistances (Goes (rows_of referrers.now)) (length referrers.now) first
         distances.now }
     requires back { IsAt distances.now first between }
-    ensures { IfOk result (λ way. IsForemost (Goes (rows_of referrers.now)) first way.items first) }
+    ensures { IfOk result (λ path.
+        IsForemost (Goes (rows_of referrers.now)) first path.items first) }
 {
-    let mut way = Vec::new(alloc);
+    let mut path = Vec::new(alloc);
     let mut at = first;
     let mut remaining = between;
     'steps: while remaining > 0 {
@@ -53,10 +54,10 @@ fn way_back(
         let Some(next) = nearest(referrers, distances, at, remaining) else {
             unreachable!();
         };
-        way.push(next)?;
+        path.push(next)?;
         at = next;
     }
-    Ok(way)
+    Ok(path)
 }
 
 // How many places have no distance.
@@ -69,7 +70,8 @@ fn count_unmarked(distances: &[Option<usize>]) -> usize
         .count()
 }
 
-/// A rank for each place; or the way round from the first place that reaches itself, by the first of its shortest ways.
+/// A rank for each place; or the cycle from the first place that reaches itself, by the first of its shortest paths
+/// back.
 ///
 /// `referrers` has for each place those that go to it, each below the number of places.
 pub(crate) fn ranks(
@@ -88,7 +90,7 @@ pub(crate) fn ranks(
     for first in 0..referrers.len() {
         let distances = distances_to(alloc, referrers, first)?;
         if let Some(between) = distances[first] {
-            let others = way_back(alloc, referrers, &distances, first, between)?;
+            let others = path_back(alloc, referrers, &distances, first, between)?;
             return Ok(Err(Cycle { first, others }));
         }
         ranks.push(count_unmarked(&distances) - 1)?;

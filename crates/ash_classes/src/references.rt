@@ -4,7 +4,7 @@ ghost use Rattle.std.specs.Prelude.{◌≡◌, ◌↔◌, ℕ, length, map, stri
 ghost use Rattle.std.specs.List.{Any};
 ghost use Rattle.ash_tree.specs.Views.{element_of, type_of, type_name_of, member_of, class_of, item_of, module_of};
 ghost use Rattle.ash_classes.specs.References.{IsOf, ElementNames, Names, Holds, RefersTo, RefersAt, Refers};
-ghost use Rattle.ash_classes.specs.References.{classes_of, seen};
+ghost use Rattle.ash_classes.specs.References.{classes_of, borrowed_classes};
 ghost use Rattle.ash_classes.specs.Marking.{rows_of, Goes};
 
 use ash_tree::{Class, Element, ElementKind, Item, Member, Module, Type, TypeKind, TypeName};
@@ -76,7 +76,8 @@ fn refers(from: &Class, to: &Class) -> bool
 
 /// The classes of a module, in their order.
 pub fn classes(alloc: Global, items: &[Item]) -> Result<Vec<&Class>, AllocError>
-    ensures { IfOk result (λ classes. seen classes.items ≡ classes_of (map item_of items.now)) }
+    ensures in_order { IfOk result (λ classes.
+        borrowed_classes classes.items ≡ classes_of (map item_of items.now)) }
 {
     let mut classes = Vec::new(alloc);
     for item in items {
@@ -89,7 +90,8 @@ pub fn classes(alloc: Global, items: &[Item]) -> Result<Vec<&Class>, AllocError>
 
 fn row_of(alloc: Global, classes: &[&Class], to: &Class) -> Result<Vec<usize>, AllocError>
     ensures { IfOk result (λ row. (from : ℕ)
-        → Contains row.items from ↔ RefersAt (seen classes.now) from (class_of to.now)) }
+        → Contains row.items from
+        ↔ RefersAt (borrowed_classes classes.now) from (class_of to.now)) }
 {
     let mut row = Vec::new(alloc);
     for (place, from) in classes.iter().enumerate() {
@@ -104,7 +106,7 @@ fn row_of(alloc: Global, classes: &[&Class], to: &Class) -> Result<Vec<usize>, A
 pub(crate) fn referrers(alloc: Global, classes: &[&Class]) -> Result<Vec<Vec<usize>>, AllocError>
     ensures places { IfOk result (λ rows. length rows.items ≡ length classes.now) }
     ensures rows { IfOk result (λ rows. (from to : ℕ)
-        → Goes (rows_of rows.items) from to ↔ Refers (seen classes.now) from to) }
+        → Goes (rows_of rows.items) from to ↔ Refers (borrowed_classes classes.now) from to) }
 {
     let mut rows = Vec::new(alloc);
     for to in classes {

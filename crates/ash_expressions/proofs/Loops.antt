@@ -9,7 +9,7 @@ use Rattle.ash_typing.specs.TypingResult.{TypingResult, ◌>>=◌}
 use Rattle.ash_typed.specs.Tree.{Expr, Exprs, no_expr, expr, exprs}
 use Rattle.ash_typed.specs.Views.{expr_of}
 use Rattle.ash_typing.specs.Environment.{Environment, Class}
-use Rattle.ash_typing.specs.Expressions.{Typed, coerced_for_assignment, all_coerced, typed, all_typed}
+use Rattle.ash_typing.specs.Expressions.{TypedExpr, coerced_for_assignment, all_coerced, typed, all_typed}
 use Rattle.ash_expressions.specs.declared.error.CheckError.{CheckError}
 use Rattle.ash_expressions.specs.declared.error.CheckError.TheVariants as errors
 use Rattle.ash_expressions.specs.Agreement.{FailsWith}
@@ -51,34 +51,34 @@ map_push : (es : List code.Expr) (e : code.Expr) → map expr_of (es ++ e ∷ []
 map_push [] e = refl
 map_push (x ∷ es) e = ap (λ r. expr_of x ∷ r) (map_push es e)
 
-abbrev pub coerced_after : List Class → List Expr → List Ty → List Typed → TypingResult Exprs
+abbrev pub coerced_after : List Class → List Expr → List Ty → List TypedExpr → TypingResult Exprs
 coerced_after classes done ps ts = all_coerced classes ps ts >>= λ es. Ok (before done es)
 
 -- the outcome of one argument, and then of those after it
-abbrev first_then : List Class → List Expr → List Ty → List Typed → TypingResult Expr → TypingResult Exprs
+abbrev first_then : List Class → List Expr → List Ty → List TypedExpr → TypingResult Expr → TypingResult Exprs
 first_then classes done ps ts r = (r >>= λ e. all_coerced classes ps ts >>= λ es. Ok (expr e es)) >>= λ es. Ok (before done es)
 
 module _ (classes : List Class) where
-  pub none_before : (ps : List Ty) (ts : List Typed) → coerced_after classes [] ps ts ≡ all_coerced classes ps ts
+  pub none_before : (ps : List Ty) (ts : List TypedExpr) → coerced_after classes [] ps ts ≡ all_coerced classes ps ts
   none_before ps ts = bind_same (all_coerced classes ps ts)
 
-  pub no_argument : (done : List Expr) (ps : List Ty) (ts : List Typed) → length ts ≤ 0 → coerced_after classes done ps ts ≡ Ok (exprs done)
+  pub no_argument : (done : List Expr) (ps : List Ty) (ts : List TypedExpr) → length ts ≤ 0 → coerced_after classes done ps ts ≡ Ok (exprs done)
   no_argument done [] [] h = ap Ok (before-none done)
   no_argument done (p ∷ ps) [] h = ap Ok (before-none done)
   no_argument done ps (t ∷ ts) h = absurd (omega arith)
 
-  pub no_parameter : (done : List Expr) (ps : List Ty) (ts : List Typed) → first_and_rest ps ≡ None → coerced_after classes done ps ts ≡ Ok (exprs done)
+  pub no_parameter : (done : List Expr) (ps : List Ty) (ts : List TypedExpr) → first_and_rest ps ≡ None → coerced_after classes done ps ts ≡ Ok (exprs done)
   no_parameter done [] ts h = ap Ok (before-none done)
   no_parameter done (p ∷ ps) ts h = absurd (no_first p ps h)
 
-  one_more : (done : List Expr) (ps : List Ty) (ts : List Typed) (p : Ty) (qs : List Ty) (t : Typed) (us : List Typed) → first_and_rest ps ≡ Some (p, qs) → ts ≡ t ∷ us → coerced_after classes done ps ts ≡ first_then classes done qs us (coerced_for_assignment classes p t)
+  one_more : (done : List Expr) (ps : List Ty) (ts : List TypedExpr) (p : Ty) (qs : List Ty) (t : TypedExpr) (us : List TypedExpr) → first_and_rest ps ≡ Some (p, qs) → ts ≡ t ∷ us → coerced_after classes done ps ts ≡ first_then classes done qs us (coerced_for_assignment classes p t)
   one_more done ps ts p qs t us h k = ap (λ x. coerced_after classes done x ts) (split_is ps p qs h) ∙ ap (λ x. coerced_after classes done (p ∷ qs) x) k
 
-  pub stops : (done : List Expr) (ps : List Ty) (ts : List Typed) (p : Ty) (qs : List Ty) (t : Typed) (us : List Typed) (e : CheckError) (whole : TypingResult Exprs) → first_and_rest ps ≡ Some (p, qs) → ts ≡ t ∷ us → FailsWith e (coerced_for_assignment classes p t) → coerced_after classes done ps ts ≡ whole → FailsWith e whole
+  pub stops : (done : List Expr) (ps : List Ty) (ts : List TypedExpr) (p : Ty) (qs : List Ty) (t : TypedExpr) (us : List TypedExpr) (e : CheckError) (whole : TypingResult Exprs) → first_and_rest ps ≡ Some (p, qs) → ts ≡ t ∷ us → FailsWith e (coerced_for_assignment classes p t) → coerced_after classes done ps ts ≡ whole → FailsWith e whole
   stops done ps ts p qs t us (errors.Fault f) whole h k broken so = sym so ∙ one_more done ps ts p qs t us h k ∙ ap (first_then classes done qs us) broken
   stops done ps ts p qs t us errors.NoMemory whole h k broken so = tt
 
-  pub goes_on : (done : List code.Expr) (e : code.Expr) (new : List code.Expr) (ps : List Ty) (ts : List Typed) (p : Ty) (qs : List Ty) (t : Typed) (us : List Typed) (whole : TypingResult Exprs) → new ≡ done ++ e ∷ [] → first_and_rest ps ≡ Some (p, qs) → ts ≡ t ∷ us → coerced_for_assignment classes p t ≡ Ok (expr_of e) → coerced_after classes (map expr_of done) ps ts ≡ whole → coerced_after classes (map expr_of new) qs us ≡ whole
+  pub goes_on : (done : List code.Expr) (e : code.Expr) (new : List code.Expr) (ps : List Ty) (ts : List TypedExpr) (p : Ty) (qs : List Ty) (t : TypedExpr) (us : List TypedExpr) (whole : TypingResult Exprs) → new ≡ done ++ e ∷ [] → first_and_rest ps ≡ Some (p, qs) → ts ≡ t ∷ us → coerced_for_assignment classes p t ≡ Ok (expr_of e) → coerced_after classes (map expr_of done) ps ts ≡ whole → coerced_after classes (map expr_of new) qs us ≡ whole
   goes_on done e new ps ts p qs t us whole same h k fine so =
       ap (λ x. coerced_after classes x qs us) (ap (map expr_of) same ∙ map_push done e)
       ∙ sym (push_more (map expr_of done) (expr_of e) (all_coerced classes qs us))
@@ -88,23 +88,23 @@ module _ (classes : List Class) where
 
 -- arguments that are typed
 
-abbrev pub typed_after : List Typed → TypingResult (List Typed) → TypingResult (List Typed)
+abbrev pub typed_after : List TypedExpr → TypingResult (List TypedExpr) → TypingResult (List TypedExpr)
 typed_after done r = r >>= λ ts. Ok (done ++ ts)
 
-pub none_typed : (r : TypingResult (List Typed)) → typed_after [] r ≡ r
+pub none_typed : (r : TypingResult (List TypedExpr)) → typed_after [] r ≡ r
 none_typed (Ok ts) = refl
 none_typed (Err f) = refl
 
-pub all_are_typed : (done : List Typed) → typed_after done (Ok []) ≡ Ok done
+pub all_are_typed : (done : List TypedExpr) → typed_after done (Ok []) ≡ Ok done
 all_are_typed done = ap Ok (append-nil done)
 
-more_typed : (done : List Typed) (t : Typed) (r : TypingResult (List Typed)) → typed_after done (r >>= λ ts. Ok (t ∷ ts)) ≡ typed_after (done ++ t ∷ []) r
+more_typed : (done : List TypedExpr) (t : TypedExpr) (r : TypingResult (List TypedExpr)) → typed_after done (r >>= λ ts. Ok (t ∷ ts)) ≡ typed_after (done ++ t ∷ []) r
 more_typed done t (Ok ts) = ap Ok (sym (append_assoc done (t ∷ []) ts))
 more_typed done t (Err f) = refl
 
-pub typed_next : (env : Environment) (done : List Typed) (e : written.Expr) (es : written.Exprs) (t : Typed) → typed env false e ≡ Ok t → typed_after done (all_typed env (written.expr e es)) ≡ typed_after (done ++ t ∷ []) (all_typed env es)
+pub typed_next : (env : Environment) (done : List TypedExpr) (e : written.Expr) (es : written.Exprs) (t : TypedExpr) → typed env false e ≡ Ok t → typed_after done (all_typed env (written.expr e es)) ≡ typed_after (done ++ t ∷ []) (all_typed env es)
 typed_next env done e es t h =
     ap (λ r. typed_after done (r >>= λ x. all_typed env es >>= λ ts. Ok (x ∷ ts))) h ∙ more_typed done t (all_typed env es)
 
-pub typed_ends : (env : Environment) (done : List Typed) (e : written.Expr) (es : written.Exprs) (f : Fault) → typed env false e ≡ Err f → typed_after done (all_typed env (written.expr e es)) ≡ Err f
+pub typed_ends : (env : Environment) (done : List TypedExpr) (e : written.Expr) (es : written.Exprs) (f : Fault) → typed env false e ≡ Err f → typed_after done (all_typed env (written.expr e es)) ≡ Err f
 typed_ends env done e es f h = ap (λ r. typed_after done (r >>= λ x. all_typed env es >>= λ ts. Ok (x ∷ ts))) h

@@ -1,8 +1,8 @@
 -- The checker's structs, as the definitions of typing see them.
 use Rattle.std.specs.Prelude.{ℕ, List, [], ◌∷◌, Bool, true, false, Option, Some, None, map, option_map}
 use Rattle.ash_expressions.specs.declared.typed_expr.TypedExpr as typed_expr
-use Rattle.ash_expressions.specs.declared.forms.Position.{Position}
-use Rattle.ash_expressions.specs.declared.forms.Position.TheVariants as positions
+use Rattle.ash_expressions.specs.declared.forms.AssignmentSide.{AssignmentSide}
+use Rattle.ash_expressions.specs.declared.forms.AssignmentSide.TheVariants as sides
 use Rattle.ash_expressions.specs.declared.signatures.Binding as binding
 use Rattle.ash_expressions.specs.declared.signatures.FunctionSignature as function
 use Rattle.ash_expressions.specs.declared.signatures.InterfaceSignature as interface
@@ -25,9 +25,9 @@ use Rattle.ash_typed.specs.declared.tree.expressions.Expr as expr_code
 use Rattle.ash_typing.specs.Types.{ty_of}
 use Rattle.ash_typing.specs.Environment.{Declared, Function, Interface, Class, ModuleDeclarations, Environment, Known}
 use Rattle.ash_typing.specs.Environment.{Callee, Invoked}
-use Rattle.ash_typing.specs.Expressions.{Typed, UnifiedOperands}
+use Rattle.ash_typing.specs.Expressions.{TypedExpr, UnifiedOperands}
 
-abbrev pub typed_of : typed_expr.TypedExpr → Typed
+abbrev pub typed_of : typed_expr.TypedExpr → TypedExpr
 typed_of t = record { at = t.at; ty = t.ty; form = t.form; tree = expr_of t.tree }
 
 abbrev pub binding_of : binding.Binding → Declared
@@ -83,9 +83,9 @@ abbrev pub placed_class : ℕ × Bor class.ClassSignature → ℕ × Class
 placed_class found = (found.0, class_signature_of found.1.now)
 
 -- whether an expression is left of `=`
-abbrev pub is_target : Position → Bool
-is_target positions.Target = true
-is_target positions.Value = false
+abbrev pub is_target : AssignmentSide → Bool
+is_target sides.Target = true
+is_target sides.Value = false
 
 abbrev pub known_of : expr_code.Expr × Ty → Known
 known_of known = (expr_of known.0, known.1)
@@ -111,7 +111,7 @@ optional_method_callee m = option_map method_callee_of m
 abbrev pub arguments_of : Vec expr_code.Expr Global → Exprs
 arguments_of es = exprs (map expr_of es.items)
 
-abbrev pub all_typed_of : Vec typed_expr.TypedExpr Global → List Typed
+abbrev pub all_typed_of : Vec typed_expr.TypedExpr Global → List TypedExpr
 all_typed_of ts = map typed_of ts.items
 
 -- the first parameter, and the others

@@ -32,7 +32,7 @@ fn array_parameters<'a>(count: usize) -> Parameters<'a>
 
 /// The construction of an array by so many arguments.
 pub fn array_callee<'a>(of: Element, count: usize) -> Callee<'a>
-    ensures { callee_of result ≡ environment.array_built of count }
+    ensures constructs_array { callee_of result ≡ environment.array_built of count }
 {
     Callee {
         target: Callable::Target(Target::Array(of)),

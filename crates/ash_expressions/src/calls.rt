@@ -107,7 +107,7 @@ pub fn build_call(
     callee: &Callee,
     arguments: Arguments,
 ) -> CheckResult<TypedExpr>
-    ensures { Agrees typed_of result
+    ensures typed_call { Agrees typed_of result
         (typing.called (classes_of env.now) arguments.at (callee_of callee.now)
         (map typed_of arguments.exprs.items) (option_map parameters_of callee.now.parameters)) }
 {

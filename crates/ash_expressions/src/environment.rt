@@ -153,7 +153,7 @@ impl<'a, 'n> Environment<'a, 'n> {
 
     /// A registered type, as it is constructed.
     pub fn host_type_callee(&self, call: &Registration) -> Option<Callee<'a>>
-        ensures { option_map callee_of result
+        ensures constructs_host_object { option_map callee_of result
             ≡ environment.host_type (registered self.now.registry.now) (call_of call.now) }
     {
         match call {

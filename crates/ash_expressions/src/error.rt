@@ -21,7 +21,7 @@ pub type CheckResult<T> = Result<T, CheckError>;
 
 /// The error of a rule that is broken at this offset.
 pub fn fault_at(rule: Rule, at: usize) -> CheckError
-    ensures { result ≡ error_at rule at }
+    ensures rule_at_offset { result ≡ error_at rule at }
 {
     CheckError::Fault(Fault { rule, at })
 }

@@ -17,7 +17,7 @@ use crate::calls::{
 };
 use crate::environment::Environment;
 use crate::error::CheckResult;
-use crate::forms::{Position, target_position};
+use crate::forms::{AssignmentSide, target_side};
 use crate::operators::{
     Prefix, build_binary, build_cast, build_conditional, build_conversion, build_step, build_unary,
     cast_target,
@@ -25,15 +25,15 @@ use crate::operators::{
 use crate::type_names::{element_named, object_named};
 use crate::typed_expr::TypedExpr;
 use ash_tree::{AssignOp, Element, Expr, ExprKind, Link, Primitive, Suffix, TypeName};
-use ash_typed::{Expr as Tree, Step};
+use ash_typed::{Expr as Tree, IncrementOp};
 use ash_typing::Ty;
 
 /// Checks an expression. One with parts is checked by a function of its own, so that the frame of this one, which each
 /// level pays for, stays small.
 #[cycle(expressions)]
-pub fn check_expr(env: &Environment, position: Position, source: &Expr) -> CheckResult<TypedExpr>
-    ensures { Agrees typed_of result
-        (typing.typed (environment_of env.now) (is_target position) (written.expr_of source.now)) }
+pub fn check_expr(env: &Environment, side: AssignmentSide, source: &Expr) -> CheckResult<TypedExpr>
+    ensures typed_as_defined { Agrees typed_of result
+        (typing.typed (environment_of env.now) (is_target side) (written.expr_of source.now)) }
 {
     let at = source.place.at;
     match &source.kind {
@@ -67,7 +67,7 @@ pub fn check_expr(env: &Environment, position: Position, source: &Expr) -> Check
             let prefix = Prefix {
                 at,
                 operator: *operator,
-                position,
+                side,
             };
             check_unary(env, prefix, operand)
         }
@@ -93,7 +93,7 @@ fn check_brackets(env: &Environment, at: usize, inner: &Expr) -> CheckResult<Typ
         (typing.typed (environment_of env.now) false (written.expr_of inner.now)
         and_then λ t. Ok (typing.in_brackets at t)) }
 {
-    let inner = check_expr(env, Position::Value, inner)?;
+    let inner = check_expr(env, AssignmentSide::Value, inner)?;
     Ok(build_brackets(at, inner))
 }
 
@@ -110,7 +110,7 @@ fn check_conversion(
         (typing.typed (environment_of env.now) false (written.expr_of value.now)
         and_then λ t. typing.convert_at at to t) }
 {
-    let value = check_expr(env, Position::Value, value)?;
+    let value = check_expr(env, AssignmentSide::Value, value)?;
     build_conversion(env.alloc, at, to, value)
 }
 
@@ -127,7 +127,7 @@ fn check_cast(env: &Environment, at: usize, to: &TypeName, value: &Expr) -> Chec
 {
     let object = object_named(env.registry, env.signatures, to.name.as_str());
     let to = cast_target(to.place.at, object)?;
-    let value = check_expr(env, Position::Value, value)?;
+    let value = check_expr(env, AssignmentSide::Value, value)?;
     build_cast(env.alloc, at, to, value)
 }
 
@@ -157,9 +157,9 @@ fn check_new_array(
 fn check_unary(env: &Environment, prefix: Prefix, operand: &Expr) -> CheckResult<TypedExpr>
     ensures { Agrees typed_of result
         (typing.typed (environment_of env.now) false (written.expr_of operand.now)
-        and_then λ t. typing.unary_at (is_target prefix.position) prefix.at prefix.operator t) }
+        and_then λ t. typing.unary_at (is_target prefix.side) prefix.at prefix.operator t) }
 {
-    let operand = check_expr(env, Position::Value, operand)?;
+    let operand = check_expr(env, AssignmentSide::Value, operand)?;
     build_unary(env.alloc, prefix, operand)
 }
 
@@ -172,9 +172,9 @@ fn check_binary(env: &Environment, first: &Expr, operators: &[Link]) -> CheckRes
         and_then λ t. typing.links_typed (environment_of env.now) t
         (links (map written.operation_of operators.now))) }
 {
-    let mut typed = check_expr(env, Position::Value, first)?;
+    let mut typed = check_expr(env, AssignmentSide::Value, first)?;
     for link in operators {
-        let operand = check_expr(env, Position::Value, &link.operand)?;
+        let operand = check_expr(env, AssignmentSide::Value, &link.operand)?;
         typed = build_binary(env.alloc, link.operator, typed, operand)?;
     }
     Ok(typed)
@@ -195,9 +195,9 @@ fn check_conditional(
         and_then λ a. typing.typed (environment_of env.now) false (written.expr_of otherwise.now)
         and_then λ b. typing.choice c a b) }
 {
-    let condition = check_expr(env, Position::Value, condition)?;
-    let then = check_expr(env, Position::Value, then)?;
-    let otherwise = check_expr(env, Position::Value, otherwise)?;
+    let condition = check_expr(env, AssignmentSide::Value, condition)?;
+    let then = check_expr(env, AssignmentSide::Value, then)?;
+    let otherwise = check_expr(env, AssignmentSide::Value, otherwise)?;
     build_conditional(env.alloc, condition, then, otherwise)
 }
 
@@ -216,8 +216,8 @@ fn check_assignment(
         and_then λ t. typing.typed (environment_of env.now) false (written.expr_of value.now)
         and_then λ v. typing.assigned (classes_of env.now) t operator v) }
 {
-    let target = check_expr(env, target_position(operator), target)?;
-    let value = check_expr(env, Position::Value, value)?;
+    let target = check_expr(env, target_side(operator), target)?;
+    let value = check_expr(env, AssignmentSide::Value, value)?;
     build_assignment(env, target, operator, value)
 }
 
@@ -238,12 +238,12 @@ fn check_call(env: &Environment, name: Name, arguments: &[Expr]) -> CheckResult<
 /// Checks expressions in their order.
 #[cycle(expressions)]
 pub fn check_exprs(env: &Environment, arguments: &[Expr]) -> CheckResult<Vec<TypedExpr>>
-    ensures { Agrees all_typed_of result
+    ensures all_typed_in_order { Agrees all_typed_of result
         (typing.all_typed (environment_of env.now) (exprs (map written.expr_of arguments.now))) }
 {
     let mut typed = Vec::with_capacity(env.alloc, arguments.len())?;
     for argument in arguments {
-        typed.push(check_expr(env, Position::Value, argument)?)?;
+        typed.push(check_expr(env, AssignmentSide::Value, argument)?)?;
     }
     Ok(typed)
 }
@@ -257,7 +257,7 @@ fn check_postfix(env: &Environment, operand: &Expr, rest: &[Suffix]) -> CheckRes
         and_then λ t. typing.suffixes_typed (environment_of env.now) t
         (suffixes (map written.suffix_of rest.now))) }
 {
-    let mut typed = check_expr(env, Position::Value, operand)?;
+    let mut typed = check_expr(env, AssignmentSide::Value, operand)?;
     for suffix in rest {
         typed = check_suffix(env, typed, suffix)?;
     }
@@ -295,8 +295,8 @@ fn check_suffix(env: &Environment, base: TypedExpr, suffix: &Suffix) -> CheckRes
             arguments,
         ),
         Suffix::Index(value) => check_index(env, base, value),
-        Suffix::Increment => build_step(env.alloc, base.at, Step::IncrementAfter, base),
-        Suffix::Decrement => build_step(env.alloc, base.at, Step::DecrementAfter, base),
+        Suffix::Increment => build_step(env.alloc, base.at, IncrementOp::IncrementAfter, base),
+        Suffix::Decrement => build_step(env.alloc, base.at, IncrementOp::DecrementAfter, base),
     }
 }
 
@@ -308,7 +308,7 @@ fn check_index(env: &Environment, base: TypedExpr, value: &Expr) -> CheckResult<
         (typing.typed (environment_of env.now) false (written.expr_of value.now)
         and_then λ i. typing.indexed (typed_of base) base.ty i) }
 {
-    let value = check_expr(env, Position::Value, value)?;
+    let value = check_expr(env, AssignmentSide::Value, value)?;
     build_index(env.alloc, base, value)
 }
 

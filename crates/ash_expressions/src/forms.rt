@@ -1,4 +1,4 @@
-//! The form of an expression and its position: what can be assigned, and where.
+//! The form of an expression and its side: what can be assigned, and where.
 
 ghost use Rattle.std.specs.Prelude.{◌≡◌, option_map, IfOk};
 ghost use Rattle.ash_typed.specs.Views.{expr_of, place_of};
@@ -13,20 +13,20 @@ use std::alloc::{AllocError, Global};
 
 /// Where an expression is.
 #[derive(Clone, Copy)]
-pub enum Position {
+pub enum AssignmentSide {
     /// Left of `=`, where the sign `@` makes a place one that takes a handle.
     Target,
     /// Anywhere else.
     Value,
 }
 
-/// The position of what an operator assigns to.
-pub(crate) fn target_position(operator: AssignOp) -> Position
+/// The side of what an operator assigns to.
+pub(crate) fn target_side(operator: AssignOp) -> AssignmentSide
     ensures { is_target result ≡ typing.is_assign operator }
 {
     match operator {
-        AssignOp::Assign => Position::Target,
-        _ => Position::Value,
+        AssignOp::Assign => AssignmentSide::Target,
+        _ => AssignmentSide::Value,
     }
 }
 

@@ -42,7 +42,7 @@ pub use calls::{Arguments, build_call};
 pub use environment::Environment;
 pub use error::{CheckError, CheckResult, fault_at};
 pub use expressions::{check_expr, check_exprs};
-pub use forms::Position;
+pub use forms::AssignmentSide;
 pub use lookup::first_function;
 pub use parameters::Parameters;
 pub use signatures::{Binding, ClassSignature, FunctionSignature, InterfaceSignature, Signatures};

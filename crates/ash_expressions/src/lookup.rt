@@ -39,7 +39,7 @@ pub fn first_function<'a, 'n>(
     all: &'a [FunctionSignature<'n>],
     name: &str,
 ) -> Option<(usize, &'a FunctionSignature<'n>)>
-    ensures { option_map placed_function result
+    ensures first_of_name { option_map placed_function result
         ≡ environment.first_from (environment.is_called name.now) 0
         (map function_signature_of all.now) }
 {

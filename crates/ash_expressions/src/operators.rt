@@ -9,7 +9,7 @@ ghost use Rattle.ash_expressions.specs.Agreement.{Agrees};
 ghost use Rattle.ash_expressions.specs.Views.{typed_of, unified_of, is_target};
 
 use crate::error::{CheckResult, fault_at};
-use crate::forms::{Position, assignable_place, handle_form};
+use crate::forms::{AssignmentSide, assignable_place, handle_form};
 use crate::operator_types::{
     accepts, assumed_type, common_operands, operand_integer_type, operand_type, operator_class,
     operator_result, typed_operator,
@@ -18,7 +18,8 @@ use crate::typed_expr::{TypedExpr, adapt_operand, check_bool, coerce, handle_typ
 use crate::types::{common_type, conversion, is_void, signed_type, ty_of};
 use ash_tree::{BinaryOp, Primitive, UnaryOp};
 use ash_typed::{
-    Calculation, Change, Expr, IntType, Lazy, ObjectType, Operand, Operands, Operation, Step, nodes,
+    Calculation, Change, Expr, IncrementOp, IntType, Lazy, ObjectType, Operand, Operands,
+    Operation, nodes,
 };
 use ash_typing::{Operator, OperatorClass, Rule, Ty};
 use std::alloc::{AllocError, Global};
@@ -28,7 +29,7 @@ use std::alloc::{AllocError, Global};
 pub(crate) struct Prefix {
     pub(crate) at: usize,
     pub(crate) operator: UnaryOp,
-    pub(crate) position: Position,
+    pub(crate) side: AssignmentSide,
 }
 
 /// The operands of an operator, converted to one type, and what the operator takes them for.
@@ -194,7 +195,7 @@ pub(crate) fn build_binary(
 pub(crate) fn build_step(
     alloc: Global,
     at: usize,
-    step: Step,
+    step: IncrementOp,
     operand: TypedExpr,
 ) -> CheckResult<TypedExpr>
     ensures { Agrees typed_of result
@@ -256,17 +257,17 @@ fn build_change(
 }
 
 /// `@operand`
-fn build_handle(position: Position, at: usize, operand: TypedExpr) -> CheckResult<TypedExpr>
-    ensures { Agrees typed_of result (typing.handle_at (is_target position) at (typed_of operand)) }
+fn build_handle(side: AssignmentSide, at: usize, operand: TypedExpr) -> CheckResult<TypedExpr>
+    ensures { Agrees typed_of result (typing.handle_at (is_target side) at (typed_of operand)) }
 {
-    match position {
-        Position::Target => Ok(TypedExpr {
+    match side {
+        AssignmentSide::Target => Ok(TypedExpr {
             at,
             ty: operand.ty,
             form: handle_form(operand.form),
             tree: operand.tree,
         }),
-        Position::Value => {
+        AssignmentSide::Value => {
             let of = handle_type(operand.at, operand.ty)?;
             Ok(TypedExpr::value(at, of, operand.tree))
         }
@@ -281,7 +282,7 @@ pub(crate) fn build_unary(
     operand: TypedExpr,
 ) -> CheckResult<TypedExpr>
     ensures { Agrees typed_of result
-        (typing.unary_at (is_target prefix.position) prefix.at prefix.operator (typed_of operand)) }
+        (typing.unary_at (is_target prefix.side) prefix.at prefix.operator (typed_of operand)) }
 {
     let at = prefix.at;
     match prefix.operator {
@@ -301,9 +302,9 @@ pub(crate) fn build_unary(
             check_bool(operand.at, operand.ty)?;
             build_change(alloc, at, Ty::Bool, Change::Not, operand)
         }
-        UnaryOp::Increment => build_step(alloc, at, Step::Increment, operand),
-        UnaryOp::Decrement => build_step(alloc, at, Step::Decrement, operand),
-        UnaryOp::Handle => build_handle(prefix.position, at, operand),
+        UnaryOp::Increment => build_step(alloc, at, IncrementOp::Increment, operand),
+        UnaryOp::Decrement => build_step(alloc, at, IncrementOp::Decrement, operand),
+        UnaryOp::Handle => build_handle(prefix.side, at, operand),
     }
 }
 

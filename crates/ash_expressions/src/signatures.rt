@@ -97,7 +97,7 @@ impl<'a> Signatures<'a> {
 
     /// The first interface of this name, with its place.
     pub fn interface(&self, name: &str) -> Option<(usize, &InterfaceSignature<'a>)>
-        ensures { option_map placed_interface result
+        ensures interface_found { option_map placed_interface result
             ≡ environment.first_from (environment.is_interface_named name.now) 0
             (map interface_signature_of self.now.interfaces.items) }
     {
@@ -108,7 +108,7 @@ impl<'a> Signatures<'a> {
 
     /// The first class of this name, with its place.
     pub fn class(&self, name: &str) -> Option<(usize, &ClassSignature<'a>)>
-        ensures { option_map placed_class result
+        ensures class_found { option_map placed_class result
             ≡ environment.first_from (environment.is_class name.now) 0
             (map class_signature_of self.now.classes.items) }
     {

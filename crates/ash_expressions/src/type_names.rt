@@ -32,7 +32,7 @@ pub fn object_named(
     signatures: &Signatures,
     name: &str,
 ) -> Option<ObjectType>
-    ensures { result
+    ensures object_found { result
         ≡ definition.object_named (registered registry.now) (signatures_of signatures.now)
         name.now }
 {
@@ -77,7 +77,7 @@ pub fn element_named(
     signatures: &Signatures,
     of: &ash_tree::Element,
 ) -> Option<Element>
-    ensures { result
+    ensures element_found { result
         ≡ definition.element_named (registered registry.now) (signatures_of signatures.now)
         (element_of of.now) }
 {
@@ -124,7 +124,7 @@ fn handle_type_of(object: Option<ObjectType>) -> Ty
 /// The type that is written.
 #[tactic(auto, unfolding(ash_typing::specs::ModuleDeclarations::ty_named))]
 pub fn ty_named(registry: &Registrations, signatures: &Signatures, of: &Type) -> Ty
-    ensures { result
+    ensures type_found { result
         ≡ definition.ty_named (registered registry.now) (signatures_of signatures.now)
         (type_of of.now) }
 {
@@ -139,7 +139,7 @@ pub fn ty_named(registry: &Registrations, signatures: &Signatures, of: &Type) ->
 
 /// The type of a function's result: `void` where none is written.
 pub fn result_named(registry: &Registrations, signatures: &Signatures, of: &Option<Type>) -> Ty
-    ensures { result
+    ensures void_if_none { result
         ≡ definition.result_named (registered registry.now) (signatures_of signatures.now)
         (option_map type_of of.now) }
 {

@@ -77,7 +77,7 @@ pub(crate) fn coerce(alloc: Global, to: Ty, typed: TypedExpr) -> Result<Expr, Al
 /// The value, converted to the type `to` of the variable that it is assigned to.
 #[tactic(auto, unfolding(ash_typing::specs::Expressions::coerced_for_assignment))]
 pub fn coerce_for_assignment(env: &Environment, to: Ty, typed: TypedExpr) -> CheckResult<Expr>
-    ensures { Agrees expr_of result
+    ensures fits_and_converted { Agrees expr_of result
         (typing.coerced_for_assignment (classes_of env.now) to (typed_of typed)) }
 {
     if !fits(&env.signatures.classes, to, typed.ty) {
@@ -88,7 +88,7 @@ pub fn coerce_for_assignment(env: &Environment, to: Ty, typed: TypedExpr) -> Che
 
 /// The integer type of an operand.
 pub fn integer_type(at: usize, of: Ty) -> CheckResult<IntType>
-    ensures { Agrees (λ k. k) result (typing.integer_of at of) }
+    ensures integer_or_mismatch { Agrees (λ k. k) result (typing.integer_of at of) }
 {
     match of {
         Ty::Integer(int_type) => Ok(int_type),
@@ -99,7 +99,7 @@ pub fn integer_type(at: usize, of: Ty) -> CheckResult<IntType>
 
 /// Requires that an operand is a truth value.
 pub fn check_bool(at: usize, of: Ty) -> CheckResult<bool>
-    ensures { Agrees (λ k. k) result (typing.bool_of at of) }
+    ensures bool_or_mismatch { Agrees (λ k. k) result (typing.bool_of at of) }
 {
     match of {
         Ty::Bool | Ty::Unknown => Ok(true),

@@ -72,7 +72,7 @@ pub(crate) fn is_same_integer_type(one: IntType, other: IntType) -> bool
 
 /// Whether a type holds a number.
 pub fn holds(int_type: IntType, number: u64) -> bool
-    ensures { result ≡ types.holds int_type number }
+    ensures in_range { result ≡ types.holds int_type number }
 {
     match int_type {
         IntType::Int => number < 1 << 31,
@@ -124,7 +124,7 @@ pub(crate) fn is_same_object(one: ObjectType, other: ObjectType) -> bool
 
 /// Whether a type is the same as another, as far as both are known.
 pub fn is_same(one: Ty, other: Ty) -> bool
-    ensures { result ≡ types.is_same one other }
+    ensures same_as_far_as_known { result ≡ types.is_same one other }
 {
     match (one, other) {
         (Ty::Unknown, _) | (_, Ty::Unknown) => true,
@@ -137,7 +137,7 @@ pub fn is_same(one: Ty, other: Ty) -> bool
 
 /// The type of an array's elements.
 pub fn ty_of_element(of: Element) -> Ty
-    ensures { result ≡ types.ty_of_element of }
+    ensures element_type { result ≡ types.ty_of_element of }
 {
     match of {
         Element::Bool => Ty::Bool,
@@ -150,7 +150,7 @@ pub fn ty_of_element(of: Element) -> Ty
 
 /// The type of values of a primitive type.
 pub fn ty_of(primitive: Primitive) -> Ty
-    ensures { result ≡ types.ty_of primitive }
+    ensures primitive_type { result ≡ types.ty_of primitive }
 {
     match primitive {
         Primitive::Bool => Ty::Bool,
@@ -163,7 +163,7 @@ pub fn ty_of(primitive: Primitive) -> Ty
 
 /// The type of a variable, as a typed tree has it.
 pub fn var_type(of: Ty) -> VarType
-    ensures { result ≡ types.var_type of }
+    ensures variable_type { result ≡ types.var_type of }
 {
     match of {
         Ty::Bool | Ty::Null | Ty::Void | Ty::Unknown => VarType::Bool,
@@ -175,7 +175,7 @@ pub fn var_type(of: Ty) -> VarType
 
 /// The type of a function's result, as a typed tree has it: `void` is no type of a value.
 pub fn result_type(of: Ty) -> Option<VarType>
-    ensures { result ≡ types.result_type of }
+    ensures none_for_void { result ≡ types.result_type of }
 {
     match of {
         Ty::Void => None,
@@ -239,7 +239,7 @@ pub(crate) fn conversion(to: Ty, of: Ty) -> Option<Conversion>
 
 /// Whether a type is `void`.
 pub fn is_void(of: Ty) -> bool
-    ensures { result ≡ typing.is_void of }
+    ensures void_alone { result ≡ typing.is_void of }
 {
     matches!(of, Ty::Void)
 }

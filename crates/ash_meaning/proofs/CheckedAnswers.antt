@@ -21,7 +21,7 @@ use Rattle.ash_typing.specs.declared.fault.Rule.TheVariants as rules
 use Rattle.ash_typed.specs.Modules.{Module as Typed}
 use Rattle.ash_check.specs.declared.faults.CheckFault.{CheckFault}
 use Rattle.ash_classes.specs.References.{classes_of}
-use Rattle.ash_check.specs.Checks.{ScriptFault, checked, script_fault_of, round_of, IsReportedFault, Reports}
+use Rattle.ash_check.specs.Checks.{ScriptFault, checked, script_fault_of, names_of_cycle, IsReportedFault, Reports}
 use Rattle.ash_check.proofs.ExactLaws.{cyclic_is, cycle_is}
 use Rattle.ash_meaning.specs.Lexing.{IsText, Lexes}
 use Rattle.ash_meaning.specs.Scanning.{lexed}
@@ -216,9 +216,9 @@ cycle_reported registered source refusal (inr h) names is =
 checked_cycle : (registered : List Registration) (source : List ℕ) → HasCycle registered source → (refusal : Refusal)
     × (checked_source registered source ≡ Err refusal) × ReportsCycle registered source refusal
 checked_cycle registered source h =
-    let found = (cyclic_is registered h.items).1 (h.typed, h.class, h.by_rules, h.round) in
+    let found = (cyclic_is registered h.items).1 (h.typed, h.class, h.by_rules, h.cycle) in
     let k = (cycle_is registered h.items found.0).0 found.1 in
-    let refusal = refusals.CyclicType (round_of (classes_of h.items) (k.1, k.2)) in
+    let refusal = refusals.CyclicType (names_of_cycle (classes_of h.items) (k.1, k.2)) in
     let script : IsCyclicScript registered h.tokens refusal =
     record {
       items = h.items;

@@ -24,7 +24,7 @@ use Rattle.ash_typing.specs.declared.fault.Rule.{Rule}
 use Rattle.ash_typing.specs.declared.fault.Rule.TheVariants as rules
 use Rattle.ash_typed.specs.Modules.{Module as Typed}
 use Rattle.ash_classes.specs.References.{classes_of}
-use Rattle.ash_check.specs.Checks.{ScriptFault, Broken, Cyclic, checked, round_of}
+use Rattle.ash_check.specs.Checks.{ScriptFault, Broken, Cyclic, checked, names_of_cycle}
 use Rattle.ash_check.proofs.ExactLaws.{accepted_is, cycle_is, broken_is}
 use Rattle.ash_meaning.specs.Lexing.{IsText, Lexes, lexical}
 use Rattle.ash_meaning.specs.Scanning.{scan, lex_result, lexed}
@@ -122,7 +122,7 @@ untyped_only registered tokens refusal h = parsed registered tokens h.items h.de
 cyclic_only : (registered : List Registration) (tokens : List Lexeme) (refusal : Refusal)
     → IsCyclicScript registered tokens refusal → tokens_checked registered tokens ≡ Err refusal
 cyclic_only registered tokens refusal h =
-    let found = (cycle_is registered h.items (round_of (classes_of h.items) (h.first, h.others))).1
+    let found = (cycle_is registered h.items (names_of_cycle (classes_of h.items) (h.first, h.others))).1
     (h.typed, h.first, h.others, h.by_rules, h.cycle, refl) in
     parsed registered tokens h.items h.derived ∙ ap (unless_fault h.items) found
     ∙ ap (λ (r : Refusal). Err r) (sym h.reported)

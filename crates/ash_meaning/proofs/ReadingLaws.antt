@@ -6,7 +6,7 @@ use Rattle.ash_tree.specs.Tree.{Item}
 use Rattle.ash_registry.specs.Calls.{Registration}
 use Rattle.ash_meaning.specs.Lexing.{Lexes}
 use Rattle.ash_classes.specs.References.{classes_of}
-use Rattle.ash_check.specs.Checks.{Broken, Cyclic, round_of}
+use Rattle.ash_check.specs.Checks.{Broken, Cyclic, names_of_cycle}
 use Rattle.ash_meaning.specs.CheckedSource.{CheckResult, IsNoScript, IsUntypedScript, IsCyclicScript, ChecksTokens}
 use Rattle.ash_meaning.specs.CheckedSource.{Checks}
 use Rattle.ash_meaning.specs.CheckedSource.{no_tokens, has_tokens, checked_source, TakesMemoryToRefuse}
@@ -140,7 +140,7 @@ cyclic_reported : (registered : List Registration) (tokens : List Lexeme) (refus
     → IsCyclicScript registered tokens refusal → IsReported refusal
 cyclic_reported registered tokens refusal h =
     takes_is_reported refusal (subst TakesMemoryToRefuse (sym h.reported)
-    (takes_untyped (Cyclic (round_of (classes_of h.items) (h.first, h.others)))))
+    (takes_untyped (Cyclic (names_of_cycle (classes_of h.items) (h.first, h.others)))))
 
 tokens_reported : (registered : List Registration) (tokens : List Lexeme) (refusal : Refusal) → IsNoScript tokens refusal
     ⊎ IsUntypedScript registered tokens refusal ⊎ IsCyclicScript registered tokens refusal → IsReported refusal

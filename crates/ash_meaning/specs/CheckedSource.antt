@@ -25,8 +25,8 @@ use Rattle.ash_typing.specs.Items.{module_typed}
 use Rattle.ash_typing.specs.TypedModules.{IsTyped}
 use Rattle.ash_typed.specs.Modules.{Module}
 use Rattle.ash_classes.specs.References.{Refers, classes_of}
-use Rattle.ash_classes.specs.Ways.{IsReportedCycle, Reaches}
-use Rattle.ash_check.specs.Checks.{ScriptFault, Broken, Cyclic, checked, script_fault_of, round_of}
+use Rattle.ash_classes.specs.Paths.{IsReportedCycle, Reaches}
+use Rattle.ash_check.specs.Checks.{ScriptFault, Broken, Cyclic, checked, script_fault_of, names_of_cycle}
 use Rattle.ash_check.specs.declared.faults.CheckFault.{CheckFault}
 use Rattle.ash_meaning.specs.Lexing.{Lexes}
 use Rattle.ash_meaning.specs.Scanning.{lexed}
@@ -129,7 +129,7 @@ pub record IsCyclicScript (registered : List Registration) (tokens : List Lexeme
   pub first : ℕ
   pub others : List ℕ
   pub cycle : IsReportedCycle (Refers (classes_of items)) first others
-  pub reported : refusal ≡ refusals.CyclicType (round_of (classes_of items) (first, others))
+  pub reported : refusal ≡ refusals.CyclicType (names_of_cycle (classes_of items) (first, others))
 
 -- what checking the tokens of a source comes to
 abbrev pub ChecksTokens : List Registration → List Lexeme → CheckResult → Type 0
@@ -162,7 +162,7 @@ pub record HasCycle (registered : List Registration) (source : List ℕ) : Type 
   pub typed : Module
   pub by_rules : IsTyped registered items typed
   pub class : ℕ
-  pub round : Reaches (Refers (classes_of items)) class class
+  pub cycle : Reaches (Refers (classes_of items)) class class
 
 -- the refusal of such a source, with the cycle that is reported
 pub record ReportsCycle (registered : List Registration) (source : List ℕ) (refusal : Refusal) : Type 0 where

@@ -43,7 +43,7 @@ pub enum Refusal {
     NoReturn { at: usize },
     /// A phrase, at this offset, that may not be there.
     Misplaced { at: usize },
-    /// A class that reaches itself: it and the classes on a shortest way back.
+    /// A class that reaches itself: it and the classes on a shortest path back.
     CyclicType(ClassNames),
     /// An object, at this offset, of a registered type that scripts can't construct.
     NoFactory { at: usize },

@@ -18,7 +18,7 @@ use Rattle.ash_typed.specs.declared.tree.operations.ArrayMethod.TheVariants as m
 use Rattle.ash_typed.specs.declared.tree.operations.Calculation.{Calculation}
 use Rattle.ash_typed.specs.declared.tree.operations.Operation.{Operation}
 use Rattle.ash_typed.specs.declared.tree.operations.Operation.TheVariants as operations
-use Rattle.ash_typed.specs.declared.tree.operations.Step.{Step}
+use Rattle.ash_typed.specs.declared.tree.operations.IncrementOp.{IncrementOp}
 use Rattle.std.specs.Option.{option_map_or}
 use Rattle.ash_host.specs.declared.event.Event.TheVariants.{Drew, Called}
 use Rattle.ash_host.specs.declared.event.Target.TheVariants as targets
@@ -253,7 +253,7 @@ module _ {n : ℕ} where
   pub to_update : (int_type : IntType) (c : Calculation) (right : Word) (l : Location) → Walk n (update int_type c right l) (update int_type c right l)
   to_update int_type c right l = bound (bound (to_read l) (λ left. to_calculate c (converted_to c.of left) right)) (λ w. to_store (converted_to int_type w) l)
 
-  pub to_count_at : (int_type : IntType) (step : Step) (l : Location)
+  pub to_count_at : (int_type : IntType) (step : IncrementOp) (l : Location)
       → Walk n (count_at int_type step l) (count_at int_type step l)
   to_count_at int_type step l = bound (to_read l) (λ old. followed (to_write l (counted step int_type old)) (given (given_by step old (counted step int_type old))))
 

@@ -12,7 +12,7 @@ use Rattle.ash_typed.specs.declared.tree.operations.Comparator.TheVariants as co
 use Rattle.ash_typed.specs.declared.tree.operations.Operands.TheVariants as operands
 use Rattle.ash_typed.specs.declared.tree.operations.Operation.TheVariants as operations
 use Rattle.ash_typed.specs.declared.tree.operations.Lazy.TheVariants as lazies
-use Rattle.ash_typed.specs.declared.tree.operations.Step.TheVariants as steps
+use Rattle.ash_typed.specs.declared.tree.operations.IncrementOp.TheVariants as steps
 use Rattle.ash_typed.specs.declared.tree.statements.Test.TheVariants as tests
 use Rattle.ash_typed.specs.Tree.{Expr, Truth, Read, Operate, Lazily, Conditional, Assign, Update, Count, Call, Place, Held, exprs}
 use Rattle.ash_typed.specs.StatementTree.{Return, Stmt, Declare, Block, If, no_branch, declared_head, Repeat, For, repeated, Switch, Break, Continue, stmts, Case, cases, labelled}

@@ -4,7 +4,7 @@ use Rattle.ash_host.specs.declared.word.Word.{Word}
 use Rattle.ash_host.specs.declared.word.Word.TheVariants as words
 use Rattle.ash_integers.specs.declared.int_type.IntType.{IntType}
 use Rattle.ash_typed.specs.declared.tree.operations.Calculation.{Calculation}
-use Rattle.ash_typed.specs.declared.tree.operations.Step.{Step}
+use Rattle.ash_typed.specs.declared.tree.operations.IncrementOp.{IncrementOp}
 use Rattle.ash_typed.specs.declared.tree.operations.Lazy.{Lazy}
 use Rattle.ash_typed.specs.declared.tree.operations.Lazy.TheVariants as lazies
 use Rattle.ash_typed.specs.Tree.{Expr, Number, Truth, Null, This, Read, Invoke, Convert, Cast, Alter, Operate, Lazily, Conditional, Assign, Update, Count, Call, Place, Stored, Held, Indexed, Exprs, no_expr, expr}
@@ -28,7 +28,7 @@ update int_type calculation right location =
     >>= (λ word. store (converted_to int_type word) location)
 
 -- `++` or `--` after its place
-abbrev pub count_at : IntType → Step → Location → Run Word
+abbrev pub count_at : IntType → IncrementOp → Location → Run Word
 count_at int_type step location =
     read location
     >>= (λ old. write location (counted step int_type old) >> give (given_by step old (counted step int_type old)))

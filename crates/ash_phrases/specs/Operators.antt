@@ -23,8 +23,8 @@ use Rattle.ash_typed.specs.declared.tree.operations.Operation.{Operation}
 use Rattle.ash_typed.specs.declared.tree.operations.Operation.TheVariants as operations
 use Rattle.ash_typed.specs.declared.tree.operations.Change.{Change}
 use Rattle.ash_typed.specs.declared.tree.operations.Change.TheVariants as changes
-use Rattle.ash_typed.specs.declared.tree.operations.Step.{Step}
-use Rattle.ash_typed.specs.declared.tree.operations.Step.TheVariants as steps
+use Rattle.ash_typed.specs.declared.tree.operations.IncrementOp.{IncrementOp}
+use Rattle.ash_typed.specs.declared.tree.operations.IncrementOp.TheVariants as steps
 use Rattle.ash_phrases.specs.declared.exception.Exception.TheVariants.{DivideByZero, DivideOverflow}
 use Rattle.ash_phrases.specs.Runs.{Run, give, raise}
 
@@ -113,13 +113,13 @@ altered (changes.Complement int_type) word = word_at int_type (complement_of (nu
 altered changes.Not word = words.Bool (not (is_true word))
 
 -- what `++` and `--` leave in a place of this type, and which of its values they give
-abbrev pub counted : Step → IntType → Word → Word
+abbrev pub counted : IncrementOp → IntType → Word → Word
 counted steps.Increment int_type word = word_at int_type (number_of word +ℤ pos 1)
 counted steps.IncrementAfter int_type word = word_at int_type (number_of word +ℤ pos 1)
 counted steps.Decrement int_type word = word_at int_type (number_of word -ℤ pos 1)
 counted steps.DecrementAfter int_type word = word_at int_type (number_of word -ℤ pos 1)
 
-abbrev pub given_by : Step → Word → Word → Word
+abbrev pub given_by : IncrementOp → Word → Word → Word
 given_by steps.Increment old new = new
 given_by steps.Decrement old new = new
 given_by steps.IncrementAfter old new = old

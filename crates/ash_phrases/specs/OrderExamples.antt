@@ -13,7 +13,7 @@ use Rattle.ash_typed.specs.declared.tree.operations.Comparator.TheVariants as co
 use Rattle.ash_typed.specs.declared.tree.operations.Operands.TheVariants as operands
 use Rattle.ash_typed.specs.declared.tree.operations.Operation.TheVariants as operations
 use Rattle.ash_typed.specs.declared.tree.operations.Lazy.{Lazy}
-use Rattle.ash_typed.specs.declared.tree.operations.Step.TheVariants as steps
+use Rattle.ash_typed.specs.declared.tree.operations.IncrementOp.TheVariants as steps
 use Rattle.ash_typed.specs.Tree.{Expr, Truth, Null, Read, Invoke, Cast, Operate, Lazily, Assign, Update, Count, Call}
 use Rattle.ash_typed.specs.Tree.{Place, Held, exprs}
 use Rattle.ash_typed.specs.StatementTree.{Stmt, Declare}

@@ -9,7 +9,7 @@ use Rattle.ash_typed.specs.declared.tree.operations.Comparator.{Comparator}
 use Rattle.ash_typed.specs.declared.tree.operations.Comparator.TheVariants as comparators
 use Rattle.ash_typed.specs.declared.tree.operations.Operands.TheVariants as operands
 use Rattle.ash_typed.specs.declared.tree.operations.Operation.TheVariants as operations
-use Rattle.ash_typed.specs.declared.tree.operations.Step.TheVariants as steps
+use Rattle.ash_typed.specs.declared.tree.operations.IncrementOp.TheVariants as steps
 use Rattle.ash_typed.specs.declared.tree.operations.Target.TheVariants as targets
 use Rattle.ash_typed.specs.declared.tree.statements.Test.TheVariants as tests
 use Rattle.ash_typed.specs.Tree.{Expr, Read, Operate, Assign, Count, Call, Place, exprs}

@@ -15,7 +15,7 @@ use ash_integers::DivisionFault;
 use ash_phrases::Exception;
 use ash_plain_data::operators::{calculated_by, converted_to, counted, given_by, holds};
 use ash_plain_data::run_error::{RunError, RunResult};
-use ash_typed::{Calculation, IntType, Operation, Step};
+use ash_typed::{Calculation, IncrementOp, IntType, Operation};
 
 impl Activity {
     /// What an operator that makes an integer of two gives. A quotient that is refused is an exception.
@@ -74,7 +74,12 @@ impl Activity {
     }
 
     /// `++` or `--` at a location.
-    pub fn count_at(&mut self, int_type: IntType, step: Step, location: Location) -> RunResult<Word>
+    pub fn count_at(
+        &mut self,
+        int_type: IntType,
+        step: IncrementOp,
+        location: Location,
+    ) -> RunResult<Word>
         ensures { RunsAs (λ w. w) result (activity_seen self.new)
             (count_at int_type step (location_seen location) (activity_seen self.old)) }
     {

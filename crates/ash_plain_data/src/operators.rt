@@ -12,7 +12,7 @@ use ash_integers::{
     Arithmetic, Comparison, DivisionFault, IntType, Shift, calculate, compare, complement, convert,
     negate, number, shift_by, word_from,
 };
-use ash_typed::{Calculator, Change, Comparator, Conversion, Operands, Step, VarType};
+use ash_typed::{Calculator, Change, Comparator, Conversion, IncrementOp, Operands, VarType};
 
 /// A number that a script writes.
 pub fn numeral(int_type: IntType, value: u64) -> Word
@@ -147,22 +147,22 @@ pub fn altered(change: Change, word: Word) -> Word
 }
 
 /// What `++` and `--` leave in a place of this type.
-pub fn counted(step: Step, int_type: IntType, word: Word) -> Word
+pub fn counted(step: IncrementOp, int_type: IntType, word: Word) -> Word
     ensures { result ≡ counted step int_type word }
 {
     let number = number(word);
     match step {
-        Step::Increment | Step::IncrementAfter => word_from(int_type, number + 1),
-        Step::Decrement | Step::DecrementAfter => word_from(int_type, number - 1),
+        IncrementOp::Increment | IncrementOp::IncrementAfter => word_from(int_type, number + 1),
+        IncrementOp::Decrement | IncrementOp::DecrementAfter => word_from(int_type, number - 1),
     }
 }
 
 /// Which of the values of its place `++` or `--` gives.
-pub fn given_by(step: Step, old: Word, new: Word) -> Word
+pub fn given_by(step: IncrementOp, old: Word, new: Word) -> Word
     ensures { result ≡ given_by step old new }
 {
     match step {
-        Step::Increment | Step::Decrement => new,
-        Step::IncrementAfter | Step::DecrementAfter => old,
+        IncrementOp::Increment | IncrementOp::Decrement => new,
+        IncrementOp::IncrementAfter | IncrementOp::DecrementAfter => old,
     }
 }

@@ -6,7 +6,7 @@ use Rattle.std.proofs.lemmas.Slice.Eq.{bytes_eq-Decides}
 use Rattle.std.proofs.Common.{◌≡◌, ◌<◌, ◌⊎◌, inl, inr, ⊎_elim, ℕ, length, List, [], ◌∷◌, ◌++◌, map, true, Option, Some}
 use Rattle.std.proofs.Common.{None, IfSome, find, All, Any, Contains, slice_get, suc, refl, sym, ap, subst, ◌∙◌, arith}
 use Rattle.ash_classes.specs.References as written_references
-use Rattle.ash_classes.specs.Ways as ways
+use Rattle.ash_classes.specs.Paths as paths
 use Rattle.ash_registrations.specs.Calls as host
 use Rattle.ash_tree.specs.declared.tree.types.Primitive.{Primitive}
 use Rattle.ash_tree.specs.declared.tree.types.Primitive.TheVariants as primitives
@@ -367,7 +367,7 @@ length-mapped f [] = refl
 length-mapped f (x ∷ xs) = ap suc (length-mapped f xs)
 
 pub typed_ranks : (calls : List host.Registration) (is : List written.Item) (m : Module) → IsTyped calls is m → (ranks : List ℕ)
-    → ways.AreRanks (written_references.Refers (classes_of is)) (length (classes_of is)) ranks
+    → paths.AreRanks (written_references.Refers (classes_of is)) (length (classes_of is)) ranks
     → references.AreRanks (signatures.signatures_of (offered calls) m) ranks
 typed_ranks calls is m typed ranks are =
     let long : length (classes_of is) ≡ length (map signatures.signature_of_class m.classes) =

@@ -7,7 +7,7 @@
 
 ghost use Rattle.std.specs.Prelude.{ℕ, List, length};
 ghost use Rattle.ash_classes.specs.References as written;
-ghost use Rattle.ash_classes.specs.Ways as ways;
+ghost use Rattle.ash_classes.specs.Paths as paths;
 ghost use Rattle.ash_registrations.specs.Calls.{Registration};
 ghost use Rattle.ash_tree.specs.Tree.{Item};
 ghost use Rattle.ash_typed.specs.Modules.{Module};
@@ -20,10 +20,11 @@ ghost use Rattle.ash_typing.specs.TypedModules.{IsTyped};
 /// classes are ranks of the typed ones. It does nothing when it runs.
 pub fn typed_ranks_fall()
     ensures refers { (calls : List Registration) (is : List Item) (typed : Module)
-        → IsTyped calls is typed → (from to : ℕ) → Refers (signatures_of (offered calls) typed) from to
+        → IsTyped calls is typed → (from to : ℕ)
+        → Refers (signatures_of (offered calls) typed) from to
         → written.Refers (written.classes_of is) from to }
     ensures ranks { (calls : List Registration) (is : List Item) (typed : Module)
         → IsTyped calls is typed → (ranks : List ℕ)
-        → ways.AreRanks (written.Refers (written.classes_of is)) (length (written.classes_of is))
+        → paths.AreRanks (written.Refers (written.classes_of is)) (length (written.classes_of is))
         ranks → AreRanks (signatures_of (offered calls) typed) ranks }
 {}

@@ -36,7 +36,7 @@ Refers s from to =
     (c : ClassSignature) × (of : VarType) × (slice_get s.classes from ≡ Some c) × Contains c.fields of × Holds s to of
 
 -- Each class has a rank below the number of classes, which is greater than that of each class that the class refers to,
--- so that objects never hold one another in a ring.
+-- so that objects never hold one another in a cycle.
 pub record AreRanks (s : Signatures) (ranks : List ℕ) : Type 0 where
   pub count : length ranks ≡ length s.classes
   pub within : All (λ rank. rank < length s.classes) ranks

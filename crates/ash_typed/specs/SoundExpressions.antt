@@ -21,7 +21,7 @@ use Rattle.ash_typed.specs.declared.tree.operations.Operands.{Operands}
 use Rattle.ash_typed.specs.declared.tree.operations.Operation.TheVariants as operations
 use Rattle.ash_typed.specs.declared.tree.operations.Lazy.{Lazy}
 use Rattle.ash_typed.specs.declared.tree.operations.Change.{Change}
-use Rattle.ash_typed.specs.declared.tree.operations.Step.{Step}
+use Rattle.ash_typed.specs.declared.tree.operations.IncrementOp.{IncrementOp}
 use Rattle.ash_typed.specs.Tree.{Expr, Number, Truth, Null, This, Read, Invoke, Convert, Cast, Alter, Operate, Lazily}
 use Rattle.ash_typed.specs.Tree.{Conditional, Assign, Update, Count, Call, Place, Stored, Held, Indexed, Exprs, no_expr}
 use Rattle.ash_typed.specs.Tree.{expr}
@@ -119,7 +119,7 @@ mutual
         → IsWellTyped env e (value (vars.Integer count))
         → IsWellTyped env (Update place int_type (record { operator = operator; of = of }) e)
         (value (vars.Integer int_type))
-    count : {place : Place} {int_type : IntType} {step : Step}
+    count : {place : Place} {int_type : IntType} {step : IncrementOp}
         → HasPlace env place (vars.Integer int_type)
         → IsWellTyped env (Count place int_type step) (value (vars.Integer int_type))
     call : {target : Target} {parameters : List VarType} {result : Option VarType} {es : Exprs}

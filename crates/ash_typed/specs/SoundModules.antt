@@ -3,6 +3,7 @@ use Rattle.std.specs.Prelude.{◌≡◌, ◌≤◌, ◌+◌, ◌⊎◌, ℕ, len
 use Rattle.std.specs.Prelude.{false}
 use Rattle.std.specs.List.{AllByRecursion, AllZip, IsDistinct}
 use Rattle.std.specs.Str.{bytes_eq}
+use Rattle.ash_typed.specs.Limits.{max_module_types, max_globals, max_class_members}
 use Rattle.ash_typed.specs.StatementTree.{Initialization}
 use Rattle.ash_typed.specs.Modules.{Variables, Function, Signature, Interface, Implementation, Class, Module}
 use Rattle.ash_typed.specs.Signatures.{Host, Signatures, signature_of, signatures_of, IsPassedType, IsResultType}
@@ -42,10 +43,10 @@ pub record IsSignature (s : Signatures) (f : Signature) : Type 0 where
   pub parameters : AllByRecursion (IsPassedType s) f.parameters
   pub result : IsResultType s f.result
 
--- An interface has at most 32 methods.
+-- An interface has at most `max_class_members` methods.
 pub record IsInterface (s : Signatures) (classes : ℕ) (i : Interface) : Type 0 where
   pub before : i.classes_before ≤ classes
-  pub few : length i.methods ≤ 32
+  pub few : length i.methods ≤ max_class_members
   pub methods : AllByRecursion (IsSignature s) i.methods
 
 -- Interfaces in the order of the source, of which the first has at least so many classes before it: none has more of
@@ -71,9 +72,10 @@ pub record IsConstructor (env : Environment) (class : List ℕ) (f : Function) :
   pub gives_nothing : f.result ≡ None
   pub function : IsFunction env f
 
--- The class of this place has at most 32 fields and methods, and its fields are initialized where there are no locals.
+-- The class of this place has at most `max_class_members` fields and methods, and its fields are initialized where
+-- there are no locals.
 pub record IsClass (s : Signatures) (place : ℕ) (c : Class) : Type 0 where
-  pub few : length c.fields + length c.methods ≤ 32
+  pub few : length c.fields + length c.methods ≤ max_class_members
   pub interfaces : AllByRecursion (IsImplementation s c.methods) c.interfaces
   pub fields : AllByRecursion (IsInitialized (inside s place)) c.fields
   pub constructor : IfSome c.constructor (IsConstructor (inside s place) c.name)
@@ -99,11 +101,11 @@ abbrev pub names_of_globals : List Variables → List (List ℕ)
 names_of_globals [] = []
 names_of_globals (v ∷ vs) = map name_of_variable v.values ++ names_of_globals vs
 
--- A module where a host offers this has at most 256 classes and interfaces, and 256 variables; its functions differ in
--- name, and so do its variables.
+-- A module where a host offers this has at most `max_module_types` classes and interfaces, and `max_globals` variables;
+-- its functions differ in name, and so do its variables.
 pub record IsSound (host : Host) (m : Module) : Type 0 where
-  pub few_types : length m.classes + length m.interfaces ≤ 256
-  pub few_globals : length (signatures_of host m).globals ≤ 256
+  pub few_types : length m.classes + length m.interfaces ≤ max_module_types
+  pub few_globals : length (signatures_of host m).globals ≤ max_globals
   pub functions_differ : IsDistinct bytes_eq (map name_of_function m.functions)
   pub globals_differ : IsDistinct bytes_eq (names_of_globals m.globals)
   pub interfaces : AllByRecursion (IsInterface (signatures_of host m) (length m.classes)) m.interfaces

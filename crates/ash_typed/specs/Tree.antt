@@ -14,7 +14,7 @@ use Rattle.ash_typed.specs.declared.tree.operations.Operation.{Operation}
 use Rattle.ash_typed.specs.declared.tree.operations.Lazy.{Lazy}
 use Rattle.ash_typed.specs.declared.tree.operations.Change.{Change}
 use Rattle.ash_typed.specs.declared.tree.operations.Conversion.{Conversion}
-use Rattle.ash_typed.specs.declared.tree.operations.Step.{Step}
+use Rattle.ash_typed.specs.declared.tree.operations.IncrementOp.{IncrementOp}
 
 mutual
   pub data Expr : Type 0 where
@@ -34,7 +34,7 @@ mutual
     Conditional : Expr → Expr → Expr → Expr
     Assign : Place → Expr → Expr
     Update : Place → IntType → Calculation → Expr → Expr
-    Count : Place → IntType → Step → Expr
+    Count : Place → IntType → IncrementOp → Expr
     Call : Target → List VarType → Exprs → Expr
 
   -- A place can be written to.

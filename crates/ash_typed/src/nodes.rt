@@ -13,7 +13,7 @@ ghost use Rattle.ash_typed.specs.Flat.{base_of, links_of, first_of, operands_of,
 pub use crate::places::place;
 use crate::tree::expressions::{Expr, Link, Operand, Place};
 use crate::tree::operations::{
-    Calculation, Change, Conversion, Lazy, Member, Method, Step, Target,
+    Calculation, Change, Conversion, IncrementOp, Lazy, Member, Method, Target,
 };
 use crate::tree::statements::{Case, Head, Loop, Stmt, StmtKind, Test};
 use crate::types::{Element, ObjectType, VarType};
@@ -23,7 +23,8 @@ use std::alloc::{AllocError, Global};
 
 #[tactic(auto, using(crate::proofs::Rows::call_is))]
 pub fn call(target: Target, parameters: Vec<VarType>, arguments: Vec<Expr>) -> Expr
-    ensures { expr_of result ≡ Call target parameters.items (exprs (map expr_of arguments.items)) }
+    ensures calls_target { expr_of result
+        ≡ Call target parameters.items (exprs (map expr_of arguments.items)) }
 {
     Expr::Call {
         target,
@@ -193,7 +194,8 @@ pub fn convert(
     conversion: Option<Conversion>,
     value: Expr,
 ) -> Result<Expr, AllocError>
-    ensures { IfOk result (λ e. expr_of e ≡ converted conversion (expr_of value)) }
+    ensures conversion_applied { IfOk result (λ e.
+        expr_of e ≡ converted conversion (expr_of value)) }
 {
     match conversion {
         None => Ok(value),
@@ -206,14 +208,14 @@ pub fn convert(
 
 /// `cast<T>(value)`, with the type
 pub fn cast(alloc: Global, to: ObjectType, value: Expr) -> Result<Expr, AllocError>
-    ensures { IfOk result (λ e. expr_of e ≡ Cast to (expr_of value)) }
+    ensures cast_to_type { IfOk result (λ e. expr_of e ≡ Cast to (expr_of value)) }
 {
     let value = Box::new(alloc, value)?;
     Ok(Expr::Cast { to, value })
 }
 
 pub fn alter(alloc: Global, change: Change, operand: Expr) -> Result<Expr, AllocError>
-    ensures { IfOk result (λ e. expr_of e ≡ Alter change (expr_of operand)) }
+    ensures operator_applied { IfOk result (λ e. expr_of e ≡ Alter change (expr_of operand)) }
 {
     let operand = Box::new(alloc, operand)?;
     Ok(Expr::Change { change, operand })
@@ -226,7 +228,7 @@ pub fn conditional(
     then: Expr,
     otherwise: Expr,
 ) -> Result<Expr, AllocError>
-    ensures { IfOk result (λ e.
+    ensures branches_in_order { IfOk result (λ e.
         expr_of e ≡ Conditional (expr_of condition) (expr_of then) (expr_of otherwise)) }
 {
     let condition = Box::new(alloc, condition)?;
@@ -240,7 +242,8 @@ pub fn conditional(
 }
 
 pub fn assign(alloc: Global, place: Place, value: Expr) -> Result<Expr, AllocError>
-    ensures { IfOk result (λ e. expr_of e ≡ Assign (place_of place) (expr_of value)) }
+    ensures value_assigned { IfOk result (λ e.
+        expr_of e ≡ Assign (place_of place) (expr_of value)) }
 {
     let value = Box::new(alloc, value)?;
     Ok(Expr::Assign { place, value })
@@ -254,7 +257,7 @@ pub fn update(
     calculation: Calculation,
     value: Expr,
 ) -> Result<Expr, AllocError>
-    ensures { IfOk result (λ e.
+    ensures place_updated { IfOk result (λ e.
         expr_of e ≡ Update (place_of place) of calculation (expr_of value)) }
 {
     let value = Box::new(alloc, value)?;
@@ -267,15 +270,15 @@ pub fn update(
 }
 
 /// `++` or `--`
-pub fn count(place: Place, of: IntType, step: Step) -> Expr
-    ensures { expr_of result ≡ Count (place_of place) of step }
+pub fn count(place: Place, of: IntType, step: IncrementOp) -> Expr
+    ensures place_counted { expr_of result ≡ Count (place_of place) of step }
 {
     Expr::Step { place, of, step }
 }
 
 /// `{ body }`
 pub fn block(line: usize, body: Vec<Stmt>) -> Stmt
-    ensures { stmt_of result ≡ Block line (body_of body.items) }
+    ensures body_in_order { stmt_of result ≡ Block line (body_of body.items) }
 {
     Stmt {
         line,
@@ -285,7 +288,7 @@ pub fn block(line: usize, body: Vec<Stmt>) -> Stmt
 
 /// What is repeated.
 pub fn repetition(test: Test, condition: Option<Expr>, steps: Vec<Expr>, body: Box<Stmt>) -> Loop
-    ensures { loop_of result
+    ensures body_repeated { loop_of result
         ≡ repeated test (option_map expr_of condition) (map expr_of steps.items)
         (stmt_of body.value) }
 {
@@ -299,7 +302,7 @@ pub fn repetition(test: Test, condition: Option<Expr>, steps: Vec<Expr>, body: B
 
 /// `while` and `do`
 pub fn repeat(line: usize, inside: Loop) -> Stmt
-    ensures { stmt_of result ≡ Repeat line (loop_of inside) }
+    ensures loop_of_line { stmt_of result ≡ Repeat line (loop_of inside) }
 {
     Stmt {
         line,
@@ -309,7 +312,7 @@ pub fn repeat(line: usize, inside: Loop) -> Stmt
 
 /// `for`
 pub fn for_loop(line: usize, head: Head, inside: Loop) -> Stmt
-    ensures { stmt_of result ≡ For line (head_of head) (loop_of inside) }
+    ensures head_before_loop { stmt_of result ≡ For line (head_of head) (loop_of inside) }
 {
     Stmt {
         line,
@@ -319,7 +322,7 @@ pub fn for_loop(line: usize, head: Head, inside: Loop) -> Stmt
 
 /// `switch (value) { cases }`, of this integer type
 pub fn switch(line: usize, int_type: IntType, value: Expr, labels: Vec<Case>) -> Stmt
-    ensures { stmt_of result
+    ensures cases_in_order { stmt_of result
         ≡ Switch line int_type (expr_of value) (cases (map case_of labels.items)) }
 {
     Stmt {
@@ -334,7 +337,7 @@ pub fn switch(line: usize, int_type: IntType, value: Expr, labels: Vec<Case>) ->
 
 /// A label with the statements after it.
 pub fn case(label: Label, body: Vec<Stmt>) -> Case
-    ensures { case_of result ≡ labelled label (body_of body.items) }
+    ensures label_first { case_of result ≡ labelled label (body_of body.items) }
 {
     Case { label, body }
 }

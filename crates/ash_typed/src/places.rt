@@ -12,7 +12,8 @@ use std::alloc::{AllocError, Global};
 #[cycle(places)]
 #[tactic(auto, using(crate::proofs::Rows::path_is, crate::proofs::Rows::chain_is, crate::proofs::Rows::lazy_is))]
 pub fn place(alloc: Global, expr: Expr) -> Result<Option<Place>, AllocError>
-    ensures { IfOk result (λ found. option_map place_of found ≡ place_in (expr_of expr)) }
+    ensures place_read { IfOk result (λ found.
+        option_map place_of found ≡ place_in (expr_of expr)) }
 {
     match expr {
         Expr::Variable(variable) => Ok(Some(Place::Variable(variable))),

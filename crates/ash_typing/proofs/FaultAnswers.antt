@@ -11,7 +11,7 @@ use Rattle.ash_typing.specs.declared.fault.Rule.TheVariants as rules
 use Rattle.ash_typing.specs.declared.fault.Fault.{Fault}
 use Rattle.ash_typing.specs.TypingResult.{TypingResult, ◌>>=◌, broken}
 use Rattle.ash_typing.specs.Environment.{Environment}
-use Rattle.ash_typing.specs.Expressions.{Typed}
+use Rattle.ash_typing.specs.Expressions.{TypedExpr}
 use Rattle.ash_typing.specs.ModuleDeclarations.{declarations, object_named, ty_named, ty_in}
 use Rattle.ash_typing.specs.Declarations.{at_type, at_type_name}
 use Rattle.ash_typing.specs.declared.types.Ty.TheVariants.{Object}
@@ -52,8 +52,8 @@ abbrev pub Fine : Script → {A : Type 0} → TypingResult A → Type 0
 Fine script {A} r = Answers script (λ (x : A). Unit {0}) r
 
 -- a typed expression at a token
-abbrev pub At : Script → TypingResult Typed → Type 0
-At script r = Answers script (λ (t : Typed). HasStart script.tokens t.at) r
+abbrev pub At : Script → TypingResult TypedExpr → Type 0
+At script r = Answers script (λ (t : TypedExpr). HasStart script.tokens t.at) r
 
 -- a fault of a type, or of what is written to, at the first token of an expression
 

@@ -17,14 +17,14 @@ use Rattle.ash_typing.specs.declared.fault.Rule.TheVariants as rules
 use Rattle.ash_typing.specs.declared.types.Ty.{Ty}
 use Rattle.ash_typing.specs.declared.types.Ty.TheVariants as ty
 use Rattle.ash_typed.specs.declared.tree.operations.Member.{Member}
-use Rattle.ash_typed.specs.declared.tree.operations.Step.TheVariants as steps
+use Rattle.ash_typed.specs.declared.tree.operations.IncrementOp.TheVariants as steps
 use Rattle.ash_typing.specs.Types.{object_of, ty_of_element}
 use Rattle.ash_typing.specs.ModuleDeclarations.{host_object, object_named, element_named, element_by}
 use Rattle.ash_typing.specs.Environment as head
 use Rattle.ash_typing.specs.Environment.{Environment, first_from, is_class, is_interface_named, Class, Invoked}
 use Rattle.ash_typing.specs.Environment.{variable_in, member_in, method_in, array_built}
 use Rattle.ash_typing.specs.Terms.{assignable, operator_of, array_parameters}
-use Rattle.ash_typing.specs.Expressions.{Typed, is_assign, member_at, field_of, invoked_at, method_of, invoked}
+use Rattle.ash_typing.specs.Expressions.{TypedExpr, is_assign, member_at, field_of, invoked_at, method_of, invoked}
 use Rattle.ash_typing.specs.Expressions.{invocation_typed, index_in, indexed_at, indexed_object, indexed, at_element}
 use Rattle.ash_typing.specs.Expressions.{known_element, array_typed, cast_type, cast_at, typed, all_typed, links_typed}
 use Rattle.ash_typing.specs.Expressions.{suffixes_typed, suffix_typed}
@@ -44,21 +44,21 @@ use Rattle.ash_typing.proofs.FaultOperations.{known_in, operate_in, this_in, una
 -- suffixes
 
 -- a field and a method after what is typed so
-abbrev pub AtField : Script → Environment → Typed → place.Place → List ℕ → written.Suffixes → Type 0
+abbrev pub AtField : Script → Environment → TypedExpr → place.Place → List ℕ → written.Suffixes → Type 0
 AtField script env t p text ss = OccursIn script (phrases.Suffixes env t (written.suffix (written.Field p text) ss))
 
-abbrev pub AtMethod : Script → Environment → Typed → place.Place → List ℕ → written.Exprs → written.Suffixes → Type 0
+abbrev pub AtMethod : Script → Environment → TypedExpr → place.Place → List ℕ → written.Exprs → written.Suffixes → Type 0
 AtMethod script env t p text es ss =
     OccursIn script (phrases.Suffixes env t (written.suffix (written.Method p text es) ss))
 
-member_at_in : (script : Script) (env : Environment) (t : Typed) (p : place.Place) (text : List ℕ)
+member_at_in : (script : Script) (env : Environment) (t : TypedExpr) (p : place.Place) (text : List ℕ)
     (ss : written.Suffixes) (o : ObjectType) (found : Option (Member × Ty)) → HasToken script.tokens (name text) p.at
     → HasStart script.tokens t.at → AtField script env t p text ss → object_of t.ty ≡ Some o
     → member_in env o text ≡ found → At script (member_at t p.at found)
 member_at_in script env t p text ss o None h k r q e = faulty (name text, h, refl, meaning.no_member r q e)
 member_at_in script env t p text ss o (Some found) h k r q e = fine k
 
-field_in : (script : Script) (env : Environment) (t : Typed) (of : Ty) (p : place.Place) (text : List ℕ)
+field_in : (script : Script) (env : Environment) (t : TypedExpr) (of : Ty) (p : place.Place) (text : List ℕ)
     (ss : written.Suffixes) → HasToken script.tokens (name text) p.at → HasStart script.tokens t.at
     → AtField script env t p text ss → t.ty ≡ of → At script (field_of env t of p.at text)
 unfolding field_of
@@ -70,18 +70,18 @@ field_in script env t ty.Unknown p text ss h k r q = fine k
 field_in script env t _ p text ss h k r q = mismatch k (mismatches.no_object r refl (ap may_be_object q))
 
 -- a method that is known is one of the object
-abbrev pub IsInvoked : Environment → Typed → List ℕ → Option Invoked → Type 0
+abbrev pub IsInvoked : Environment → TypedExpr → List ℕ → Option Invoked → Type 0
 IsInvoked env t text None = Unit {0}
 IsInvoked env t text (Some m) = (o : ObjectType) × (object_of t.ty ≡ Some o) × (method_in env o text ≡ Some m)
 
-invoked_at_in : (script : Script) (env : Environment) (t : Typed) (p : place.Place) (text : List ℕ) (es : written.Exprs)
+invoked_at_in : (script : Script) (env : Environment) (t : TypedExpr) (p : place.Place) (text : List ℕ) (es : written.Exprs)
     (ss : written.Suffixes) (o : ObjectType) (found : Option Invoked) → HasToken script.tokens (name text) p.at
     → AtMethod script env t p text es ss → object_of t.ty ≡ Some o → method_in env o text ≡ found
     → Answers script (IsInvoked env t text) (invoked_at p.at found)
 invoked_at_in script env t p text es ss o None h r q e = faulty (name text, h, refl, meaning.no_method r q e)
 invoked_at_in script env t p text es ss o (Some m) h r q e = fine (o, q, e)
 
-method_of_in : (script : Script) (env : Environment) (t : Typed) (of : Ty) (p : place.Place) (text : List ℕ)
+method_of_in : (script : Script) (env : Environment) (t : TypedExpr) (of : Ty) (p : place.Place) (text : List ℕ)
     (es : written.Exprs) (ss : written.Suffixes) → HasToken script.tokens (name text) p.at → HasStart script.tokens t.at
     → AtMethod script env t p text es ss → t.ty ≡ of
     → Answers script (IsInvoked env t text) (method_of env t of p.at text)
@@ -93,8 +93,8 @@ method_of_in script env t (ty.Handle o) p text es ss h k r q =
 method_of_in script env t ty.Unknown p text es ss h k r q = fine tt
 method_of_in script env t _ p text es ss h k r q = mismatch k (mismatches.no_object r refl (ap may_be_object q))
 
-invoked_in : (script : Script) (env : Environment) (t : Typed) (p : place.Place) (text : List ℕ) (es : written.Exprs)
-    (ss : written.Suffixes) (ts : List Typed) (m : Option Invoked) → HasToken script.tokens (name text) p.at
+invoked_in : (script : Script) (env : Environment) (t : TypedExpr) (p : place.Place) (text : List ℕ) (es : written.Exprs)
+    (ss : written.Suffixes) (ts : List TypedExpr) (m : Option Invoked) → HasToken script.tokens (name text) p.at
     → HasStart script.tokens t.at → AtMethod script env t p text es ss → AllAt script.tokens ts
     → length ts ≡ argument_count es → all_typed env es ≡ Ok ts → IsInvoked env t text m
     → At script (invoked env.declarations.classes t p.at ts m)
@@ -106,7 +106,7 @@ invoked_in script env t p text es ss ts (Some m) h k r all c a q =
     (λ at b. mismatches.of_method r q.1 q.2 a b))
     (λ trees u. fine k)
 
-invocation_in : (script : Script) (env : Environment) (t : Typed) (p : place.Place) (text : List ℕ) (es : written.Exprs)
+invocation_in : (script : Script) (env : Environment) (t : TypedExpr) (p : place.Place) (text : List ℕ) (es : written.Exprs)
     (ss : written.Suffixes) → HasToken script.tokens (name text) p.at → HasStart script.tokens t.at
     → AtMethod script env t p text es ss → ListAt script (argument_count es) (all_typed env es)
     → At script (invocation_typed env t p.at text (all_typed env es))
@@ -182,27 +182,27 @@ cast_type_in script env at text (Some (objects.Host kind)) h w z =
 cast_type_in script env at text (Some (objects.Array e)) h w z =
     mismatch (name text, h, refl) (z (objects.Array e) refl refl)
 
-cast_in : (script : Script) (at : ℕ) (to : ObjectType) (t : Typed) → HasStart script.tokens at
+cast_in : (script : Script) (at : ℕ) (to : ObjectType) (t : TypedExpr) → HasStart script.tokens at
     → HasStart script.tokens t.at → (may_be_object t.ty ≡ false → Mismatch script t.at) → At script (cast_at at to t)
 unfolding cast_at
 cast_in script at to t h k z = bind (handle_in script t.at t.ty k z) (λ of u. fine h)
 
-index_at_in : (script : Script) (i : Typed) → HasStart script.tokens i.at
+index_at_in : (script : Script) (i : TypedExpr) → HasStart script.tokens i.at
     → (may_be_integer i.ty ≡ false → Mismatch script i.at) → Fine script (index_in i)
 index_at_in script i h z = bind (integer_in script i.at i.ty h z) (λ int_type u. fine tt)
 
-indexed_at_in : (script : Script) (t i : Typed) (of : Ty) (e : Element) → HasStart script.tokens t.at
+indexed_at_in : (script : Script) (t i : TypedExpr) (of : Ty) (e : Element) → HasStart script.tokens t.at
     → HasStart script.tokens i.at → (may_be_integer i.ty ≡ false → Mismatch script i.at)
     → At script (indexed_at t i of e)
 indexed_at_in script t i of e h k z = bind (index_at_in script i k z) (λ index u. fine h)
 
-indexed_object_in : (script : Script) (t i : Typed) (o : ObjectType) → HasStart script.tokens t.at
+indexed_object_in : (script : Script) (t i : TypedExpr) (o : ObjectType) → HasStart script.tokens t.at
     → HasStart script.tokens i.at → (may_be_integer i.ty ≡ false → Mismatch script i.at)
     → (is_array_object o ≡ false → Mismatch script t.at) → At script (indexed_object t i o)
 indexed_object_in script t i (objects.Array e) h k y z = indexed_at_in script t i (ty_of_element e) e h k y
 indexed_object_in script t i _ h k y z = mismatch h (z refl)
 
-indexed_in : (script : Script) (t : Typed) (of : Ty) (i : Typed) → HasStart script.tokens t.at
+indexed_in : (script : Script) (t : TypedExpr) (of : Ty) (i : TypedExpr) → HasStart script.tokens t.at
     → HasStart script.tokens i.at → t.ty ≡ of → (may_be_integer i.ty ≡ false → Mismatch script i.at)
     → (may_be_array t.ty ≡ false → Mismatch script t.at) → At script (indexed t of i)
 unfolding indexed
@@ -218,7 +218,7 @@ one_more a b h = omega (arith, h)
 
 -- what is wrong with an assignment
 unassigned : (script : Script) (env : Environment) (p : place.Place) (e : written.Expr) (op : AssignOp)
-    (v : written.Expr) (t u : Typed) → OccursIn script (phrases.Expression env (written.Assign p e op v))
+    (v : written.Expr) (t u : TypedExpr) → OccursIn script (phrases.Expression env (written.Assign p e op v))
     → typed env (is_assign op) e ≡ Ok t → typed env false v ≡ Ok u
     → Unassigned script env.declarations.classes t u (operator_of op)
 unassigned script env p e op v t u r q w = record {
@@ -278,7 +278,7 @@ mutual
       bind (all_in script env es h.1 (phrases.other_arguments r)) (λ ts l.
       fine ((k, l.0), one_more (length ts) (argument_count es) l.1)))
 
-  links_in : (script : Script) (env : Environment) (t : Typed) (ls : written.Links) → LinksIn script.tokens ls
+  links_in : (script : Script) (env : Environment) (t : TypedExpr) (ls : written.Links) → LinksIn script.tokens ls
       → HasStart script.tokens t.at → OccursIn script (phrases.Links env t ls) → At script (links_typed env t ls)
   links_in script env t written.no_link h k r = fine k
   links_in script env t (written.link op e ls) h k r =
@@ -286,14 +286,14 @@ mutual
       bind_by (operate_in script op t u k l (λ at b. mismatches.operands r q b)) (λ both w m.
       links_in script env both ls h.1 m (phrases.other_links r q w)))
 
-  suffixes_in : (script : Script) (env : Environment) (t : Typed) (ss : written.Suffixes) → SuffixesIn script.tokens ss
+  suffixes_in : (script : Script) (env : Environment) (t : TypedExpr) (ss : written.Suffixes) → SuffixesIn script.tokens ss
       → HasStart script.tokens t.at → OccursIn script (phrases.Suffixes env t ss) → At script (suffixes_typed env t ss)
   suffixes_in script env t written.no_suffix h k r = fine k
   suffixes_in script env t (written.suffix s ss) h k r =
       bind_by (suffix_in script env t s ss h.0 k r) (λ next q l.
       suffixes_in script env next ss h.1 l (phrases.other_suffixes r q))
 
-  suffix_in : (script : Script) (env : Environment) (t : Typed) (s : written.Suffix) (ss : written.Suffixes)
+  suffix_in : (script : Script) (env : Environment) (t : TypedExpr) (s : written.Suffix) (ss : written.Suffixes)
       → SuffixIn script.tokens s → HasStart script.tokens t.at
       → OccursIn script (phrases.Suffixes env t (written.suffix s ss)) → At script (suffix_typed env t s)
   suffix_in script env t (written.Field p text) ss h k r = field_in script env t t.ty p text ss h k r refl

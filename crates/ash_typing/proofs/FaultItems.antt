@@ -10,8 +10,9 @@ use Rattle.ash_typed.specs.declared.types.ObjectType.{ObjectType}
 use Rattle.ash_typed.specs.declared.types.ObjectType.TheVariants as objects
 use Rattle.ash_typing.specs.declared.fault.Rule.TheVariants as rules
 use Rattle.ash_typing.specs.declared.types.Ty.TheVariants as ty
+use Rattle.ash_typed.specs.Limits.{max_module_types}
 use Rattle.ash_typed.specs.Modules.{Module}
-use Rattle.ash_typing.specs.Environment.{Environment, inside, seen}
+use Rattle.ash_typing.specs.Environment.{Environment, inside, module_environment}
 use Rattle.ash_typing.specs.ModuleDeclarations.{declarations}
 use Rattle.ash_tree.specs.Items.{constructing, Routine, routine_of, classes_of, interfaces_of}
 use Rattle.ash_typing.specs.Declarations.{at_type}
@@ -204,11 +205,11 @@ pub record HasItems (calls : List Registration) (before : List written.Item) (w 
   pub interfaces : length w.typed.interfaces ≡ length (interfaces_of before)
 
 room_in : (script : Script) (at : ℕ) (text : List ℕ) (x : Phrase) (m : Module) → HasToken script.tokens (name text) at
-    → OccursIn script x → counted_by x ≡ Some (the_name at text (nat_le 256 (length m.classes + length m.interfaces)))
+    → OccursIn script x → counted_by x ≡ Some (the_name at text (nat_le max_module_types (length m.classes + length m.interfaces)))
     → Answers script (λ (place : ℕ). place ≡ length m.classes) (room_for_type at m)
 unfolding room_for_type
 room_in script at text x m h r e =
-    either (nat_le 256 (length m.classes + length m.interfaces))
+    either (nat_le max_module_types (length m.classes + length m.interfaces))
     (λ b. faulty (name text, h, refl, meaning.too_many r e b)) (λ b. fine refl)
 
 -- as many as before
@@ -302,7 +303,7 @@ items_in script env before w (i ∷ is) h k r =
 module_by_in : (script : Script) → AllByRecursion (ItemIn script.tokens) script.items
     → Fine script (module_by script.calls (declarations script.calls script.items) script.items)
 module_by_in script h =
-    bind (items_in script (seen script.calls (declarations script.calls script.items)) [] (nothing script.calls) script.items h
+    bind (items_in script (module_environment script.calls (declarations script.calls script.items)) [] (nothing script.calls) script.items h
     (record { names = refl; classes = refl; interfaces = refl }) phrases.items)
     (λ w u. fine tt)
 

@@ -3,6 +3,7 @@ use Rattle.std.proofs.Common.{◌≡◌, ℕ, suc, ◌+◌, ◌-◌, List, [], �
 use Rattle.std.proofs.lemmas.List.{append_assoc, append-nil, length-append, length-map}
 use Rattle.ash_registrations.specs.Calls.{Registration}
 use Rattle.ash_tree.specs.Tree as written
+use Rattle.ash_typed.specs.Limits.{max_globals, max_class_members}
 use Rattle.ash_typing.specs.Items.{Names}
 use Rattle.ash_tree.specs.Items.{classes_of, interfaces_of, globals_of, decl_name, names_of, variable_names}
 use Rattle.ash_tree.specs.Items.{member_names, item_names}
@@ -63,12 +64,12 @@ globals_counted (written.AGlobal v ∷ is) i =
 -- what is taken after an item of these names, of which so many are variables
 after_item : (calls : List Registration) (before : List written.Item) (i : written.Item) (names : List (List ℕ)) (count : ℕ)
     → item_names (i ∷ []) ≡ names → globals_in (i ∷ []) ≡ count
-    → names_with (names_before calls before) (item_names before ++ names) (256 - globals_in before - count)
+    → names_with (names_before calls before) (item_names before ++ names) (max_globals - globals_in before - count)
     ≡ names_before calls (before ++ i ∷ [])
 after_item calls before i names count e k =
     let counted = globals_counted before i in
     same_names (names_before calls before) (item_names before ++ names) (item_names (before ++ i ∷ []))
-    (256 - globals_in before - count) (256 - globals_in (before ++ i ∷ []))
+    (max_globals - globals_in before - count) (max_globals - globals_in (before ++ i ∷ []))
     (ap (λ ns. item_names before ++ ns) (sym e) ∙ sym (items_named before i)) (omega arith)
 
 -- after an item that declares one name, and no variable
@@ -77,7 +78,7 @@ pub names_after_item : (calls : List Registration) (before : List written.Item) 
     → with_name (names_before calls before) text ≡ names_before calls (before ++ i ∷ [])
 names_after_item calls before i text e k =
     same_names (names_before calls before) (item_names before ++ text ∷ []) (item_names before ++ text ∷ [])
-    (256 - globals_in before) (256 - globals_in before - 0) refl (omega arith)
+    (max_globals - globals_in before) (max_globals - globals_in before - 0) refl (omega arith)
     ∙ after_item calls before i (text ∷ []) 0 e k
 
 pub names_after_globals : (calls : List Registration) (before : List written.Item) (v : written.Vars)
@@ -119,14 +120,14 @@ members_named (written.AField v ∷ ms) m =
 names_after_member : (before : List written.Member) (m : written.Member) (names : List (List ℕ))
     → member_names (m ∷ []) ≡ names
     → names_with (names_of_members before) (member_names before ++ names)
-    (32 - length (member_names before) - length names) ≡ names_of_members (before ++ m ∷ [])
+    (max_class_members - length (member_names before) - length names) ≡ names_of_members (before ++ m ∷ [])
 names_after_member before m names e =
     let same : member_names before ++ names ≡ member_names (before ++ m ∷ []) =
     ap (λ ns. member_names before ++ ns) (sym e) ∙ sym (members_named before m) in
     let counted = length-append (member_names before) names in
     let count : length (member_names before ++ names) ≡ length (member_names (before ++ m ∷ [])) = ap length same in
     same_names (names_of_members before) (member_names before ++ names) (member_names (before ++ m ∷ []))
-    (32 - length (member_names before) - length names) (32 - length (member_names (before ++ m ∷ []))) same
+    (max_class_members - length (member_names before) - length names) (max_class_members - length (member_names (before ++ m ∷ []))) same
     (omega arith)
 
 pub names_after_method : (before : List written.Member) (f : written.Function)
@@ -139,7 +140,7 @@ names_after_fields before v =
     let count = length-map v.decls decl_name in
     decls_are (names_of_members before) v.decls
     ∙ same_names (names_of_members before) (member_names before ++ names_of v) (member_names before ++ names_of v)
-    (32 - length (member_names before) - length v.decls) (32 - length (member_names before) - length (names_of v))
+    (max_class_members - length (member_names before) - length v.decls) (max_class_members - length (member_names before) - length (names_of v))
     refl (omega arith) ∙ names_after_member before (written.AField v) (names_of v) (append-nil (names_of v))
 
 pub names_after_constructor : (before : List written.Member) (c : written.Constructor)
@@ -148,8 +149,8 @@ names_after_constructor before c =
     let same : member_names before ≡ member_names (before ++ written.AConstructor c ∷ []) =
     sym (members_named before (written.AConstructor c) ∙ append-nil (member_names before)) in
     same_names (names_of_members before) (member_names before) (member_names (before ++ written.AConstructor c ∷ []))
-    (32 - length (member_names before)) (32 - length (member_names (before ++ written.AConstructor c ∷ []))) same
-    (ap (λ ns. 32 - length ns) same)
+    (max_class_members - length (member_names before)) (max_class_members - length (member_names (before ++ written.AConstructor c ∷ []))) same
+    (ap (λ ns. max_class_members - length ns) same)
 
 -- methods of an interface, and interfaces that a class lists
 
@@ -162,7 +163,7 @@ pub names_after_signature : (before : List written.InterfaceMethod) (m : written
 names_after_signature before m =
     let counted = length-append before (m ∷ []) in
     same_names (names_of_methods before) (map signature_name before ++ m.name ∷ [])
-    (map signature_name (before ++ m ∷ [])) (32 - length before - 1) (32 - length (before ++ m ∷ []))
+    (map signature_name (before ++ m ∷ [])) (max_class_members - length before - 1) (max_class_members - length (before ++ m ∷ []))
     (mapped signature_name before m) (omega arith)
 
 pub names_after_listed : (before : List written.TypeName) (n : written.TypeName)

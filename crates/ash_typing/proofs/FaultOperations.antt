@@ -20,15 +20,15 @@ use Rattle.ash_typing.specs.declared.forms.OperatorClass.{OperatorClass}
 use Rattle.ash_typing.specs.declared.forms.Form.{Form}
 use Rattle.ash_typed.specs.declared.tree.operations.Calculator.{Calculator}
 use Rattle.ash_typed.specs.declared.tree.operations.Operands.{Operands}
-use Rattle.ash_typed.specs.declared.tree.operations.Step.{Step}
-use Rattle.ash_typed.specs.declared.tree.operations.Step.TheVariants as steps
+use Rattle.ash_typed.specs.declared.tree.operations.IncrementOp.{IncrementOp}
+use Rattle.ash_typed.specs.declared.tree.operations.IncrementOp.TheVariants as steps
 use Rattle.ash_typed.specs.Tree.{Null, Place}
 use Rattle.ash_typing.specs.TypingResult.{TypingResult, broken}
 use Rattle.ash_typing.specs.Types.{common, takes, assumed_type, common_operands, operator_class_of, binary_of, ty_of}
 use Rattle.ash_typing.specs.Coercions.{fits}
 use Rattle.ash_typing.specs.Environment.{Environment, Class, Known, Callee, variable_in, callee_in}
 use Rattle.ash_typing.specs.Terms.{assignable, operator_of, is_stored}
-use Rattle.ash_typing.specs.Expressions.{Typed, UnifiedOperands, term_at, coerced_for_assignment, integer_of, bool_of}
+use Rattle.ash_typing.specs.Expressions.{TypedExpr, UnifiedOperands, term_at, coerced_for_assignment, integer_of, bool_of}
 use Rattle.ash_typing.specs.Expressions.{handle_of, adapted, unified_as, unify_operands}
 use Rattle.ash_typing.specs.Expressions.{operate, counted, handle_at, unary_at, converting, convert_at, is_void, chosen}
 use Rattle.ash_typing.specs.Expressions.{choice, updated, stored, assigned_to, assigned, all_coerced, arguments_at}
@@ -44,16 +44,16 @@ use Rattle.ash_typing.proofs.FaultAnswers.{Script, OccursIn, Wrong, Mismatch, An
 use Rattle.ash_typing.proofs.FaultAnswers.{no_place, bind, bind_by, either, choose_start}
 
 -- typed expressions, each at a token
-abbrev pub AllAt : Tokens → List Typed → Type 0
-AllAt script ts = AllByRecursion (λ (t : Typed). HasStart script t.at) ts
+abbrev pub AllAt : Tokens → List TypedExpr → Type 0
+AllAt script ts = AllByRecursion (λ (t : TypedExpr). HasStart script t.at) ts
 
 -- of so many arguments
-abbrev pub ListAt : Script → ℕ → TypingResult (List Typed) → Type 0
-ListAt script count r = Answers script (λ (ts : List Typed). AllAt script.tokens ts × (length ts ≡ count)) r
+abbrev pub ListAt : Script → ℕ → TypingResult (List TypedExpr) → Type 0
+ListAt script count r = Answers script (λ (ts : List TypedExpr). AllAt script.tokens ts × (length ts ≡ count)) r
 
 -- what an operand has to be
 
-pub coerced_for_assignment_in : (script : Script) (classes : List Class) (of : Ty) (t : Typed)
+pub coerced_for_assignment_in : (script : Script) (classes : List Class) (of : Ty) (t : TypedExpr)
     → HasStart script.tokens t.at
     → (fits classes of t.ty ≡ false → Mismatch script t.at) → Fine script (coerced_for_assignment classes of t)
 unfolding coerced_for_assignment
@@ -80,12 +80,12 @@ handle_in script at _ h w = mismatch h (w refl)
 
 -- operators between two operands
 
-adapted_in : (script : Tokens) (s : OperatorClass) (a : Form) (of : Ty) (t : Typed) → HasStart script t.at
+adapted_in : (script : Tokens) (s : OperatorClass) (a : Form) (of : Ty) (t : TypedExpr) → HasStart script t.at
     → HasStart script (adapted s a of t).at
 unfolding adapted
 adapted_in script s a of t h = h
 
-unified_as_in : (script : Script) (s : OperatorClass) (a b : Typed) (o : Option Operands) → HasStart script.tokens a.at
+unified_as_in : (script : Script) (s : OperatorClass) (a b : TypedExpr) (o : Option Operands) → HasStart script.tokens a.at
     → HasStart script.tokens b.at → ((at : ℕ) → unified_as s a b o ≡ broken rules.TypeMismatch at → Mismatch script at)
     → Answers script (λ (m : UnifiedOperands). HasStart script.tokens m.left.at) (unified_as s a b o)
 unified_as_in script s a b (Some o) h k w = fine h
@@ -93,10 +93,10 @@ unified_as_in script s a b None h k w =
     mismatch (choose_start script.tokens (takes s a.ty) b.at a.at k h) (w (if takes s a.ty then b.at else a.at) refl)
 
 -- an operator does not take two operands
-abbrev pub NotUnified : Script → BinaryOp → Typed → Typed → Type 0
+abbrev pub NotUnified : Script → BinaryOp → TypedExpr → TypedExpr → Type 0
 NotUnified script op a b = (at : ℕ) → unify_operands op a b ≡ broken rules.TypeMismatch at → Mismatch script at
 
-unified_in : (script : Script) (op : BinaryOp) (a b : Typed) → HasStart script.tokens a.at → HasStart script.tokens b.at
+unified_in : (script : Script) (op : BinaryOp) (a b : TypedExpr) → HasStart script.tokens a.at → HasStart script.tokens b.at
     → NotUnified script op a b
     → Answers script (λ (m : UnifiedOperands). HasStart script.tokens m.left.at) (unify_operands op a b)
 unfolding unify_operands
@@ -107,7 +107,7 @@ unified_in script op a b h k w =
     unified_as_in script s x y (common_operands s (assumed_type s y.ty x.ty) (assumed_type s x.ty y.ty))
     (adapted_in script.tokens s b.form b.ty a h) (adapted_in script.tokens s a.form a.ty b k) w
 
-pub operate_in : (script : Script) (op : BinaryOp) (a b : Typed) → HasStart script.tokens a.at
+pub operate_in : (script : Script) (op : BinaryOp) (a b : TypedExpr) → HasStart script.tokens a.at
     → HasStart script.tokens b.at
     → NotUnified script op a b → At script (operate op a b)
 unfolding operate
@@ -115,20 +115,20 @@ operate_in script op a b h k w = bind (unified_in script op a b h k w) (λ m lef
 
 -- operators before an operand
 
-pub counted_in : (script : Script) (at : ℕ) (step : Step) (t : Typed) (p : Option Place) → HasStart script.tokens at
+pub counted_in : (script : Script) (at : ℕ) (step : IncrementOp) (t : TypedExpr) (p : Option Place) → HasStart script.tokens at
     → HasStart script.tokens t.at → (p ≡ None → (m : Meaning) → Wrong script rules.NotAssignable t.at m)
     → (may_be_integer t.ty ≡ false → Mismatch script t.at) → At script (counted at step t p)
 unfolding counted
 counted_in script at step t None h k w z = no_place k (w refl)
 counted_in script at step t (Some p) h k w z = bind (integer_in script t.at t.ty k z) (λ int_type u. fine h)
 
-handle_at_in : (script : Script) (left : Bool) (at : ℕ) (t : Typed) → HasStart script.tokens at
+handle_at_in : (script : Script) (left : Bool) (at : ℕ) (t : TypedExpr) → HasStart script.tokens at
     → HasStart script.tokens t.at → (may_be_object t.ty ≡ false → Mismatch script t.at)
     → At script (handle_at left at t)
 handle_at_in script true at t h k z = fine h
 handle_at_in script false at t h k z = bind (handle_in script t.at t.ty k z) (λ of u. fine h)
 
-pub unary_in : (script : Script) (left : Bool) (at : ℕ) (op : UnaryOp) (t : Typed) → HasStart script.tokens at
+pub unary_in : (script : Script) (left : Bool) (at : ℕ) (op : UnaryOp) (t : TypedExpr) → HasStart script.tokens at
     → HasStart script.tokens t.at
     → (counts op ≡ true → assignable t.form t.tree ≡ None → (m : Meaning) → Wrong script rules.NotAssignable t.at m)
     → (takes_operand op t.ty ≡ false → Mismatch script t.at) → At script (unary_at left at op t)
@@ -143,12 +143,12 @@ unary_in script left at unary.Decrement t h k w z =
     counted_in script at steps.Decrement t (assignable t.form t.tree) h k (w refl) z
 unary_in script left at unary.Handle t h k w z = handle_at_in script left at t h k z
 
-converting_in : (script : Script) (at : ℕ) (of : Ty) (t : Typed) → HasStart script.tokens at
+converting_in : (script : Script) (at : ℕ) (of : Ty) (t : TypedExpr) → HasStart script.tokens at
     → HasStart script.tokens t.at → (converts of t.ty ≡ false → Mismatch script t.at) → At script (converting at of t)
 converting_in script at (ty.Integer j) t h k z = bind (integer_in script t.at t.ty k z) (λ int_type u. fine h)
 converting_in script at _ t h k z = bind (bool_in script t.at t.ty k z) (λ b u. fine h)
 
-pub convert_in : (script : Script) (at : ℕ) (to : Primitive) (t : Typed) → HasStart script.tokens at
+pub convert_in : (script : Script) (at : ℕ) (to : Primitive) (t : TypedExpr) → HasStart script.tokens at
     → HasStart script.tokens t.at → (converts (ty_of to) t.ty ≡ false → Mismatch script t.at)
     → At script (convert_at at to t)
 unfolding convert_at
@@ -156,13 +156,13 @@ convert_in script at to t h k z = converting_in script at (ty_of to) t h k z
 
 -- choices and assignments
 
-chosen_in : (script : Script) (c a b : Typed) (of : Option Ty) → HasStart script.tokens c.at
+chosen_in : (script : Script) (c a b : TypedExpr) (of : Option Ty) → HasStart script.tokens c.at
     → HasStart script.tokens a.at → HasStart script.tokens b.at
     → (of ≡ None → Mismatch script (if is_void a.ty then a.at else b.at)) → At script (chosen c a b of)
 chosen_in script c a b (Some of) h k l z = fine h
 chosen_in script c a b None h k l z = mismatch (choose_start script.tokens (is_void a.ty) a.at b.at k l) (z refl)
 
-pub choice_in : (script : Script) (c a b : Typed) → HasStart script.tokens c.at → HasStart script.tokens a.at
+pub choice_in : (script : Script) (c a b : TypedExpr) → HasStart script.tokens c.at → HasStart script.tokens a.at
     → HasStart script.tokens b.at → (may_be_bool c.ty ≡ false → Mismatch script c.at)
     → (common a.ty b.ty ≡ None → Mismatch script (if is_void a.ty then a.at else b.at)) → At script (choice c a b)
 unfolding choice
@@ -170,19 +170,19 @@ choice_in script c a b h k l y z =
     bind (bool_in script c.at c.ty h y) (λ yes u. chosen_in script c a b (common a.ty b.ty) h k l z)
 
 -- what is assigned to a typed place does not fit
-pub record Unassigned (script : Script) (classes : List Class) (t v : Typed) (c : Option Calculator) : Type 0 where
+pub record Unassigned (script : Script) (classes : List Class) (t v : TypedExpr) (c : Option Calculator) : Type 0 where
   pub unfit : c ≡ None → fits classes t.ty v.ty ≡ false → Mismatch script v.at
   pub not_unified : (by : Calculator) → c ≡ Some by → NotUnified script (binary_of by) (term_at t.at t.ty Null) v
   pub uncounted : (by : Calculator) → c ≡ Some by → may_be_integer t.ty ≡ false → Mismatch script t.at
 
-updated_in : (script : Script) (at : ℕ) (of : Ty) (p : Place) (c : Calculator) (v : Typed) → HasStart script.tokens at
+updated_in : (script : Script) (at : ℕ) (of : Ty) (p : Place) (c : Calculator) (v : TypedExpr) → HasStart script.tokens at
     → HasStart script.tokens v.at → NotUnified script (binary_of c) (term_at at of Null) v
     → (may_be_integer of ≡ false → Mismatch script at) → At script (updated at of p c v)
 updated_in script at of p c v h k y z =
     bind (unified_in script (binary_of c) (term_at at of Null) v h k y) (λ m left.
     bind (integer_in script at of h z) (λ int_type u. fine h))
 
-stored_in : (script : Script) (classes : List Class) (t : Typed) (p : Place) (c : Option Calculator) (v : Typed)
+stored_in : (script : Script) (classes : List Class) (t : TypedExpr) (p : Place) (c : Option Calculator) (v : TypedExpr)
     → HasStart script.tokens t.at → HasStart script.tokens v.at → Unassigned script classes t v c
     → At script (stored classes t.at t.ty p c v)
 unfolding stored
@@ -191,7 +191,7 @@ stored_in script classes t p None v h k z =
 stored_in script classes t p (Some c) v h k z =
     updated_in script t.at t.ty p c v h k (z.not_unified c refl) (z.uncounted c refl)
 
-assigned_to_in : (script : Script) (classes : List Class) (t : Typed) (op : AssignOp) (v : Typed) (p : Option Place)
+assigned_to_in : (script : Script) (classes : List Class) (t : TypedExpr) (op : AssignOp) (v : TypedExpr) (p : Option Place)
     → HasStart script.tokens t.at → HasStart script.tokens v.at → assignable t.form t.tree ≡ p
     → (takes_value t ≡ false → (m : Meaning) → Wrong script rules.NotAssignable t.at m)
     → Unassigned script classes t v (operator_of op) → At script (assigned_to classes t op v p)
@@ -200,7 +200,7 @@ assigned_to_in script classes t op v (Some p) h k q w z =
     either (is_stored t.form t.ty) (λ b. stored_in script classes t p (operator_of op) v h k z)
     (λ b. no_place h (w (rw (q, b) refl)))
 
-pub assigned_in : (script : Script) (classes : List Class) (t : Typed) (op : AssignOp) (v : Typed)
+pub assigned_in : (script : Script) (classes : List Class) (t : TypedExpr) (op : AssignOp) (v : TypedExpr)
     → HasStart script.tokens t.at → HasStart script.tokens v.at
     → (takes_value t ≡ false → (m : Meaning) → Wrong script rules.NotAssignable t.at m)
     → Unassigned script classes t v (operator_of op) → At script (assigned classes t op v)
@@ -210,10 +210,10 @@ assigned_in script classes t op v h k w z = assigned_to_in script classes t op v
 -- calls
 
 -- an argument does not fit its parameter
-abbrev pub Unfit : Script → List Class → List Ty → List Typed → Type 0
+abbrev pub Unfit : Script → List Class → List Ty → List TypedExpr → Type 0
 Unfit script classes ps ts = (at : ℕ) → IsUnfit classes ps ts at → Mismatch script at
 
-all_coerced_in : (script : Script) (classes : List Class) (ps : List Ty) (ts : List Typed) → AllAt script.tokens ts
+all_coerced_in : (script : Script) (classes : List Class) (ps : List Ty) (ts : List TypedExpr) → AllAt script.tokens ts
     → Unfit script classes ps ts → Fine script (all_coerced classes ps ts)
 all_coerced_in script classes [] ts h z = fine tt
 all_coerced_in script classes (p ∷ ps) [] h z = fine tt
@@ -222,7 +222,7 @@ all_coerced_in script classes (p ∷ ps) (t ∷ ts) h z =
     bind (all_coerced_in script classes ps ts h.1 (λ at b. z at (mismatches.later_one b))) (λ es v. fine tt))
 
 -- another number than there are parameters
-pub arguments_in : (script : Script) (classes : List Class) (at : ℕ) (m : Meaning) (ps : List Ty) (ts : List Typed)
+pub arguments_in : (script : Script) (classes : List Class) (at : ℕ) (m : Meaning) (ps : List Ty) (ts : List TypedExpr)
     → HasToken script.tokens m at → begins_call m ≡ true → AllAt script.tokens ts
     → (nat_eq (length ps) (length ts) ≡ false → Wrong script rules.WrongArgumentCount at m) → Unfit script classes ps ts
     → Fine script (arguments_at classes at ps ts)
@@ -232,7 +232,7 @@ arguments_in script classes at m ps ts h calls k other z =
     (λ b. faulty (m, h, calls, other b))
 
 -- what is called takes these parameters
-pub called_with_in : (script : Script) (classes : List Class) (at : ℕ) (m : Meaning) (callee : Callee) (ts : List Typed)
+pub called_with_in : (script : Script) (classes : List Class) (at : ℕ) (m : Meaning) (callee : Callee) (ts : List TypedExpr)
     (ps : List Ty) → HasToken script.tokens m at → begins_call m ≡ true → begins_expression m ≡ true
     → AllAt script.tokens ts → (nat_eq (length ps) (length ts) ≡ false → Wrong script rules.WrongArgumentCount at m)
     → Unfit script classes ps ts → At script (called classes at callee ts (Some ps))
@@ -242,13 +242,13 @@ called_with_in script classes at m callee ts ps h calls begins k other z =
 
 -- what is wrong with these arguments of what takes these parameters, where they are known
 pub record Miscalls (script : Script) (classes : List Class) (at : ℕ) (m : Meaning) (ps : Option (List Ty))
-    (ts : List Typed) : Type 0 where
+    (ts : List TypedExpr) : Type 0 where
   pub none : ps ≡ None → Wrong script rules.NoFactory at m
   pub other : (parameters : List Ty) → ps ≡ Some parameters → nat_eq (length parameters) (length ts) ≡ false
       → Wrong script rules.WrongArgumentCount at m
   pub unfit : (parameters : List Ty) → ps ≡ Some parameters → Unfit script classes parameters ts
 
-pub called_in : (script : Script) (classes : List Class) (at : ℕ) (text : List ℕ) (callee : Callee) (ts : List Typed)
+pub called_in : (script : Script) (classes : List Class) (at : ℕ) (text : List ℕ) (callee : Callee) (ts : List TypedExpr)
     (ps : Option (List Ty)) → HasToken script.tokens (name text) at → AllAt script.tokens ts
     → Miscalls script classes at (name text) ps ts → At script (called classes at callee ts ps)
 unfolding called
@@ -264,7 +264,7 @@ callee_at_in script env p text es None h r e = faulty (name text, h, refl, meani
 callee_at_in script env p text es (Some callee) h r e = fine e
 
 miscalled : (script : Script) (env : Environment) (p : place.Place) (text : List ℕ) (es : written.Exprs)
-    (callee : Callee) (ts : List Typed) → OccursIn script (phrases.Expression env (written.Call p text es))
+    (callee : Callee) (ts : List TypedExpr) → OccursIn script (phrases.Expression env (written.Call p text es))
     → callee_in env text ≡ Some callee → length ts ≡ argument_count es → all_typed env es ≡ Ok ts
     → Miscalls script env.declarations.classes p.at (name text) callee.parameters ts
 miscalled script env p text es callee ts r e c a = record {

@@ -15,7 +15,7 @@ use Rattle.ash_typing.specs.declared.types.Ty.{Ty}
 use Rattle.ash_typed.specs.StatementTree.{Stmt, Head}
 use Rattle.ash_typing.specs.TypingResult.{TypingResult}
 use Rattle.ash_typing.specs.Environment.{Environment, Class}
-use Rattle.ash_typing.specs.Expressions.{Typed, typed, all_typed, is_void}
+use Rattle.ash_typing.specs.Expressions.{TypedExpr, typed, all_typed, is_void}
 use Rattle.ash_typing.specs.Switches.{integer_type_in, is_within, constant_typed, label_typed}
 use Rattle.ash_typing.specs.Labels.{is_same_constant, is_last}
 use Rattle.ash_typing.specs.Scopes.{Scope, block_of, loop_of, switch_of, after}
@@ -48,35 +48,35 @@ head_in script scope (written.Evaluate p e) f h r =
     bind (typed_in script scope.env false e h.1 (phrases.evaluated r)) (λ t u. fine tt)
 head_in script scope _ f h r = absurd f
 
-condition_in : (script : Script) (t : Typed) → HasStart script.tokens t.at
+condition_in : (script : Script) (t : TypedExpr) → HasStart script.tokens t.at
     → (may_be_bool t.ty ≡ false → Mismatch script t.at) → Fine script (condition_is t)
 condition_in script t h z = bool_in script t.at t.ty h z
 
 -- a condition that is typed is no `bool`
-abbrev pub Unconditional : Script → TypingResult Typed → Type 0
-Unconditional script condition = (t : Typed) → condition ≡ Ok t → may_be_bool t.ty ≡ false → Mismatch script t.at
+abbrev pub Unconditional : Script → TypingResult TypedExpr → Type 0
+Unconditional script condition = (t : TypedExpr) → condition ≡ Ok t → may_be_bool t.ty ≡ false → Mismatch script t.at
 
-if_in : (script : Script) (line : ℕ) (condition : TypingResult Typed) (inner : TypingResult Stmt) → At script condition
+if_in : (script : Script) (line : ℕ) (condition : TypingResult TypedExpr) (inner : TypingResult Stmt) → At script condition
     → Fine script inner → Unconditional script condition → Fine script (if_typed line condition inner)
 unfolding if_typed
 if_in script line condition inner h k z =
     bind_by h (λ c a at. bind k (λ s u. bind (condition_in script c at (z c a)) (λ yes v. fine tt)))
 
-if_else_in : (script : Script) (line : ℕ) (condition : TypingResult Typed) (inner other : TypingResult Stmt)
+if_else_in : (script : Script) (line : ℕ) (condition : TypingResult TypedExpr) (inner other : TypingResult Stmt)
     → At script condition → Fine script inner → Fine script other → Unconditional script condition
     → Fine script (if_else_typed line condition inner other)
 unfolding if_else_typed
 if_else_in script line condition inner other h k l z =
     bind_by h (λ c a at. bind k (λ s u. bind l (λ t w. bind (condition_in script c at (z c a)) (λ yes v. fine tt))))
 
-while_in : (script : Script) (line : ℕ) (condition : TypingResult Typed) (body : TypingResult Stmt)
+while_in : (script : Script) (line : ℕ) (condition : TypingResult TypedExpr) (body : TypingResult Stmt)
     → At script condition
     → Fine script body → Unconditional script condition → Fine script (while_typed line condition body)
 unfolding while_typed
 while_in script line condition body h k z =
     bind_by h (λ c a at. bind k (λ s u. bind (condition_in script c at (z c a)) (λ yes v. fine tt)))
 
-do_while_in : (script : Script) (line : ℕ) (body : TypingResult Stmt) (condition : TypingResult Typed)
+do_while_in : (script : Script) (line : ℕ) (body : TypingResult Stmt) (condition : TypingResult TypedExpr)
     → Fine script body
     → At script condition → Unconditional script condition → Fine script (do_while_typed line body condition)
 unfolding do_while_typed
@@ -84,7 +84,7 @@ do_while_in script line body condition k h z =
     bind k (λ s u. bind_by h (λ c a at. bind (condition_in script c at (z c a)) (λ yes v. fine tt)))
 
 -- the condition of a `for`, if it has one
-abbrev pub MaybeAt : Tokens → Option Typed → Type 0
+abbrev pub MaybeAt : Tokens → Option TypedExpr → Type 0
 MaybeAt script None = Unit {0}
 MaybeAt script (Some t) = HasStart script t.at
 
@@ -94,20 +94,20 @@ maybe_in : (script : Script) (env : Environment) (e : Option written.Expr) → M
 maybe_in script env None h r = fine tt
 maybe_in script env (Some e) h r = bind (typed_in script env false e h (r e refl)) (λ t k. fine k)
 
-maybe_condition_in : (script : Script) (t : Option Typed) → MaybeAt script.tokens t
-    → ((c : Typed) → t ≡ Some c → may_be_bool c.ty ≡ false → Mismatch script c.at) → Fine script (maybe_condition_is t)
+maybe_condition_in : (script : Script) (t : Option TypedExpr) → MaybeAt script.tokens t
+    → ((c : TypedExpr) → t ≡ Some c → may_be_bool c.ty ≡ false → Mismatch script c.at) → Fine script (maybe_condition_is t)
 maybe_condition_in script None h z = fine tt
 maybe_condition_in script (Some t) h z = condition_in script t h (z t refl)
 
-for_in : (script : Script) (line count : ℕ) (head : TypingResult Head) (condition : TypingResult (Option Typed))
-    (steps : TypingResult (List Typed)) (body : TypingResult Stmt) → Fine script head
+for_in : (script : Script) (line count : ℕ) (head : TypingResult Head) (condition : TypingResult (Option TypedExpr))
+    (steps : TypingResult (List TypedExpr)) (body : TypingResult Stmt) → Fine script head
     → Answers script (MaybeAt script.tokens) condition → ListAt script count steps → Fine script body
-    → ((c : Typed) → condition ≡ Ok (Some c) → may_be_bool c.ty ≡ false → Mismatch script c.at)
+    → ((c : TypedExpr) → condition ≡ Ok (Some c) → may_be_bool c.ty ≡ false → Mismatch script c.at)
     → Fine script (for_typed line head condition steps body)
 unfolding for_typed
 for_in script line count head condition steps body f h k l z =
     bind f (λ x u. bind_by h (λ c a at. bind k (λ ts all. bind l (λ s v.
-    bind (maybe_condition_in script c at (λ t e b. z t (a ∙ ap (λ (m : Option Typed). Ok m) e) b)) (λ yes w.
+    bind (maybe_condition_in script c at (λ t e b. z t (a ∙ ap (λ (m : Option TypedExpr). Ok m) e) b)) (λ yes w.
     fine tt)))))
 
 break_in : (script : Script) (scope : Scope) (p : place.Place) → HasToken script.tokens (reserved words.Break) p.at
@@ -125,7 +125,7 @@ unfolding continue_typed
 continue_in script scope p h r =
     either scope.in_loop (λ b. fine tt) (λ b. faulty (reserved words.Continue, h, refl, meaning.no_loop r b))
 
-returned_in : (script : Script) (classes : List Class) (of : Ty) (at : ℕ) (t : Typed)
+returned_in : (script : Script) (classes : List Class) (of : Ty) (at : ℕ) (t : TypedExpr)
     → HasToken script.tokens (reserved words.Return) at → HasStart script.tokens t.at
     → (is_void of ≡ true → Mismatch script at) → (fits classes of t.ty ≡ false → Mismatch script t.at)
     → Fine script (returned classes of at t)
@@ -183,23 +183,23 @@ for_condition script scope p f s c es r e q =
     phrases.for_condition (subst (λ x. OccursIn script (phrases.Statement scope (written.For p f x es s))) q r)
 
 -- what is typed, where the condition of a `for` is
-abbrev pub TypedBy : Environment → Option written.Expr → Typed → Type 0
+abbrev pub TypedBy : Environment → Option written.Expr → TypedExpr → Type 0
 TypedBy env c t = (e : written.Expr) × (c ≡ Some e) × (typed env false e ≡ Ok t)
 
-nothing_typed : (t : Typed) → ◌≡◌ {A = TypingResult (Option Typed)} (Ok None) (Ok (Some t)) → ⊥
+nothing_typed : (t : TypedExpr) → ◌≡◌ {A = TypingResult (Option TypedExpr)} (Ok None) (Ok (Some t)) → ⊥
 nothing_typed t h = cc
 
-same_typed : (t u : Typed) → ◌≡◌ {A = TypingResult (Option Typed)} (Ok (Some t)) (Ok (Some u)) → t ≡ u
+same_typed : (t u : TypedExpr) → ◌≡◌ {A = TypingResult (Option TypedExpr)} (Ok (Some t)) (Ok (Some u)) → t ≡ u
 same_typed t u h = cc
 
-typed_by : (env : Environment) (c : Option written.Expr) (t : Typed) → maybe_typed env c ≡ Ok (Some t) → TypedBy env c t
+typed_by : (env : Environment) (c : Option written.Expr) (t : TypedExpr) → maybe_typed env c ≡ Ok (Some t) → TypedBy env c t
 typed_by env None t h = absurd (nothing_typed t h)
 typed_by env (Some e) t h =
-    let u = bind_ok (typed env false e) (λ (x : Typed). Ok (Some x)) (Some t) h in
-    (e, refl, u.1 ∙ ap (λ (x : Typed). Ok x) (same_typed u.0 t u.2))
+    let u = bind_ok (typed env false e) (λ (x : TypedExpr). Ok (Some x)) (Some t) h in
+    (e, refl, u.1 ∙ ap (λ (x : TypedExpr). Ok x) (same_typed u.0 t u.2))
 
 for_unconditional : (script : Script) (scope : Scope) (p : place.Place) (f s : written.Stmt) (c : Option written.Expr)
-    (es : List written.Expr) (t : Typed) → OccursIn script (phrases.Statement scope (written.For p f c es s))
+    (es : List written.Expr) (t : TypedExpr) → OccursIn script (phrases.Statement scope (written.For p f c es s))
     → TypedBy (after (block_of scope) f).env c t → may_be_bool t.ty ≡ false → Mismatch script t.at
 for_unconditional script scope p f s c es t r h b =
     mismatches.for_condition (subst (λ x. OccursIn script (phrases.Statement scope (written.For p f x es s))) h.1 r) h.2

@@ -18,7 +18,7 @@ use Rattle.ash_typing.specs.declared.types.Ty.{Ty}
 use Rattle.ash_typing.specs.declared.types.Ty.TheVariants as ty
 use Rattle.ash_typing.specs.Types.{ty_of}
 use Rattle.ash_typing.specs.Environment.{Environment, Declared, Class, Callee, array_built, construction}
-use Rattle.ash_typing.specs.Expressions.{Typed, all_typed, at_element}
+use Rattle.ash_typing.specs.Expressions.{TypedExpr, all_typed, at_element}
 use Rattle.ash_typing.specs.Terms.{array_parameters}
 use Rattle.ash_typing.specs.ModuleDeclarations.{declared, element_by, element_named, array_named, object_ty, handle_ty}
 use Rattle.ash_typing.specs.ModuleDeclarations.{ty_named}
@@ -186,7 +186,7 @@ variables_ty_in script env of h w =
 
 -- what is wrong with the construction of an object at an offset
 pub record Misbuilds (script : Script) (classes : List Class) (at : ℕ) (found : Option Callee)
-    (ts : List Typed) : Type 0 where
+    (ts : List TypedExpr) : Type 0 where
   pub none : (m : Meaning) → is_constructible found ≡ false → Wrong script rules.NoFactory at m
   pub other : (m : Meaning) (callee : Callee) (parameters : List Ty) → found ≡ Some callee
       → callee.parameters ≡ Some parameters → nat_eq (length parameters) (length ts) ≡ false
@@ -195,13 +195,13 @@ pub record Misbuilds (script : Script) (classes : List Class) (at : ℕ) (found 
       → Unfit script classes parameters ts
 
 -- arguments of what is constructed do not fit
-abbrev pub Unbuilt : Script → Environment → ObjectType → List Typed → Type 0
+abbrev pub Unbuilt : Script → Environment → ObjectType → List TypedExpr → Type 0
 Unbuilt script env o ts =
     (callee : Callee) (parameters : List Ty) → construction env o (length ts) ≡ Some callee
     → callee.parameters ≡ Some parameters → Unfit script env.declarations.classes parameters ts
 
 misbuilds : (script : Script) (env : Environment) (of_at at : ℕ) (o : ObjectType) (i : written.Initializer)
-    (ts : List Typed) → OccursIn script (phrases.Initializer env of_at at (ty.Object o) i) → length ts ≡ initial_count i
+    (ts : List TypedExpr) → OccursIn script (phrases.Initializer env of_at at (ty.Object o) i) → length ts ≡ initial_count i
     → Unbuilt script env o ts → Misbuilds script env.declarations.classes of_at (construction env o (length ts)) ts
 misbuilds script env of_at at o i ts r c z = record {
   none = λ m b. meaning.variable_factory r (subst (λ n. is_constructible (construction env o n) ≡ false) c b);
@@ -211,7 +211,7 @@ misbuilds script env of_at at o i ts r c z = record {
   unfit = z;
 }
 
-miscalls : (script : Script) (classes : List Class) (at : ℕ) (m : Meaning) (callee : Callee) (ts : List Typed)
+miscalls : (script : Script) (classes : List Class) (at : ℕ) (m : Meaning) (callee : Callee) (ts : List TypedExpr)
     → Misbuilds script classes at (Some callee) ts → Miscalls script classes at m callee.parameters ts
 miscalls script classes at m callee ts w = record {
   none = λ e. w.none m (ap is_some e);
@@ -219,7 +219,7 @@ miscalls script classes at m callee ts w = record {
   unfit = λ parameters q. w.unfit callee parameters refl q;
 }
 
-constructed_in : (script : Script) (classes : List Class) (at : ℕ) (ts : List Typed) (found : Option Callee)
+constructed_in : (script : Script) (classes : List Class) (at : ℕ) (ts : List TypedExpr) (found : Option Callee)
     → IsNameAt script at → AllAt script.tokens ts → Misbuilds script classes at found ts
     → Fine script (constructed classes at ts found)
 unfolding constructed
@@ -230,7 +230,7 @@ constructed_in script classes at ts (Some callee) h k w =
     (λ t u. fine tt)
 
 -- an array, which is constructed at its word or at a name
-array_in : (script : Script) (classes : List Class) (at : ℕ) (ts : List Typed) (e : Element) (count : ℕ)
+array_in : (script : Script) (classes : List Class) (at : ℕ) (ts : List TypedExpr) (e : Element) (count : ℕ)
     → HasToken script.tokens (reserved words.Array) at ⊎ IsNameAt script at → AllAt script.tokens ts
     → Misbuilds script classes at (Some (array_built e count)) ts
     → Fine script (constructed classes at ts (Some (array_built e count)))
@@ -243,7 +243,7 @@ array_in script classes at ts e count (inl h) k w =
 array_in script classes at ts e count (inr h) k w =
     constructed_in script classes at ts (Some (array_built e count)) h k w
 
-object_in : (script : Script) (env : Environment) (at : ℕ) (o : ObjectType) (ts : List Typed)
+object_in : (script : Script) (env : Environment) (at : ℕ) (o : ObjectType) (ts : List TypedExpr)
     → IsWrittenAt script (ty.Object o) at → AllAt script.tokens ts
     → Misbuilds script env.declarations.classes at (construction env o (length ts)) ts
     → Fine script (constructed env.declarations.classes at ts (construction env o (length ts)))
@@ -258,11 +258,11 @@ object_in script env at (objects.Host kind) ts w k b =
 
 -- where no argument is, none is unfit
 
-abbrev pub HasOne : List Typed → Type 0
+abbrev pub HasOne : List TypedExpr → Type 0
 HasOne [] = ⊥
 HasOne (t ∷ ts) = Unit {0}
 
-unfit_one : (classes : List Class) (ps : List Ty) (ts : List Typed) (at : ℕ) → IsUnfit classes ps ts at → HasOne ts
+unfit_one : (classes : List Class) (ps : List Ty) (ts : List TypedExpr) (at : ℕ) → IsUnfit classes ps ts at → HasOne ts
 unfit_one classes (p ∷ ps) (t ∷ ts) at b = tt
 unfit_one classes [] (t ∷ ts) at b = tt
 unfit_one classes [] [] at b = elim b [ ]
@@ -280,11 +280,11 @@ begun_in script env of_at at _ h r = fine tt
 not_one : (n : ℕ) → nat_eq (suc (suc n)) 1 ≡ false
 not_one n = grind (arith, nat_tests)
 
-stored_first_in : (script : Script) (classes : List Class) (of : Ty) (t : Typed) → HasStart script.tokens t.at
+stored_first_in : (script : Script) (classes : List Class) (of : Ty) (t : TypedExpr) → HasStart script.tokens t.at
     → (fits classes of t.ty ≡ false → Mismatch script t.at) → Fine script (stored_first classes of t)
 stored_first_in script classes of t h z = bind (coerced_for_assignment_in script classes of t h z) (λ e u. fine tt)
 
-begun_with_in : (script : Script) (classes : List Class) (at : ℕ) (text : List ℕ) (of : Ty) (t : Typed)
+begun_with_in : (script : Script) (classes : List Class) (at : ℕ) (text : List ℕ) (of : Ty) (t : TypedExpr)
     → HasToken script.tokens (name text) at → HasStart script.tokens t.at
     → ((o : ObjectType) → of ≡ ty.Object o → Wrong script rules.NotAssignable at (name text))
     → (fits classes of t.ty ≡ false → Mismatch script t.at) → Fine script (begun_with classes at of t)
@@ -292,10 +292,10 @@ unfolding begun_with
 begun_with_in script classes at text (ty.Object o) t h k w z = faulty (name text, h, refl, w o refl)
 begun_with_in script classes at text of t h k w z = stored_first_in script classes of t k z
 
-begun_by_one_in : (script : Script) (classes : List Class) (at : ℕ) (text : List ℕ) (of : Ty) (ts : List Typed)
+begun_by_one_in : (script : Script) (classes : List Class) (at : ℕ) (text : List ℕ) (of : Ty) (ts : List TypedExpr)
     → HasToken script.tokens (name text) at → AllAt script.tokens ts
     → (nat_eq (length ts) 1 ≡ false → Mismatch script at)
-    → ((t : Typed) → ts ≡ t ∷ [] → fits classes of t.ty ≡ false → Mismatch script t.at)
+    → ((t : TypedExpr) → ts ≡ t ∷ [] → fits classes of t.ty ≡ false → Mismatch script t.at)
     → Fine script (begun_by_one classes at of ts)
 unfolding begun_by_one
 begun_by_one_in script classes at text of [] h k y z = faulty (name text, h, refl, meaning.mismatch (y refl))
@@ -304,7 +304,7 @@ begun_by_one_in script classes at text of (t ∷ u ∷ ts) h k y z =
     faulty (name text, h, refl, meaning.mismatch (y (not_one (length ts))))
 
 begun_by_in : (script : Script) (env : Environment) (of_at at : ℕ) (text : List ℕ) (of : Ty) (es : List written.Expr)
-    (ts : List Typed) → IsWrittenAt script of of_at → HasToken script.tokens (name text) at → AllAt script.tokens ts
+    (ts : List TypedExpr) → IsWrittenAt script of of_at → HasToken script.tokens (name text) at → AllAt script.tokens ts
     → length ts ≡ argument_count (written.exprs es) → all_typed env (written.exprs es) ≡ Ok ts
     → OccursIn script (phrases.Initializer env of_at at of (written.Arguments es))
     → Fine script (begun_by env of_at at of ts)
@@ -317,7 +317,7 @@ begun_by_in script env of_at at text (ty.Handle o) es ts w h k c a r =
     faulty (name text, h, refl, meaning.mismatch (mismatches.handle_brackets r))
 begun_by_in script env of_at at text of es ts w h k c a r =
     begun_by_one_in script env.declarations.classes at text of ts h k (λ b. mismatches.brackets r refl a b)
-    (λ t e b. mismatches.initial_argument r (a ∙ ap (λ (us : List Typed). Ok us) e) b)
+    (λ t e b. mismatches.initial_argument r (a ∙ ap (λ (us : List TypedExpr). Ok us) e) b)
 
 initialized_in : (script : Script) (env : Environment) (of_at at : ℕ) (text : List ℕ) (of : Ty)
     (i : written.Initializer) → IsWrittenAt script of of_at → HasToken script.tokens (name text) at

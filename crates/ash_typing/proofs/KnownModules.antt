@@ -1,25 +1,17 @@
 -- The types that a typed module names are known, so that what each of its items sees is known.
-use Rattle.std.proofs.Common.{◌≡◌, ◌+◌, ℕ, Bool, true, false, cond, List, [], ◌∷◌, map, Option, Some, None, option_map}
-use Rattle.std.proofs.Common.{option_and_then, Ok, refl, ap, subst}
+use Rattle.std.proofs.Common.{◌≡◌, ◌+◌, ℕ, List, [], ◌∷◌, map, Option, Some, None}
+use Rattle.std.proofs.Common.{Ok, refl, subst}
 use mathlib.Core.Path.{fun_ext}
-use Rattle.std.specs.Str.{bytes_eq}
 use Rattle.std.specs.List.{AllByRecursion, AllZip, IsDistinct}
 use Rattle.ash_registrations.specs.Calls as host
 use Rattle.ash_tree.specs.Tree as written
-use Rattle.ash_typed.specs.declared.types.ObjectType.{ObjectType}
-use Rattle.ash_typed.specs.declared.types.ObjectType.TheVariants.{Class as OfClass, Interface as OfInterface}
-use Rattle.ash_typed.specs.declared.types.ObjectType.TheVariants.{Array as OfArray}
 use Rattle.ash_typing.specs.declared.types.Ty.{Ty}
 use Rattle.ash_typing.specs.declared.types.Ty.TheVariants as ty
-use Rattle.ash_typing.specs.Environment.{Environment, ModuleDeclarations, Interface, Class, first_from, is_class}
-use Rattle.ash_typing.specs.Environment.{is_interface_named}
+use Rattle.ash_typing.specs.Environment.{Environment, ModuleDeclarations, Interface, Class}
 use Rattle.ash_typing.specs.Environment.{inside}
-use Rattle.ash_typing.specs.ModuleDeclarations.{object_named, element_by, element_named, array_named, object_ty}
-use Rattle.ash_typing.specs.ModuleDeclarations.{handle_ty, ty_named}
-use Rattle.ash_typing.specs.ModuleDeclarations.{result_named, variables, parameter_ty, function_declaration, signature_declaration}
-use Rattle.ash_typing.specs.ModuleDeclarations.{names_in}
-use Rattle.ash_typing.specs.ModuleDeclarations.{declarations, ty_in, interface_declaration, class_declaration, named_interface}
-use Rattle.ash_typing.specs.ModuleDeclarations.{named_class}
+use Rattle.ash_typing.specs.ModuleDeclarations.{ty_named, result_named, variables, parameter_ty}
+use Rattle.ash_typing.specs.ModuleDeclarations.{function_declaration, signature_declaration, names_in, declarations}
+use Rattle.ash_typing.specs.ModuleDeclarations.{ty_in, interface_declaration, class_declaration}
 use Rattle.ash_typing.specs.ModuleDeclarations.{all_variables, constructed_by}
 use Rattle.ash_typing.specs.Declarations.{Initialization, known_ty}
 use Rattle.ash_typing.specs.Typing.{IsKnown, IsVariableType, IsResultType, IsKnownVariable, IsKnownFunction}
@@ -42,6 +34,7 @@ use Rattle.ash_typing.proofs.TypedInterfaces.{interface_sound}
 use Rattle.ash_typing.proofs.TypedClasses.{named_sound}
 use Rattle.ash_tree.specs.Items.{Routine, routine_of, constructing, classes_of, interfaces_of, classes_before}
 use Rattle.ash_tree.specs.Items.{functions_of, globals_of, fields_of, methods_of, constructors_of}
+use Rattle.ash_typing.proofs.NamedTypes.{same_type}
 
 -- the types that are named, by what is looked up
 
@@ -327,68 +320,6 @@ classes_known calls named (c ∷ cs) h = (
   },
   classes_known calls named cs h.1,
 )
-
--- types are looked up by the names of classes and interfaces alone
-
--- what is found, by its place
-abbrev object_at : {A : Type 0} → (ℕ → ObjectType) → Option (ℕ × A) → Option ObjectType
-object_at {A} of_place found = option_map (λ (f : ℕ × A). of_place f.0) found
-
-same_first : {A : Type 0} (of_place : ℕ → ObjectType) (i : ℕ) (b : Bool) (c d : A) (x y : Option (ℕ × A))
-    → object_at of_place x ≡ object_at of_place y
-    → object_at of_place (cond b (Some (i, c)) x) ≡ object_at of_place (cond b (Some (i, d)) y)
-same_first of_place i true c d x y h = refl
-same_first of_place i false c d x y h = h
-
-abbrev class_from : List ℕ → ℕ → List Class → Option ObjectType
-class_from name i cs = object_at OfClass (first_from (is_class name) i cs)
-
-abbrev interface_from : List ℕ → ℕ → List Interface → Option ObjectType
-interface_from name i ts = object_at OfInterface (first_from (is_interface_named name) i ts)
-
-same_class : (calls : List host.Registration) (named : ModuleDeclarations) (name : List ℕ) (i : ℕ) (cs : List written.Class)
-    → class_from name i (map (class_declaration calls named) cs) ≡ class_from name i (map named_class cs)
-same_class calls named name i [] = refl
-same_class calls named name i (c ∷ cs) =
-    same_first OfClass i (bytes_eq name c.name) _ _
-    (first_from (is_class name) (i + 1) (map (class_declaration calls named) cs))
-    (first_from (is_class name) (i + 1) (map named_class cs)) (same_class calls named name (i + 1) cs)
-
-same_interface : (calls : List host.Registration) (named : ModuleDeclarations) (name : List ℕ) (i : ℕ) (is : List written.Interface)
-    → interface_from name i (map (interface_declaration calls named) is) ≡ interface_from name i (map named_interface is)
-same_interface calls named name i [] = refl
-same_interface calls named name i (x ∷ is) =
-    same_first OfInterface i (bytes_eq name x.name) _ _
-    (first_from (is_interface_named name) (i + 1) (map (interface_declaration calls named) is))
-    (first_from (is_interface_named name) (i + 1) (map named_interface is)) (same_interface calls named name (i + 1) is)
-
-pub same_object : (calls : List host.Registration) (is : List written.Item) (name : List ℕ)
-    → object_named calls (declarations calls is) name ≡ object_named calls (names_in is) name
-unfolding object_named declarations
-same_object calls is name =
-    rw (
-      same_class calls (names_in is) name 0 (classes_of is),
-      same_interface calls (names_in is) name 0 (interfaces_of is),
-    ) refl
-
-same_element : (calls : List host.Registration) (is : List written.Item) (of : written.Element)
-    → element_named calls (declarations calls is) of ≡ element_named calls (names_in is) of
-unfolding element_named
-same_element calls is (written.PrimElement p k) = refl
-same_element calls is (written.HandleElement p name) = ap (option_and_then element_by) (same_object calls is name)
-
-same_array : (calls : List host.Registration) (is : List written.Item) (of : written.Element)
-    → array_named calls (declarations calls is) of ≡ array_named calls (names_in is) of
-same_array calls is of = ap (option_map OfArray) (same_element calls is of)
-
-pub same_type : (calls : List host.Registration) (is : List written.Item) (of : written.Named)
-    → ty_in (environment calls is) of ≡ ty_named calls (names_in is) of
-unfolding ty_named
-same_type calls is (written.Prim p k) = refl
-same_type calls is (written.Object p name) = ap object_ty (same_object calls is name)
-same_type calls is (written.Handle p name) = ap handle_ty (same_object calls is name)
-same_type calls is (written.Array p of) = ap object_ty (same_array calls is of)
-same_type calls is (written.ArrayHandle p of) = ap handle_ty (same_array calls is of)
 
 pub module_known : (calls : List host.Registration) (is : List written.Item)
     → KnownItems (ty_in (environment calls is)) is

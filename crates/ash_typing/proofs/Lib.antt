@@ -17,10 +17,12 @@ pub mod TypedRoutines
 pub mod TypedInterfaces
 pub mod TypedClasses
 pub mod TypedItems
+pub mod NamedTypes
 pub mod KnownModules
 pub mod ModuleLaws
 pub mod SoundnessLookUps
 pub mod SoundnessNames
+pub mod EqualTypes
 pub mod SoundnessTypes
 pub mod SoundnessExpressions
 pub mod SoundnessVariables

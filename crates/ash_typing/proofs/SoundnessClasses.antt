@@ -29,7 +29,7 @@ use Rattle.ash_typing.specs.Soundness.{signature_of, signatures_of_interface, si
 use Rattle.ash_typing.proofs.TypingTypes.{equal_integer_types}
 use Rattle.ash_typing.proofs.TypingKnown.{at_some, if_get, if_first, variable_is_known, result_is_known}
 use Rattle.ash_typing.proofs.TypedClasses.{count_names}
-use Rattle.ash_typing.proofs.SoundnessTypes.{equal_objects}
+use Rattle.ash_typing.proofs.EqualTypes.{equal_objects}
 use Rattle.ash_typing.proofs.SoundnessLookUps.{first_place, mapped}
 use Rattle.ash_typing.proofs.SoundnessNames.{object_sound}
 use Rattle.ash_typing.proofs.SoundnessItems.{routine_sound, functions_sound, fields_sound, zip_length}

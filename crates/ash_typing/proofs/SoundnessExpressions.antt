@@ -17,7 +17,7 @@ use Rattle.ash_typed.specs.declared.tree.operations.Calculator.TheVariants as ca
 use Rattle.ash_typed.specs.declared.tree.operations.Operands.{Operands}
 use Rattle.ash_typed.specs.declared.tree.operations.Operands.TheVariants as operands
 use Rattle.ash_typed.specs.declared.tree.operations.Change.TheVariants as changes
-use Rattle.ash_typed.specs.declared.tree.operations.Step.TheVariants as steps
+use Rattle.ash_typed.specs.declared.tree.operations.IncrementOp.TheVariants as steps
 use Rattle.ash_typed.specs.declared.tree.operations.Target.TheVariants as targets
 use Rattle.ash_typed.specs.declared.tree.operations.Member.{Member}
 use Rattle.ash_typed.specs.Tree.{Expr, Exprs, Truth, Null, This, Read, Invoke, Cast, Alter, Conditional, Assign, Update}

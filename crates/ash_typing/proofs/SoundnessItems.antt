@@ -4,6 +4,7 @@ use Rattle.std.proofs.Common.{◌≡◌, ◌≤◌, ◌+◌, ◌⊎◌, inl, inr
 use Rattle.std.proofs.Common.{Some, None, refl, sym, ap, subst, subst₂, ◌∙◌, arith}
 use Rattle.ash_tree.specs.Tree as written
 use Rattle.ash_typed.specs.declared.types.VarType.{VarType}
+use Rattle.ash_typed.specs.Limits.{max_class_members}
 use Rattle.ash_typed.specs.StatementTree.{Initialization}
 use Rattle.ash_typed.specs.Modules as modules
 use Rattle.ash_typed.specs.Returning.{AnyReturns}
@@ -161,7 +162,7 @@ interface_sound : (env : Environment) (i : written.Interface) (n total : ℕ) (t
     → IsInterface env i n t → sound.IsInterface (seen_in env).signatures total t
 interface_sound env i n total t few is = record {
   before = subst (λ k. k ≤ total) (sym is.before) few;
-  few = subst (λ k. k ≤ 32) (sym (zip_length (IsSignature env) i.methods t.methods is.methods)) is.few;
+  few = subst (λ k. k ≤ max_class_members) (sym (zip_length (IsSignature env) i.methods t.methods is.methods)) is.few;
   methods = signatures_sound env i.methods t.methods is.methods;
 }
 

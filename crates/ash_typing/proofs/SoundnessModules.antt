@@ -4,6 +4,7 @@ use Rattle.std.proofs.Common.{◌≡◌, ◌≤◌, ◌+◌, ℕ, suc, length, l
 use Rattle.std.proofs.Common.{sym, ap, ap₂, subst, ◌∙◌, arith}
 use Rattle.ash_registrations.specs.Calls as host
 use Rattle.ash_tree.specs.Tree as written
+use Rattle.ash_typed.specs.Limits.{max_globals}
 use Rattle.ash_typed.specs.Modules as modules
 use Rattle.ash_typed.specs.Signatures as signatures
 use Rattle.ash_typed.specs.SoundModules as sound
@@ -57,7 +58,7 @@ module_sound calls is m nest typed =
     record {
       few_types = omega arith;
       few_globals =
-          subst (λ n. n ≤ 256) (sym (globals_length env (globals_of is) m.globals typed.globals)) typed.few_globals;
+          subst (λ n. n ≤ max_globals) (sym (globals_length env (globals_of is) m.globals typed.globals)) typed.few_globals;
       functions_differ = functions_differ env is m.functions typed.differ typed.functions;
       globals_differ = globals_differ env is m.globals typed.differ typed.globals;
       interfaces =

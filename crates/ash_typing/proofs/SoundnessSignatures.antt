@@ -24,7 +24,7 @@ use Rattle.ash_typing.specs.TypedModules.{IsInterface, AreInterfaces, IsListed, 
 use Rattle.ash_typing.specs.TypedModules.{environment, IsTyped}
 use Rattle.ash_typing.specs.Offered.{offered}
 use Rattle.ash_typing.specs.Soundness.{signature_of, signatures_of_interface, signature_of_class, signatures_in}
-use Rattle.ash_typing.proofs.KnownModules.{same_type, same_object}
+use Rattle.ash_typing.proofs.NamedTypes.{same_type, same_object}
 use Rattle.ash_typing.proofs.SoundnessVariables.{map-append}
 
 -- lists

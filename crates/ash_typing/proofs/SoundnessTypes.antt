@@ -3,13 +3,11 @@ use Rattle.std.specs.Option.{option_map_or}
 use Rattle.std.proofs.lemmas.Bool.{eqb-true, ltb-true}
 use Rattle.std.proofs.lemmas.Option.{none-some, same_Some}
 use Rattle.std.proofs.lemmas.Map.Views.{Contains-from_any}
-use Rattle.std.proofs.Common.{◌≡◌, ◌^◌, ℕ, Bool, true, false, cond, Option, Some, None, slice_get, refl, sym, ap, subst}
+use Rattle.std.proofs.Common.{◌≡◌, ◌^◌, ℕ, Bool, true, false, cond, Option, Some, None, slice_get, refl, sym, subst}
 use Rattle.ash_tree.specs.declared.tree.operators.BinaryOp.{BinaryOp}
 use Rattle.ash_tree.specs.declared.tree.operators.BinaryOp.TheVariants as binary
 use Rattle.ash_integers.specs.declared.int_type.IntType.{IntType}
 use Rattle.ash_integers.specs.declared.int_type.IntType.TheVariants as ints
-use Rattle.ash_typed.specs.declared.types.Element.{Element}
-use Rattle.ash_typed.specs.declared.types.Element.TheVariants as elements
 use Rattle.ash_typed.specs.declared.types.ObjectType.{ObjectType}
 use Rattle.ash_typed.specs.declared.types.ObjectType.TheVariants as objects
 use Rattle.ash_typed.specs.declared.types.VarType.TheVariants as vars
@@ -26,38 +24,22 @@ use Rattle.ash_typing.specs.declared.forms.OperatorClass.{OperatorClass}
 use Rattle.ash_typing.specs.declared.forms.OperatorClass.TheVariants as operator_class
 use Rattle.ash_typing.specs.declared.forms.Form.{Form}
 use Rattle.ash_typing.specs.declared.forms.Form.TheVariants as form
-use Rattle.ash_typing.specs.Types.{is_same_integer_type, is_same_element, is_same_object, holds}
-use Rattle.ash_typing.specs.Types.{number_type, common_integer_type, common}
-use Rattle.ash_typing.specs.Types.{gives_object, agrees, operator_class_of, common_operands, operator_result, var_type, value_type}
+use Rattle.ash_typing.specs.Types.{is_same_integer_type, is_same_object, holds, number_type}
+use Rattle.ash_typing.specs.Types.{common_integer_type, common, gives_object, agrees, operator_class_of}
+use Rattle.ash_typing.specs.Types.{common_operands, operator_result, var_type, value_type}
 use Rattle.ash_typing.specs.Environment.{Environment, Class}
 use Rattle.ash_typing.specs.Coercions.{has_interface, lists, is_of, fits}
-use Rattle.ash_typing.specs.Terms.{conversion, operand_type, applied, Term, converted_to, adapted_number, adapted_to, right_by}
+use Rattle.ash_typing.specs.Terms.{conversion, operand_type, applied, Term, converted_to, adapted_number, adapted_to}
+use Rattle.ash_typing.specs.Terms.{right_by}
 use Rattle.ash_typing.specs.Typing.{is_known, IsKnownType}
 use Rattle.ash_typing.specs.Soundness.{signature_of_class, seen_in}
 use Rattle.ash_typing.proofs.TypingTypes.{equal_integer_types}
 use Rattle.ash_typing.proofs.SoundnessLookUps.{mapped}
+use Rattle.ash_typing.proofs.EqualTypes.{equal_objects}
 
 -- the tree gives what an expression of the type gives
 abbrev pub GivesType : Environment → Expr → Ty → Type 0
 GivesType env tree of = sound.IsWellTyped (seen_in env) tree (value_type of)
-
--- equal types
-
-equal_elements : (e f : Element) → is_same_element e f ≡ true → e ≡ f
-equal_elements elements.Bool elements.Bool h = refl
-equal_elements (elements.Integer j) (elements.Integer k) h =
-    ap (λ int_type. elements.Integer int_type) (equal_integer_types j k h)
-equal_elements (elements.Class a) (elements.Class b) h = ap (λ place. elements.Class place) (eqb-true a b h)
-equal_elements (elements.Interface a) (elements.Interface b) h = ap (λ place. elements.Interface place) (eqb-true a b h)
-equal_elements (elements.Host a) (elements.Host b) h = ap (λ kind. elements.Host kind) (eqb-true a b h)
-equal_elements e f h = absurd (cc)
-
-pub equal_objects : (o p : ObjectType) → is_same_object o p ≡ true → o ≡ p
-equal_objects (objects.Class a) (objects.Class b) h = ap (λ place. objects.Class place) (eqb-true a b h)
-equal_objects (objects.Interface a) (objects.Interface b) h = ap (λ place. objects.Interface place) (eqb-true a b h)
-equal_objects (objects.Host a) (objects.Host b) h = ap (λ kind. objects.Host kind) (eqb-true a b h)
-equal_objects (objects.Array e) (objects.Array f) h = ap (λ of. objects.Array of) (equal_elements e f h)
-equal_objects o p h = absurd (cc)
 
 -- numbers
 

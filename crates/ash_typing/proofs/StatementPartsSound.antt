@@ -10,7 +10,7 @@ use Rattle.ash_typing.specs.declared.types.Ty.{Ty}
 use Rattle.ash_typing.specs.declared.types.Ty.TheVariants as ty
 use Rattle.ash_typed.specs.StatementTree.{Initialization, Stmt, Declare, Head}
 use Rattle.ash_typing.specs.Environment.{Environment, Declared}
-use Rattle.ash_typing.specs.Expressions.{Typed, typed, all_typed, integer_of, bool_of}
+use Rattle.ash_typing.specs.Expressions.{TypedExpr, typed, all_typed, integer_of, bool_of}
 use Rattle.ash_typing.specs.ModuleDeclarations.{declared, ty_in}
 use Rattle.ash_typing.specs.Declarations.{at_type, known_ty, decl_typed}
 use Rattle.ash_typing.specs.Typing.{AllHaveType, IsKnown, IsKnownType, IsVariableType, IsKnownVariable}
@@ -163,23 +163,23 @@ integer_sound at (ty.Object o) j k h = absurd (no_err _ j h)
 integer_sound at (ty.Handle o) j k h = absurd (no_err _ j h)
 integer_sound at ty.Null j k h = absurd (no_err _ j h)
 
-pub condition_sound : (env : Environment) → IsKnown env → (e : written.Expr) (t : Typed) (fit : Bool)
+pub condition_sound : (env : Environment) → IsKnown env → (e : written.Expr) (t : TypedExpr) (fit : Bool)
     → typed env false e ≡ Ok t → condition_is t ≡ Ok fit → IsCondition env e t.tree
 condition_sound env k e t fit h i =
     let has = sound env k false e t h in
     condition has (bool_sound t.at t.ty fit (known_type has k) i)
 
-pub maybe_sound : (env : Environment) → IsKnown env → (e : Option written.Expr) (t : Option Typed) (fit : Bool)
+pub maybe_sound : (env : Environment) → IsKnown env → (e : Option written.Expr) (t : Option TypedExpr) (fit : Bool)
     → maybe_typed env e ≡ Ok t → maybe_condition_is t ≡ Ok fit → MayBeCondition env e (option_map tree_of t)
 maybe_sound env k None t fit h i =
-    subst (λ (x : Option Typed). MayBeCondition env None (option_map tree_of x)) (ok_is None t h) endless
+    subst (λ (x : Option TypedExpr). MayBeCondition env None (option_map tree_of x)) (ok_is None t h) endless
 maybe_sound env k (Some e) t fit h i =
     let c = bind_ok (typed env false e) _ t h in
     let is = ok_is (Some c.0) t c.2 in
-    subst (λ (x : Option Typed). MayBeCondition env (Some e) (option_map tree_of x)) is
+    subst (λ (x : Option TypedExpr). MayBeCondition env (Some e) (option_map tree_of x)) is
     (until (condition_sound env k e c.0 fit c.1
-    (subst (λ (x : Option Typed). maybe_condition_is x ≡ Ok fit) (sym is) i)))
+    (subst (λ (x : Option TypedExpr). maybe_condition_is x ≡ Ok fit) (sym is) i)))
 
-pub steps_sound : (env : Environment) → IsKnown env → (es : List written.Expr) (ts : List Typed)
+pub steps_sound : (env : Environment) → IsKnown env → (es : List written.Expr) (ts : List TypedExpr)
     → all_typed env (written.exprs es) ≡ Ok ts → AllHaveType env (written.exprs es) (terms ts)
 steps_sound env k es ts h = all_sound env k (written.exprs es) ts h

@@ -16,7 +16,7 @@ use Rattle.ash_typed.specs.Tree.{Expr}
 use Rattle.ash_typed.specs.StatementTree.{Initialization, Stmt, If, no_branch, branch, Head, Repeat, For, repeated}
 use Rattle.ash_typed.specs.StatementTree.{Switch, Break, Continue, Return, Stmts, Cases}
 use Rattle.ash_typing.specs.Environment.{Environment, Class}
-use Rattle.ash_typing.specs.Expressions.{Typed, typed, all_typed, integer_of, bool_of, is_void, first_at, placed}
+use Rattle.ash_typing.specs.Expressions.{TypedExpr, typed, all_typed, integer_of, bool_of, is_void, first_at, placed}
 use Rattle.ash_typing.specs.Expressions.{all_placed}
 use Rattle.ash_typing.specs.ModuleDeclarations.{declared, ty_in}
 use Rattle.ash_typing.specs.Declarations.{at_type, known_ty, decl_typed}
@@ -67,7 +67,7 @@ vars_complete scope v values known h =
 -- conditions
 
 record Tested (env : Environment) (e : written.Expr) (tree : Expr) : Type 0 where
-  of : Typed
+  of : TypedExpr
   typed : typed env false e ≡ Ok of
   test : condition_is of ≡ Ok true
   is : of.tree ≡ tree
@@ -84,7 +84,7 @@ tested (condition {e = e} {t = t} h is) = record {
 }
 
 record MaybeTested (env : Environment) (e : Option written.Expr) (tree : Option Expr) : Type 0 where
-  of : Option Typed
+  of : Option TypedExpr
   typed : maybe_typed env e ≡ Ok of
   test : maybe_condition_is of ≡ Ok true
   is : option_map tree_of of ≡ tree
@@ -101,7 +101,7 @@ maybe_tested (until {env = env} {e = e} c) =
       is = ap (λ (x : Expr). Some x) k.is;
     }
 
-pub trees_of : (ts : List Typed) → map tree_of ts ≡ map tree_of_term (terms ts)
+pub trees_of : (ts : List TypedExpr) → map tree_of ts ≡ map tree_of_term (terms ts)
 trees_of [] = refl
 trees_of (t ∷ ts) = ap (λ (es : List Expr). t.tree ∷ es) (trees_of ts)
 
@@ -118,33 +118,33 @@ head_complete (head_evaluates {scope = scope} {e = e} {t = t} h) =
 
 -- statements of which the parts are typed
 
-if_is : (line : ℕ) (o : TypingResult Typed) (b : TypingResult Stmt) (c : Typed) (s : Stmt) (tree : Expr) → o ≡ Ok c
+if_is : (line : ℕ) (o : TypingResult TypedExpr) (b : TypingResult Stmt) (c : TypedExpr) (s : Stmt) (tree : Expr) → o ≡ Ok c
     → condition_is c ≡ Ok true → c.tree ≡ tree → b ≡ Ok s → if_typed line o b ≡ Ok (If line tree s no_branch)
 unfolding if_typed
 if_is line o b c s tree h i j k = rw (h, k, i, sym j) refl
 
-if_else_is : (line : ℕ) (o : TypingResult Typed) (b r : TypingResult Stmt) (c : Typed) (s t : Stmt) (tree : Expr)
+if_else_is : (line : ℕ) (o : TypingResult TypedExpr) (b r : TypingResult Stmt) (c : TypedExpr) (s t : Stmt) (tree : Expr)
     → o ≡ Ok c
     → condition_is c ≡ Ok true → c.tree ≡ tree → b ≡ Ok s → r ≡ Ok t
     → if_else_typed line o b r ≡ Ok (If line tree s (branch t))
 unfolding if_else_typed
 if_else_is line o b r c s t tree h i j k l = rw (h, k, l, i, sym j) refl
 
-while_is : (line : ℕ) (o : TypingResult Typed) (b : TypingResult Stmt) (c : Typed) (s : Stmt) (tree : Expr) → o ≡ Ok c
+while_is : (line : ℕ) (o : TypingResult TypedExpr) (b : TypingResult Stmt) (c : TypedExpr) (s : Stmt) (tree : Expr) → o ≡ Ok c
     → condition_is c ≡ Ok true → c.tree ≡ tree → b ≡ Ok s
     → while_typed line o b ≡ Ok (Repeat line (repeated First (Some tree) [] s))
 unfolding while_typed
 while_is line o b c s tree h i j k = rw (h, k, i, sym j) refl
 
-do_while_is : (line : ℕ) (o : TypingResult Typed) (b : TypingResult Stmt) (c : Typed) (s : Stmt) (tree : Expr)
+do_while_is : (line : ℕ) (o : TypingResult TypedExpr) (b : TypingResult Stmt) (c : TypedExpr) (s : Stmt) (tree : Expr)
     → o ≡ Ok c
     → condition_is c ≡ Ok true → c.tree ≡ tree → b ≡ Ok s
     → do_while_typed line b o ≡ Ok (Repeat line (repeated Last (Some tree) [] s))
 unfolding do_while_typed
 do_while_is line o b c s tree h i j k = rw (h, k, i, sym j) refl
 
-for_is : (line : ℕ) (f : TypingResult Head) (b : TypingResult Stmt) (o : TypingResult (Option Typed)) (es : TypingResult (List Typed))
-    (g : Head) (s : Stmt) (c : Option Typed) (ts : List Typed) (tree : Option Expr) (trees : List Expr) → f ≡ Ok g
+for_is : (line : ℕ) (f : TypingResult Head) (b : TypingResult Stmt) (o : TypingResult (Option TypedExpr)) (es : TypingResult (List TypedExpr))
+    (g : Head) (s : Stmt) (c : Option TypedExpr) (ts : List TypedExpr) (tree : Option Expr) (trees : List Expr) → f ≡ Ok g
     → o ≡ Ok c → maybe_condition_is c ≡ Ok true → option_map tree_of c ≡ tree → es ≡ Ok ts → map tree_of ts ≡ trees
     → b ≡ Ok s → for_typed line f o es b ≡ Ok (For line g (repeated First tree trees s))
 unfolding for_typed

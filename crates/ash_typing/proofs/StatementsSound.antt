@@ -16,7 +16,7 @@ use Rattle.ash_typed.specs.Tree.{Expr}
 use Rattle.ash_typed.specs.StatementTree.{Stmt, If, no_branch, branch, Head, Repeat, For}
 use Rattle.ash_typed.specs.StatementTree.{repeated, Return, Stmts, labelled, Cases, next_case}
 use Rattle.ash_typing.specs.Environment.{Class}
-use Rattle.ash_typing.specs.Expressions.{Typed, typed, all_typed, integer_of, is_void, term_of}
+use Rattle.ash_typing.specs.Expressions.{TypedExpr, typed, all_typed, integer_of, is_void, term_of}
 use Rattle.ash_typing.specs.Typing.{IsKnownType}
 use Rattle.ash_typing.specs.Returning.{is_default}
 use Rattle.ash_typing.specs.Switches.{integer_type_in, is_within, constant_typed, label_typed}
@@ -42,9 +42,9 @@ use Rattle.ash_typing.proofs.StatementPartsSound.{steps_sound}
 
 -- statements, taken apart
 
-if_parts : {P : Type 0} (line : ℕ) (o : TypingResult Typed) (b : TypingResult Stmt) (r : Stmt)
+if_parts : {P : Type 0} (line : ℕ) (o : TypingResult TypedExpr) (b : TypingResult Stmt) (r : Stmt)
     → if_typed line o b ≡ Ok r
-    → ((c : Typed) (s : Stmt) (fit : Bool) → o ≡ Ok c → b ≡ Ok s → condition_is c ≡ Ok fit
+    → ((c : TypedExpr) (s : Stmt) (fit : Bool) → o ≡ Ok c → b ≡ Ok s → condition_is c ≡ Ok fit
     → If line c.tree s no_branch ≡ r → P) → P
 unfolding if_typed
 if_parts line o b r h k =
@@ -53,9 +53,9 @@ if_parts line o b r h k =
     let y = bind_ok (condition_is c.0) _ r s.2 in
     k c.0 s.0 y.0 c.1 s.1 y.1 (ok_is _ r y.2)
 
-if_else_parts : {P : Type 0} (line : ℕ) (o : TypingResult Typed) (b e : TypingResult Stmt) (r : Stmt)
+if_else_parts : {P : Type 0} (line : ℕ) (o : TypingResult TypedExpr) (b e : TypingResult Stmt) (r : Stmt)
     → if_else_typed line o b e ≡ Ok r
-    → ((c : Typed) (s t : Stmt) (fit : Bool) → o ≡ Ok c → b ≡ Ok s → e ≡ Ok t → condition_is c ≡ Ok fit
+    → ((c : TypedExpr) (s t : Stmt) (fit : Bool) → o ≡ Ok c → b ≡ Ok s → e ≡ Ok t → condition_is c ≡ Ok fit
     → If line c.tree s (branch t) ≡ r → P) → P
 unfolding if_else_typed
 if_else_parts line o b e r h k =
@@ -65,9 +65,9 @@ if_else_parts line o b e r h k =
     let y = bind_ok (condition_is c.0) _ r t.2 in
     k c.0 s.0 t.0 y.0 c.1 s.1 t.1 y.1 (ok_is _ r y.2)
 
-while_parts : {P : Type 0} (line : ℕ) (o : TypingResult Typed) (b : TypingResult Stmt) (r : Stmt)
+while_parts : {P : Type 0} (line : ℕ) (o : TypingResult TypedExpr) (b : TypingResult Stmt) (r : Stmt)
     → while_typed line o b ≡ Ok r
-    → ((c : Typed) (s : Stmt) (fit : Bool) → o ≡ Ok c → b ≡ Ok s → condition_is c ≡ Ok fit
+    → ((c : TypedExpr) (s : Stmt) (fit : Bool) → o ≡ Ok c → b ≡ Ok s → condition_is c ≡ Ok fit
     → Repeat line (repeated First (Some c.tree) [] s) ≡ r → P) → P
 unfolding while_typed
 while_parts line o b r h k =
@@ -76,9 +76,9 @@ while_parts line o b r h k =
     let y = bind_ok (condition_is c.0) _ r s.2 in
     k c.0 s.0 y.0 c.1 s.1 y.1 (ok_is _ r y.2)
 
-do_parts : {P : Type 0} (line : ℕ) (b : TypingResult Stmt) (o : TypingResult Typed) (r : Stmt)
+do_parts : {P : Type 0} (line : ℕ) (b : TypingResult Stmt) (o : TypingResult TypedExpr) (r : Stmt)
     → do_while_typed line b o ≡ Ok r
-    → ((s : Stmt) (c : Typed) (fit : Bool) → b ≡ Ok s → o ≡ Ok c → condition_is c ≡ Ok fit
+    → ((s : Stmt) (c : TypedExpr) (fit : Bool) → b ≡ Ok s → o ≡ Ok c → condition_is c ≡ Ok fit
     → Repeat line (repeated Last (Some c.tree) [] s) ≡ r → P) → P
 unfolding do_while_typed
 do_parts line b o r h k =
@@ -87,9 +87,9 @@ do_parts line b o r h k =
     let y = bind_ok (condition_is c.0) _ r c.2 in
     k s.0 c.0 y.0 s.1 c.1 y.1 (ok_is _ r y.2)
 
-for_parts : {P : Type 0} (line : ℕ) (f : TypingResult Head) (o : TypingResult (Option Typed)) (es : TypingResult (List Typed))
+for_parts : {P : Type 0} (line : ℕ) (f : TypingResult Head) (o : TypingResult (Option TypedExpr)) (es : TypingResult (List TypedExpr))
     (b : TypingResult Stmt) (r : Stmt) → for_typed line f o es b ≡ Ok r
-    → ((g : Head) (c : Option Typed) (ts : List Typed) (s : Stmt) (fit : Bool) → f ≡ Ok g → o ≡ Ok c → es ≡ Ok ts
+    → ((g : Head) (c : Option TypedExpr) (ts : List TypedExpr) (s : Stmt) (fit : Bool) → f ≡ Ok g → o ≡ Ok c → es ≡ Ok ts
     → b ≡ Ok s → maybe_condition_is c ≡ Ok fit
     → For line g (repeated First (option_map tree_of c) (map tree_of ts) s) ≡ r → P) → P
 unfolding for_typed
@@ -120,7 +120,7 @@ nothing_returned ty.Void k h = refl
 nothing_returned ty.Unknown k h = absurd (cc)
 nothing_returned _ k h = absurd (cc)
 
-returned_sound : (classes : List Class) (of : Ty) (at : ℕ) (t : Typed) (e : Expr) → returned classes of at t ≡ Ok e
+returned_sound : (classes : List Class) (of : Ty) (at : ℕ) (t : TypedExpr) (e : Expr) → returned classes of at t ≡ Ok e
     → (fits classes of t.ty ≡ true) × (converted_to of (term_of t) ≡ e)
 unfolding returned
 returned_sound classes of at t e h =

@@ -7,6 +7,7 @@ use Rattle.std.proofs.lemmas.Bool.Decides.{nat_tests}
 use Rattle.ash_tree.specs.Tree as written
 use Rattle.ash_typing.specs.Environment.{Environment}
 use Rattle.ash_typing.specs.Typing.{IsKnown}
+use Rattle.ash_typed.specs.Limits.{max_module_types}
 use Rattle.ash_typed.specs.Modules.{Variables, Function, Interface, Class, Module}
 use Rattle.ash_typing.specs.Items.{Names, untaken, vars_typed, result_typed, routine_typed, class_typed}
 use Rattle.ash_typing.specs.Items.{interface_typed, room_for_type, Walked, item_typed, items_typed}
@@ -65,20 +66,20 @@ types_in m = length m.classes + length m.interfaces
 abbrev types_of : List written.Item → ℕ
 types_of is = length (classes_of is) + length (interfaces_of is)
 
-too_many : (n : ℕ) → nat_le 256 n ≡ false → n < 256
+too_many : (n : ℕ) → nat_le max_module_types n ≡ false → n < max_module_types
 too_many n b = grind (arith, nat_tests)
 
-few_enough : (n : ℕ) → n < 256 → nat_le 256 n ≡ false
+few_enough : (n : ℕ) → n < max_module_types → nat_le max_module_types n ≡ false
 few_enough n h = grind (arith, nat_tests)
 
 room_sound : (at : ℕ) (m : Module) (place : ℕ) → room_for_type at m ≡ Ok place
-    → (types_in m < 256) × (place ≡ length m.classes)
+    → (types_in m < max_module_types) × (place ≡ length m.classes)
 unfolding room_for_type
 room_sound at m place h =
-    if_ok (nat_le 256 (types_in m)) _ _ (Ok place) h (λ b e. absurd (no_err _ place e))
+    if_ok (nat_le max_module_types (types_in m)) _ _ (Ok place) h (λ b e. absurd (no_err _ place e))
     (λ b e. (too_many (types_in m) b, sym (ok_is (length m.classes) place e)))
 
-room_complete : (at : ℕ) (m : Module) → types_in m < 256 → room_for_type at m ≡ Ok (length m.classes)
+room_complete : (at : ℕ) (m : Module) → types_in m < max_module_types → room_for_type at m ≡ Ok (length m.classes)
 unfolding room_for_type
 room_complete at m h = rw (few_enough (types_in m) h) refl
 
@@ -92,7 +93,7 @@ no_longer xs = ap (λ (ys : List _). length ys) (append-nil xs)
 
 pub record ItemsWalked (env : Environment) (w : Walked) (is : List written.Item) (after : Walked) : Type 0 where
   pub can : CanTake w.names (item_names is) (length (variable_names (globals_of is)))
-  pub few : types_in w.typed + types_of is ≤ 256
+  pub few : types_in w.typed + types_of is ≤ max_module_types
   pub interfaces : List Interface
   pub are_interfaces : AreInterfaces env (interfaces_of is) (classes_before (length w.typed.classes) is) interfaces
   pub classes : List Class
@@ -105,7 +106,7 @@ pub record ItemsWalked (env : Environment) (w : Walked) (is : List written.Item)
       ≡ walked_with w (item_names is) (length (variable_names (globals_of is))) interfaces classes functions globals
 
 pub items_sound : (env : Environment) → IsKnown env → (is : List written.Item) (w after : Walked)
-    → Distinct w.names.taken → types_in w.typed ≤ 256 → items_typed env w is ≡ Ok after → ItemsWalked env w is after
+    → Distinct w.names.taken → types_in w.typed ≤ max_module_types → items_typed env w is ≡ Ok after → ItemsWalked env w is after
 unfolding item_typed
 items_sound env known [] w after d few h = record {
   can = takes_none w.names d;
@@ -269,7 +270,7 @@ items_sound env known (written.AGlobal v ∷ is) w after d few h =
 pub items_complete : (env : Environment) → IsKnown env
     → (is : List written.Item) (w : Walked) (ts : List Interface) (cs : List Class) (fs : List Function)
     (vs : List Variables) → CanTake w.names (item_names is) (length (variable_names (globals_of is)))
-    → types_in w.typed + types_of is ≤ 256
+    → types_in w.typed + types_of is ≤ max_module_types
     → AreInterfaces env (interfaces_of is) (classes_before (length w.typed.classes) is) ts
     → AreClasses env (length w.typed.classes) (classes_of is) cs → AllZip (IsFunction env) (functions_of is) fs
     → AllZip (AreVariables env) (globals_of is) vs

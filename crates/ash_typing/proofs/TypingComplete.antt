@@ -23,8 +23,8 @@ use Rattle.ash_typed.specs.declared.tree.operations.Member.{Member}
 use Rattle.ash_typed.specs.declared.tree.operations.Calculator.{Calculator}
 use Rattle.ash_typed.specs.declared.tree.operations.Operands.{Operands}
 use Rattle.ash_typed.specs.declared.tree.operations.Operands.TheVariants as operands
-use Rattle.ash_typed.specs.declared.tree.operations.Step.{Step}
-use Rattle.ash_typed.specs.declared.tree.operations.Step.TheVariants as steps
+use Rattle.ash_typed.specs.declared.tree.operations.IncrementOp.{IncrementOp}
+use Rattle.ash_typed.specs.declared.tree.operations.IncrementOp.TheVariants as steps
 use Rattle.ash_typing.specs.Types.{var_type, signed, common, object_of, ty_of, ty_of_element, operator_class_of}
 use Rattle.ash_typing.specs.Types.{operator_result}
 use Rattle.ash_typing.specs.Types.{binary_of}
@@ -33,7 +33,7 @@ use Rattle.ash_typed.specs.Tree.{Place, Held, Indexed, no_expr, expr}
 use Rattle.ash_typing.specs.Coercions.{fits}
 use Rattle.ash_typing.specs.ModuleDeclarations.{element_named}
 use Rattle.ash_typing.specs.Environment.{Environment, Class, Callee, Invoked, callee_in, member_in, method_in}
-use Rattle.ash_typing.specs.Expressions.{Typed, typed, all_typed, links_typed, suffixes_typed, suffix_typed, call_typed}
+use Rattle.ash_typing.specs.Expressions.{TypedExpr, typed, all_typed, links_typed, suffixes_typed, suffix_typed, call_typed}
 use Rattle.ash_typing.specs.Expressions.{invocation_typed, called, arguments_at, all_coerced, coerced_for_assignment}
 use Rattle.ash_typing.specs.Expressions.{operate, counted}
 use Rattle.ash_typing.specs.Expressions.{unary_at, convert_at, choice, assigned, stored, is_assign, field_of, method_of}
@@ -62,7 +62,7 @@ pub coerced_for_assignment_is : (classes : List Class) (of : Ty) (at : ℕ) (t :
 unfolding coerced_for_assignment
 coerced_for_assignment_is classes of at t h = rw h refl
 
-abbrev pub terms : List Typed → List Term
+abbrev pub terms : List TypedExpr → List Term
 terms = map term_of
 
 out_first : {classes : List Class} {of : Ty} {t : Term} {parameters : List Ty} {ts : List Term} {trees : Exprs}
@@ -74,7 +74,7 @@ out_first (argument h rest) = (h, (_, rest, refl))
 out_none : {classes : List Class} {trees : Exprs} → AreArguments classes [] [] trees → no_expr ≡ trees
 out_none no_arguments = refl
 
-all_coerced_is : (classes : List Class) (parameters : List Ty) (us : List Typed) (trees : Exprs)
+all_coerced_is : (classes : List Class) (parameters : List Ty) (us : List TypedExpr) (trees : Exprs)
     → AreArguments classes parameters (terms us) trees → all_coerced classes parameters us ≡ Ok trees
 all_coerced_is classes [] [] trees h = ap Ok (out_none h)
 all_coerced_is classes [] (u ∷ us) trees h = elim h [ ]
@@ -83,7 +83,7 @@ all_coerced_is classes (of ∷ parameters) (u ∷ us) trees h =
     let o = out_first h in
     rw (coerced_for_assignment_is classes of u.at (term_of u) o.0, all_coerced_is classes parameters us (o.1).0 (o.1).1, (o.1).2) refl
 
-pub arguments_is : (classes : List Class) (at : ℕ) (parameters : List Ty) (us : List Typed) (trees : Exprs)
+pub arguments_is : (classes : List Class) (at : ℕ) (parameters : List Ty) (us : List TypedExpr) (trees : Exprs)
     → AreArguments classes parameters (terms us) trees → arguments_at classes at parameters us ≡ Ok trees
 unfolding arguments_at
 arguments_is classes at parameters us trees h =
@@ -93,7 +93,7 @@ arguments_is classes at parameters us trees h =
 -- phrases
 
 call_is : (env : Environment) (at : ℕ) (text : List ℕ) (es : written.Exprs) (callee : Callee) (parameters : List Ty)
-    (us : List Typed) (trees : Exprs) → callee_in env text ≡ Some callee → callee.parameters ≡ Some parameters
+    (us : List TypedExpr) (trees : Exprs) → callee_in env text ≡ Some callee → callee.parameters ≡ Some parameters
     → all_typed env es ≡ Ok us → AreArguments env.declarations.classes parameters (terms us) trees
     → call_typed env at text (all_typed env es)
     ≡ Ok (term_at at callee.result (call_of callee.target (map var_type parameters) trees))
@@ -135,7 +135,7 @@ not_is : (left : Bool) (at b : ℕ) (t : Term) → t.ty ≡ ty.Bool
 unfolding unary_at
 not_is left at b t h = rw h refl
 
-counted_is : (at b : ℕ) (step : Step) (t : Term) (target : Place) (k : IntType) → assignable t.form t.tree ≡ Some target
+counted_is : (at b : ℕ) (step : IncrementOp) (t : Term) (target : Place) (k : IntType) → assignable t.form t.tree ≡ Some target
     → t.ty ≡ ty.Integer k
     → counted at step (placed b t) (assignable t.form t.tree)
     ≡ Ok (placed at (term (ty.Integer k) (Count target k step)))
@@ -205,7 +205,7 @@ updates : (op : AssignOp) (operator : Calculator) → operator_of op ≡ Some op
 updates assigns.Assign operator h = absurd (none-some operator h)
 updates _ operator h = refl
 
-object_field : (env : Environment) (at : ℕ) (t : Typed) (of : Ty) (text : List ℕ) (o : ObjectType) (found : Member × Ty)
+object_field : (env : Environment) (at : ℕ) (t : TypedExpr) (of : Ty) (text : List ℕ) (o : ObjectType) (found : Member × Ty)
     → object_of of ≡ Some o → member_in env o text ≡ Some found
     → field_of env t of at text ≡ Ok (read_at t.at found.1 (Read (Held t.tree found.0)))
 unfolding field_of
@@ -213,7 +213,7 @@ object_field env at t (ty.Object p) text o found h m = rw (same_Some p o h, m) r
 object_field env at t (ty.Handle p) text o found h m = rw (same_Some p o h, m) refl
 object_field env at t _ text o found h m = absurd (none-some o h)
 
-object_method : (env : Environment) (at : ℕ) (t : Typed) (of : Ty) (text : List ℕ) (o : ObjectType) (m : Invoked)
+object_method : (env : Environment) (at : ℕ) (t : TypedExpr) (of : Ty) (text : List ℕ) (o : ObjectType) (m : Invoked)
     → object_of of ≡ Some o → method_in env o text ≡ Some m → method_of env t of at text ≡ Ok (Some m)
 unfolding method_of
 object_method env at t (ty.Object p) text o m h i = rw (same_Some p o h, i) refl
@@ -221,7 +221,7 @@ object_method env at t (ty.Handle p) text o m h i = rw (same_Some p o h, i) refl
 object_method env at t _ text o m h i = absurd (none-some o h)
 
 method_is : (env : Environment) (at b : ℕ) (t : Term) (text : List ℕ) (es : written.Exprs) (o : ObjectType)
-    (m : Invoked) (us : List Typed) (trees : Exprs) → object_of t.ty ≡ Some o → method_in env o text ≡ Some m
+    (m : Invoked) (us : List TypedExpr) (trees : Exprs) → object_of t.ty ≡ Some o → method_in env o text ≡ Some m
     → all_typed env es ≡ Ok us → AreArguments env.declarations.classes m.parameters (terms us) trees
     → invocation_typed env (placed b t) at text (all_typed env es)
     ≡ Ok (placed b (term m.result (Invoke t.tree m.method (map var_type m.parameters) trees)))
@@ -236,7 +236,7 @@ method_is env at b t text es o m us trees h i e a =
 -- arrays and handles
 
 array_is : (env : Environment) (at : ℕ) (of : written.Element) (es : written.Exprs) (elements : Element)
-    (us : List Typed) (count : ℕ) (trees : Exprs) → element_named env.registered env.declarations of ≡ Some elements
+    (us : List TypedExpr) (count : ℕ) (trees : Exprs) → element_named env.registered env.declarations of ≡ Some elements
     → all_typed env es ≡ Ok us → length us ≡ count
     → AreArguments env.declarations.classes (array_parameters count) (terms us) trees
     → array_typed env at of (all_typed env es)

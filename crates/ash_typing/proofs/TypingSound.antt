@@ -13,13 +13,13 @@ use Rattle.ash_typed.specs.declared.tree.operations.Member.{Member}
 use Rattle.ash_typed.specs.declared.tree.operations.Calculator.{Calculator}
 use Rattle.ash_typed.specs.declared.tree.operations.Operands.{Operands}
 use Rattle.ash_typed.specs.declared.tree.operations.Operands.TheVariants as operands
-use Rattle.ash_typed.specs.declared.tree.operations.Step.TheVariants as steps
+use Rattle.ash_typed.specs.declared.tree.operations.IncrementOp.TheVariants as steps
 use Rattle.ash_typing.specs.TypingResult.{TypingResult, ◌>>=◌, broken}
 use Rattle.ash_typing.specs.Types.{var_type, object_of, binary_of, integers_in}
 use Rattle.ash_typed.specs.Tree.{Truth, Null, Read, Invoke, Assign, Update, Place, Held}
 use Rattle.ash_typing.specs.ModuleDeclarations.{object_named}
 use Rattle.ash_typing.specs.Environment.{Environment, Class, Invoked, variable_in, member_in, method_in}
-use Rattle.ash_typing.specs.Expressions.{Typed, UnifiedOperands, typed, all_typed, links_typed, suffixes_typed}
+use Rattle.ash_typing.specs.Expressions.{TypedExpr, UnifiedOperands, typed, all_typed, links_typed, suffixes_typed}
 use Rattle.ash_typing.specs.Expressions.{suffix_typed}
 use Rattle.ash_typing.specs.Expressions.{invocation_typed, arguments_at, coerced_for_assignment, unify_operands}
 use Rattle.ash_typing.specs.Expressions.{unary_at, integer_of, convert_at}
@@ -42,7 +42,7 @@ use Rattle.ash_typing.proofs.TypingSoundOperators.{conditional_sound, counted_ok
 
 -- assignments
 
-assigned_ok : (classes : List Class) (t u : Typed) (op : AssignOp) (found : Option Place) (r : Typed)
+assigned_ok : (classes : List Class) (t u : TypedExpr) (op : AssignOp) (found : Option Place) (r : TypedExpr)
     → assigned_to classes t op u found ≡ Ok r
     → (target : Place) × (found ≡ Some target)
     × ((is_stored t.form t.ty ≡ true) × (stored classes t.at t.ty target (operator_of op) u ≡ Ok r))
@@ -56,7 +56,7 @@ assigned_ok classes t u op (Some target) r h = go (is_stored t.form t.ty) refl h
     go true e h = (target, refl, (e, h))
     go false e h = absurd (no_fault _ r h)
 
-plain_sound : (env : Environment) (left : Bool) (p : place.Place) (e v : written.Expr) (t u r : Typed)
+plain_sound : (env : Environment) (left : Bool) (p : place.Place) (e v : written.Expr) (t u r : TypedExpr)
     → HasType env true e (term_of t) → HasType env false v (term_of u)
     → assigned env.declarations.classes t assigns.Assign u ≡ Ok r
     → HasType env left (written.Assign p e assigns.Assign v) (term_of r)
@@ -69,7 +69,7 @@ plain_sound env left p e v t u r d f h =
     r tree.2 (rw (← fit.1) (assign d a.1 ((a.2).0) f fit.0))
 
 update_sound : (env : Environment) (left : Bool) (p : place.Place) (op : AssignOp) (c : Calculator) (e v : written.Expr)
-    (t u r : Typed) → operator_of op ≡ Some c → HasType env false e (term_of t) → HasType env false v (term_of u)
+    (t u r : TypedExpr) → operator_of op ≡ Some c → HasType env false e (term_of t) → HasType env false v (term_of u)
     → is_known t.ty ≡ true → is_known u.ty ≡ true → assigned env.declarations.classes t op u ≡ Ok r
     → HasType env left (written.Assign p e op v) (term_of r)
 unfolding assigned stored
@@ -107,7 +107,7 @@ update_sound env left p op c e v t u r is d f known as_value h =
     (term_at t.at (ty.Integer k.0)
     (Update a.0 k.0 (record { operator = c; of = integers_in (m.0).operands }) (m.0).right)) r k.2 all
 
-assign_sound : (env : Environment) (left : Bool) (p : place.Place) (op : AssignOp) (e v : written.Expr) (t u r : Typed)
+assign_sound : (env : Environment) (left : Bool) (p : place.Place) (op : AssignOp) (e v : written.Expr) (t u r : TypedExpr)
     → HasType env (is_assign op) e (term_of t) → HasType env false v (term_of u) → is_known t.ty ≡ true
     → is_known u.ty ≡ true → assigned env.declarations.classes t op u ≡ Ok r
     → HasType env left (written.Assign p e op v) (term_of r)
@@ -117,12 +117,12 @@ assign_sound env left p _ e v t u r d f known as_value h =
 
 -- suffixes
 
-member_ok : (t : Typed) (at : ℕ) (found : Option (Member × Ty)) (r : Typed) → member_at t at found ≡ Ok r
+member_ok : (t : TypedExpr) (at : ℕ) (found : Option (Member × Ty)) (r : TypedExpr) → member_at t at found ≡ Ok r
     → (m : Member × Ty) × (found ≡ Some m) × (read_at t.at m.1 (Read (Held t.tree m.0)) ≡ r)
 member_ok t at None r h = absurd (no_fault _ r h)
 member_ok t at (Some m) r h = (m, refl, same_ok _ r h)
 
-field_ok : (env : Environment) (t : Typed) (of : Ty) (at : ℕ) (text : List ℕ) (r : Typed) → is_known of ≡ true
+field_ok : (env : Environment) (t : TypedExpr) (of : Ty) (at : ℕ) (text : List ℕ) (r : TypedExpr) → is_known of ≡ true
     → field_of env t of at text ≡ Ok r
     → (o : ObjectType) × (object_of of ≡ Some o)
     × ((m : Member × Ty) × (member_in env o text ≡ Some m) × (read_at t.at m.1 (Read (Held t.tree m.0)) ≡ r))
@@ -137,7 +137,7 @@ invoked_ok : (at : ℕ) (found : Option Invoked) (m : Option Invoked) → invoke
 invoked_ok at None m h = absurd (no_fault _ m h)
 invoked_ok at (Some i) m h = (i, refl, same_ok _ m h)
 
-method_ok : (env : Environment) (t : Typed) (of : Ty) (at : ℕ) (text : List ℕ) (m : Option Invoked) → is_known of ≡ true
+method_ok : (env : Environment) (t : TypedExpr) (of : Ty) (at : ℕ) (text : List ℕ) (m : Option Invoked) → is_known of ≡ true
     → method_of env t of at text ≡ Ok m
     → (o : ObjectType) × (object_of of ≡ Some o) × ((i : Invoked) × (method_in env o text ≡ Some i) × (Some i ≡ m))
 unfolding method_of
@@ -146,7 +146,7 @@ method_ok env t (ty.Handle o) at text m known h = (o, refl, invoked_ok at (metho
 method_ok env t ty.Unknown at text m known h = cc
 method_ok env t _ at text m known h = absurd (no_fault _ m h)
 
-method_sound : (env : Environment) (t : Typed) (p : place.Place) (text : List ℕ) (es : written.Exprs) (r : Typed)
+method_sound : (env : Environment) (t : TypedExpr) (p : place.Place) (text : List ℕ) (es : written.Exprs) (r : TypedExpr)
     → is_known t.ty ≡ true → AllSound env es → invocation_typed env t p.at text (all_typed env es) ≡ Ok r
     → SuffixHasType env (term_of t) (written.Method p text es) (term_of r)
 unfolding invoked
@@ -167,9 +167,9 @@ method_sound env t p text es r known all h =
 -- the walk
 
 -- an expression that is walked first
-walked : (env : Environment) (left : Bool) (e : written.Expr) (f : Typed → TypingResult Typed) (r : Typed) (Q : Type 0)
+walked : (env : Environment) (left : Bool) (e : written.Expr) (f : TypedExpr → TypingResult TypedExpr) (r : TypedExpr) (Q : Type 0)
     → IsKnown env → Sound env left e → (typed env left e >>= f) ≡ Ok r
-    → ((u : Typed) → HasType env left e (term_of u) → is_known u.ty ≡ true → f u ≡ Ok r → Q) → Q
+    → ((u : TypedExpr) → HasType env left e (term_of u) → is_known u.ty ≡ true → f u ≡ Ok r → Q) → Q
 walked env left e f r Q known sound h go =
     let u = bind_ok (typed env left e) f r h in
     let d = sound u.0 u.1 in
@@ -237,14 +237,14 @@ mutual
       at_ok (λ us. AllHaveType env (written.expr e es) (terms us)) (t.0 ∷ ts.0) us ts.2
       (each (sound env known false e t.0 t.1) (all_sound env known es ts.0 ts.1))
 
-  links_sound : (env : Environment) → IsKnown env → (ls : written.Links) (t r : Typed) → is_known t.ty ≡ true
+  links_sound : (env : Environment) → IsKnown env → (ls : written.Links) (t r : TypedExpr) → is_known t.ty ≡ true
       → links_typed env t ls ≡ Ok r → LinksHaveType env (term_of t) ls (term_of r)
   links_sound env known written.no_link t r as_value h =
       at_ok (λ r. LinksHaveType env (term_of t) written.no_link (term_of r)) t r h no_more
   links_sound env known (written.link op e ls) t r as_value h =
       one_link env t op e ls r known as_value (sound env known false e) (λ v k g. links_sound env known ls v r k g) h
 
-  suffixes_sound : (env : Environment) → IsKnown env → (ss : written.Suffixes) (t r : Typed) → is_known t.ty ≡ true
+  suffixes_sound : (env : Environment) → IsKnown env → (ss : written.Suffixes) (t r : TypedExpr) → is_known t.ty ≡ true
       → suffixes_typed env t ss ≡ Ok r → SuffixesHaveType env (term_of t) ss (term_of r)
   suffixes_sound env known written.no_suffix t r as_value h =
       at_ok (λ r. SuffixesHaveType env (term_of t) written.no_suffix (term_of r)) t r h no_suffixes
@@ -253,7 +253,7 @@ mutual
       let d = suffix_sound env known s t next.0 as_value next.1 in
       suffixed d (suffixes_sound env known ss next.0 r (suffix_known d known) next.2)
 
-  suffix_sound : (env : Environment) → IsKnown env → (s : written.Suffix) (t r : Typed) → is_known t.ty ≡ true
+  suffix_sound : (env : Environment) → IsKnown env → (s : written.Suffix) (t r : TypedExpr) → is_known t.ty ≡ true
       → suffix_typed env t s ≡ Ok r → SuffixHasType env (term_of t) s (term_of r)
   suffix_sound env known (written.Field p text) t r as_value h =
       let f = field_ok env t t.ty p.at text r as_value h in

@@ -22,7 +22,7 @@ use Rattle.ash_typed.specs.Tree.{Expr, Exprs, This, Read, Cast, Call, Indexed, n
 use Rattle.ash_typing.specs.Coercions.{fits}
 use Rattle.ash_typing.specs.ModuleDeclarations.{object_named, element_named}
 use Rattle.ash_typing.specs.Environment.{Environment, Class, Known, Callee, variable_in, callee_in, array_built}
-use Rattle.ash_typing.specs.Expressions.{Typed, typed, all_typed, call_typed, called, callee_at, known_at, this_at}
+use Rattle.ash_typing.specs.Expressions.{TypedExpr, typed, all_typed, call_typed, called, callee_at, known_at, this_at}
 use Rattle.ash_typing.specs.Expressions.{arguments_at, all_coerced, coerced_for_assignment, coerced, integer_of}
 use Rattle.ash_typing.specs.Expressions.{bool_of, handle_of}
 use Rattle.ash_typing.specs.Expressions.{convert_at, converting, term_at, read_at, integer_at, in_brackets, index_in}
@@ -60,7 +60,7 @@ object_ok at _ h known e = absurd (no_fault _ h e)
 
 -- arguments
 
-pub coerced_for_assignment_ok : (classes : List Class) (of : Ty) (t : Typed) (e : Expr)
+pub coerced_for_assignment_ok : (classes : List Class) (of : Ty) (t : TypedExpr) (e : Expr)
     → coerced_for_assignment classes of t ≡ Ok e
     → (fits classes of t.ty ≡ true) × (converted_to of (term_of t) ≡ e)
 unfolding coerced_for_assignment
@@ -71,7 +71,7 @@ coerced_for_assignment_ok classes of t e h = go (fits classes of t.ty) h
     go true h = (refl, same_ok (coerced of t) e h)
     go false h = absurd (no_fault _ e h)
 
-all_coerced_ok : (classes : List Class) (parameters : List Ty) (ts : List Typed) (trees : Exprs)
+all_coerced_ok : (classes : List Class) (parameters : List Ty) (ts : List TypedExpr) (trees : Exprs)
     → length parameters ≡ length ts → all_coerced classes parameters ts ≡ Ok trees
     → AreArguments classes parameters (terms ts) trees
 all_coerced_ok classes [] [] trees n h = at_ok (λ trees. AreArguments classes [] [] trees) no_expr trees h no_arguments
@@ -87,7 +87,7 @@ all_coerced_ok classes (of ∷ parameters) (t ∷ ts) trees n h =
     (λ x. AreArguments classes (of ∷ parameters) (term_of t ∷ terms ts) (expr x rest.0)) fit.1
     (argument fit.0 (all_coerced_ok classes parameters ts rest.0 (ap pred n) rest.1)))
 
-pub arguments_ok : (classes : List Class) (at : ℕ) (parameters : List Ty) (ts : List Typed) (trees : Exprs)
+pub arguments_ok : (classes : List Class) (at : ℕ) (parameters : List Ty) (ts : List TypedExpr) (trees : Exprs)
     → arguments_at classes at parameters ts ≡ Ok trees → AreArguments classes parameters (terms ts) trees
 unfolding arguments_at
 arguments_ok classes at parameters ts trees h = go (nat_eq (length parameters) (length ts)) refl h
@@ -102,25 +102,25 @@ arguments_ok classes at parameters ts trees h = go (nat_eq (length parameters) (
 
 -- what the walk finds has its type by the rules
 abbrev pub Sound : Environment → Bool → written.Expr → Type 0
-Sound env left e = (u : Typed) → typed env left e ≡ Ok u → HasType env left e (term_of u)
+Sound env left e = (u : TypedExpr) → typed env left e ≡ Ok u → HasType env left e (term_of u)
 
 abbrev pub AllSound : Environment → written.Exprs → Type 0
-AllSound env es = (us : List Typed) → all_typed env es ≡ Ok us → AllHaveType env es (terms us)
+AllSound env es = (us : List TypedExpr) → all_typed env es ≡ Ok us → AllHaveType env es (terms us)
 
-pub this_sound : (env : Environment) (left : Bool) (p : place.Place) (found : Option ℕ) (r : Typed) → env.this ≡ found
+pub this_sound : (env : Environment) (left : Bool) (p : place.Place) (found : Option ℕ) (r : TypedExpr) → env.this ≡ found
     → this_at p.at found ≡ Ok r → HasType env left (written.This p) (term_of r)
 this_sound env left p None r e h = absurd (no_fault _ r h)
 this_sound env left p (Some class) r e h =
     at_ok (λ r. HasType env left (written.This p) (term_of r))
     (term_at p.at (ty.Handle (objects.Class class)) (This class)) r h (this e)
 
-pub name_sound : (env : Environment) (left : Bool) (p : place.Place) (text : List ℕ) (found : Option Known) (r : Typed)
+pub name_sound : (env : Environment) (left : Bool) (p : place.Place) (text : List ℕ) (found : Option Known) (r : TypedExpr)
     → variable_in env text ≡ found → known_at p.at found ≡ Ok r → HasType env left (written.Name p text) (term_of r)
 name_sound env left p text None r e h = absurd (no_fault _ r h)
 name_sound env left p text (Some known) r e h =
     at_ok (λ r. HasType env left (written.Name p text) (term_of r)) (read_at p.at known.1 known.0) r h (name e)
 
-pub called_with : (classes : List Class) (at : ℕ) (callee : Callee) (ts : List Typed) (ps : List Ty) (r : Typed)
+pub called_with : (classes : List Class) (at : ℕ) (callee : Callee) (ts : List TypedExpr) (ps : List Ty) (r : TypedExpr)
     → called classes at callee ts (Some ps) ≡ Ok r
     → (trees : Exprs) × AreArguments classes ps (terms ts) trees
     × (term_at at callee.result (call_of callee.target (map var_type ps) trees) ≡ r)
@@ -133,8 +133,8 @@ called_with classes at callee ts ps r h =
       same_ok (term_at at callee.result (call_of callee.target (map var_type ps) a.0)) r a.2,
     )
 
-pub called_ok : (classes : List Class) (at : ℕ) (callee : Callee) (ts : List Typed) (parameters : Option (List Ty))
-    (r : Typed) → called classes at callee ts parameters ≡ Ok r
+pub called_ok : (classes : List Class) (at : ℕ) (callee : Callee) (ts : List TypedExpr) (parameters : Option (List Ty))
+    (r : TypedExpr) → called classes at callee ts parameters ≡ Ok r
     → (ps : List Ty) × (parameters ≡ Some ps)
     × ((trees : Exprs) × AreArguments classes ps (terms ts) trees
     × (term_at at callee.result (call_of callee.target (map var_type ps) trees) ≡ r))
@@ -146,7 +146,7 @@ callee_ok : (at : ℕ) (found : Option Callee) (callee : Callee) → callee_at a
 callee_ok at None callee h = absurd (no_fault _ callee h)
 callee_ok at (Some found) callee h = ap Some (same_ok found callee h)
 
-pub call_sound : (env : Environment) (left : Bool) (p : place.Place) (text : List ℕ) (es : written.Exprs) (r : Typed)
+pub call_sound : (env : Environment) (left : Bool) (p : place.Place) (text : List ℕ) (es : written.Exprs) (r : TypedExpr)
     → AllSound env es → call_typed env p.at text (all_typed env es) ≡ Ok r
     → HasType env left (written.Call p text es) (term_of r)
 call_sound env left p text es r all h =
@@ -157,7 +157,7 @@ call_sound env left p text es r all h =
     subst (λ r. HasType env left (written.Call p text es) (term_of r)) ((d.2).2)
     (call (callee_ok p.at (callee_in env text) c.0 c.1) d.1 (all a.0 a.1) ((d.2).1))
 
-pub brackets_sound : (env : Environment) (left : Bool) (p : place.Place) (e : written.Expr) (r : Typed)
+pub brackets_sound : (env : Environment) (left : Bool) (p : place.Place) (e : written.Expr) (r : TypedExpr)
     → Sound env false e
     → (typed env false e >>= λ t. Ok (in_brackets p.at t)) ≡ Ok r → HasType env left (written.Brackets p e) (term_of r)
 brackets_sound env left p e r sound h =
@@ -166,7 +166,7 @@ brackets_sound env left p e r sound h =
     (brackets (sound a.0 a.1))
 
 to_integer_sound : (env : Environment) (left : Bool) (p : place.Place) (to : Primitive) (k : IntType) (e : written.Expr)
-    (u r : Typed) → HasType env false e (term_of u) → is_known u.ty ≡ true → ty_of to ≡ ty.Integer k
+    (u r : TypedExpr) → HasType env false e (term_of u) → is_known u.ty ≡ true → ty_of to ≡ ty.Integer k
     → converting p.at (ty.Integer k) u ≡ Ok r → HasType env left (written.Convert p to e) (term_of r)
 to_integer_sound env left p to k e u r d known is h =
     let j = bind_ok (integer_of u.at u.ty) (λ j. Ok (integer_at p.at k u)) r h in
@@ -174,7 +174,7 @@ to_integer_sound env left p to k e u r d known is h =
     (to_integer d is (integer_ok u.at u.ty j.0 known j.1))
 
 pub convert_sound : (env : Environment) (left : Bool) (p : place.Place) (to : Primitive) (e : written.Expr)
-    (u r : Typed)
+    (u r : TypedExpr)
     → HasType env false e (term_of u) → is_known u.ty ≡ true → convert_at p.at to u ≡ Ok r
     → HasType env left (written.Convert p to e) (term_of r)
 unfolding convert_at
@@ -205,7 +205,7 @@ array_by env left p of es elements ts count trees c n all args =
     (λ args. new_array n all args) args
 
 pub array_sound : (env : Environment) (left : Bool) (p : place.Place) (of : written.Element) (es : written.Exprs)
-    (r : Typed) → AllSound env es → array_typed env p.at of (all_typed env es) ≡ Ok r
+    (r : TypedExpr) → AllSound env es → array_typed env p.at of (all_typed env es) ≡ Ok r
     → HasType env left (written.NewArray p of es) (term_of r)
 array_sound env left p of es r all h =
     let e = bind_ok (known_element (at_element of) (element_named env.registered env.declarations of))
@@ -221,7 +221,7 @@ array_sound env left p of es r all h =
     (array_by env left p of es e.0 (terms a.0) (length a.0) d.0 (length-map a.0 term_of)
     (element_ok (at_element of) (element_named env.registered env.declarations of) e.0 e.1) (all a.0 a.1) d.1)
 
-index_object_ok : (t i : Typed) (o : ObjectType) (r : Typed) → is_known i.ty ≡ true → indexed_object t i o ≡ Ok r
+index_object_ok : (t i : TypedExpr) (o : ObjectType) (r : TypedExpr) → is_known i.ty ≡ true → indexed_object t i o ≡ Ok r
     → (e : Element) × (o ≡ objects.Array e)
     × ((k : IntType) × (i.ty ≡ ty.Integer k)
     × (read_at t.at (ty_of_element e) (Read (Indexed t.tree (converted_to (ty.Integer ints.Uint) (term_of i)) e)) ≡ r))
@@ -239,7 +239,7 @@ index_object_ok t i (objects.Array e) r known h =
     )
 index_object_ok t i _ r known h = absurd (no_fault _ r h)
 
-pub index_ok : (t i : Typed) (of : Ty) (r : Typed) → is_known of ≡ true → is_known i.ty ≡ true → indexed t of i ≡ Ok r
+pub index_ok : (t i : TypedExpr) (of : Ty) (r : TypedExpr) → is_known of ≡ true → is_known i.ty ≡ true → indexed t of i ≡ Ok r
     → (e : Element) × (object_of of ≡ Some (objects.Array e))
     × ((k : IntType) × (i.ty ≡ ty.Integer k)
     × (read_at t.at (ty_of_element e) (Read (Indexed t.tree (converted_to (ty.Integer ints.Uint) (term_of i)) e)) ≡ r))
@@ -263,7 +263,7 @@ cast_type_ok at (Some (objects.Interface interface)) o h = (
 cast_type_ok at (Some _) o h = absurd (no_fault _ o h)
 
 pub cast_sound : (env : Environment) (left : Bool) (p : place.Place) (to : written.TypeName) (e : written.Expr)
-    (o : ObjectType) (u r : Typed) → object_named env.registered env.declarations to.name ≡ Some o → IsCastType o
+    (o : ObjectType) (u r : TypedExpr) → object_named env.registered env.declarations to.name ≡ Some o → IsCastType o
     → HasType env false e (term_of u) → is_known u.ty ≡ true → cast_at p.at o u ≡ Ok r
     → HasType env left (written.Cast p to e) (term_of r)
 unfolding cast_at

@@ -11,13 +11,13 @@ use Rattle.ash_typing.specs.declared.types.Ty.TheVariants as ty
 use Rattle.ash_typing.specs.declared.forms.OperatorClass.{OperatorClass}
 use Rattle.ash_typed.specs.declared.tree.operations.Change.TheVariants as changes
 use Rattle.ash_typed.specs.declared.tree.operations.Operands.{Operands}
-use Rattle.ash_typed.specs.declared.tree.operations.Step.{Step}
-use Rattle.ash_typed.specs.declared.tree.operations.Step.TheVariants as steps
+use Rattle.ash_typed.specs.declared.tree.operations.IncrementOp.{IncrementOp}
+use Rattle.ash_typed.specs.declared.tree.operations.IncrementOp.TheVariants as steps
 use Rattle.ash_typing.specs.TypingResult.{◌>>=◌}
 use Rattle.ash_typing.specs.Types.{signed, common, operator_class_of, operator_result, common_operands, assumed_type}
 use Rattle.ash_typed.specs.Tree.{Expr, Alter, Conditional, Count, Place}
 use Rattle.ash_typing.specs.Environment.{Environment}
-use Rattle.ash_typing.specs.Expressions.{Typed, UnifiedOperands, typed, links_typed, coerced, operate}
+use Rattle.ash_typing.specs.Expressions.{TypedExpr, UnifiedOperands, typed, links_typed, coerced, operate}
 use Rattle.ash_typing.specs.Expressions.{operated as joined, unify_operands}
 use Rattle.ash_typing.specs.Expressions.{unified_as, unified_by, counted, altered, unary_at, integer_of, bool_of}
 use Rattle.ash_typing.specs.Expressions.{handle_of}
@@ -31,7 +31,7 @@ use Rattle.ash_typing.proofs.TypingSoundCalls.{Sound, at_ok, bool_ok, integer_ok
 
 -- operators before an operand
 
-pub counted_ok : (at : ℕ) (step : Step) (u : Typed) (found : Option Place) (r : Typed) → is_known u.ty ≡ true
+pub counted_ok : (at : ℕ) (step : IncrementOp) (u : TypedExpr) (found : Option Place) (r : TypedExpr) → is_known u.ty ≡ true
     → counted at step u found ≡ Ok r
     → (target : Place) × (found ≡ Some target)
     × ((k : IntType) × (u.ty ≡ ty.Integer k) × (term_at at (ty.Integer k) (Count target k step) ≡ r))
@@ -44,7 +44,7 @@ counted_ok at step u (Some target) r known h =
       (k.0, integer_ok u.at u.ty k.0 known k.1, same_ok (term_at at (ty.Integer k.0) (Count target k.0 step)) r k.2),
     )
 
-handle_sound : (env : Environment) (left : Bool) (p : place.Place) (e : written.Expr) (u r : Typed)
+handle_sound : (env : Environment) (left : Bool) (p : place.Place) (e : written.Expr) (u r : TypedExpr)
     → HasType env false e (term_of u) → is_known u.ty ≡ true → handle_at left p.at u ≡ Ok r
     → HasType env left (written.Unary p unary.Handle e) (term_of r)
 handle_sound env true p e u r d known h =
@@ -56,7 +56,7 @@ handle_sound env false p e u r d known h =
     at_ok (λ r. HasType env false (written.Unary p unary.Handle e) (term_of r)) (term_at p.at t.0 u.tree) r t.2
     (rw (← o.2) (handle d o.1))
 
-pub unary_sound : (env : Environment) (left : Bool) (p : place.Place) (op : UnaryOp) (e : written.Expr) (u r : Typed)
+pub unary_sound : (env : Environment) (left : Bool) (p : place.Place) (op : UnaryOp) (e : written.Expr) (u r : TypedExpr)
     → HasType env false e (term_of u) → is_known u.ty ≡ true → unary_at left p.at op u ≡ Ok r
     → HasType env left (written.Unary p op e) (term_of r)
 unfolding unary_at
@@ -88,7 +88,7 @@ unary_sound env left p unary.Handle e u r d known h = handle_sound env left p e 
 
 -- operators between two operands
 
-unified_as_ok : (s : OperatorClass) (x y : Typed) (found : Option Operands) (m : UnifiedOperands)
+unified_as_ok : (s : OperatorClass) (x y : TypedExpr) (found : Option Operands) (m : UnifiedOperands)
     → unified_as s x y found ≡ Ok m
     → (o : Operands) × (found ≡ Some o) × (record { left = x; operands = o; right = right_by s o (term_of y) } ≡ m)
 unified_as_ok s x y None m h = absurd (no_fault _ m h)
@@ -111,7 +111,7 @@ unified_by_ok s t u a b m known as_value h =
           f.2,
     )
 
-pub unified_ok : (op : BinaryOp) (t u : Typed) (m : UnifiedOperands) → is_known t.ty ≡ true → is_known u.ty ≡ true
+pub unified_ok : (op : BinaryOp) (t u : TypedExpr) (m : UnifiedOperands) → is_known t.ty ≡ true → is_known u.ty ≡ true
     → unify_operands op t u ≡ Ok m
     → (o : Operands) × AreUnified op (term_of t) (term_of u) o
     × (record {
@@ -128,7 +128,7 @@ unified_ok op t u m known as_value h =
     (rw (adapted_is (operator_class_of op) (term_of u) (term_of t) t.at, adapted_is (operator_class_of op) (term_of t) (term_of u) u.at) at
     h)
 
-operate_ok : (op : BinaryOp) (t u r : Typed) → is_known t.ty ≡ true → is_known u.ty ≡ true → operate op t u ≡ Ok r
+operate_ok : (op : BinaryOp) (t u r : TypedExpr) → is_known t.ty ≡ true → is_known u.ty ≡ true → operate op t u ≡ Ok r
     → (o : Operands) × AreUnified op (term_of t) (term_of u) o
     × (term (operator_result (operator_class_of op) o)
     (applied op o (left_of op o (term_of t) (term_of u)) (right_of op o (term_of t) (term_of u))) ≡ term_of r)
@@ -146,9 +146,9 @@ linked_by : {env : Environment} {t u v w : Term} {op : BinaryOp} {e : written.Ex
 linked_by {env} {w = w} {ls = ls} d m is rest =
     operated d m (subst (λ (v : Term). LinksHaveType env v ls w) (sym is) rest)
 
-pub one_link : (env : Environment) (t : Typed) (op : BinaryOp) (e : written.Expr) (ls : written.Links) (r : Typed)
+pub one_link : (env : Environment) (t : TypedExpr) (op : BinaryOp) (e : written.Expr) (ls : written.Links) (r : TypedExpr)
     → IsKnown env → is_known t.ty ≡ true → Sound env false e
-    → ((v : Typed) → is_known v.ty ≡ true → links_typed env v ls ≡ Ok r → LinksHaveType env (term_of v) ls (term_of r))
+    → ((v : TypedExpr) → is_known v.ty ≡ true → links_typed env v ls ≡ Ok r → LinksHaveType env (term_of v) ls (term_of r))
     → links_typed env t (written.link op e ls) ≡ Ok r → LinksHaveType env (term_of t) (written.link op e ls) (term_of r)
 one_link env t op e ls r known as_value sound rest h =
     let u = bind_ok (typed env false e) (λ operand. operate op t operand >>= λ both. links_typed env both ls) r h in
@@ -160,12 +160,12 @@ one_link env t op e ls r known as_value sound rest h =
 
 -- `c ? a : b`
 
-chosen_ok : (c a b : Typed) (found : Option Ty) (r : Typed) → chosen c a b found ≡ Ok r
+chosen_ok : (c a b : TypedExpr) (found : Option Ty) (r : TypedExpr) → chosen c a b found ≡ Ok r
     → (of : Ty) × (found ≡ Some of) × (term_at c.at of (Conditional c.tree (coerced of a) (coerced of b)) ≡ r)
 chosen_ok c a b None r h = absurd (no_fault _ r h)
 chosen_ok c a b (Some of) r h = (of, refl, same_ok _ r h)
 
-pub conditional_sound : (env : Environment) (left : Bool) (p : place.Place) (c a b : written.Expr) (t x y r : Typed)
+pub conditional_sound : (env : Environment) (left : Bool) (p : place.Place) (c a b : written.Expr) (t x y r : TypedExpr)
     → HasType env false c (term_of t) → HasType env false a (term_of x) → HasType env false b (term_of y)
     → is_known t.ty ≡ true → choice t x y ≡ Ok r → HasType env left (written.Conditional p c a b) (term_of r)
 unfolding choice

@@ -10,7 +10,7 @@ use Rattle.ash_typing.specs.Types.{var_type, object_of}
 use Rattle.ash_typing.specs.Coercions.{fits}
 use Rattle.ash_typed.specs.Tree.{Expr, Exprs}
 use Rattle.ash_typing.specs.Environment.{Environment, Class, Callee, construction}
-use Rattle.ash_typing.specs.Expressions.{Typed, typed, all_typed, coerced_for_assignment, called, placed, all_placed}
+use Rattle.ash_typing.specs.Expressions.{TypedExpr, typed, all_typed, coerced_for_assignment, called, placed, all_placed}
 use Rattle.ash_typing.specs.Expressions.{term_of, first_at}
 use Rattle.ash_typing.specs.Declarations.{Initialization, constructed, begun, begun_with, begun_by, begun_by_one}
 use Rattle.ash_typing.specs.Declarations.{stored_first, initialized, decl_typed, built}
@@ -26,7 +26,7 @@ use Rattle.ash_typing.specs.Terms.{call_of, initialization, Term, converted_to}
 
 -- what begins by the rules begins so in the walk
 
-built_is : (env : Environment) (at : ℕ) (o : ObjectType) (us : List Typed) (count : ℕ) (callee : Callee)
+built_is : (env : Environment) (at : ℕ) (o : ObjectType) (us : List TypedExpr) (count : ℕ) (callee : Callee)
     (parameters : List Ty) (trees : Exprs) → construction env o count ≡ Some callee
     → callee.parameters ≡ Some parameters → AreArguments env.declarations.classes parameters (terms us) trees
     → constructed env.declarations.classes at us (construction env o count)
@@ -35,7 +35,7 @@ unfolding constructed called
 built_is env at o us count callee parameters trees c p a =
     rw (c, p, arguments_is env.declarations.classes at parameters us trees a) refl
 
-constructed_is : (env : Environment) (at : ℕ) (o : ObjectType) (us : List Typed) (count : ℕ) (ts : List Term)
+constructed_is : (env : Environment) (at : ℕ) (o : ObjectType) (us : List TypedExpr) (count : ℕ) (ts : List Term)
     (tree : Expr) → terms us ≡ ts → length ts ≡ count → IsConstructed env o ts tree
     → constructed env.declarations.classes at us (construction env o count) ≡ Ok (Some tree)
 constructed_is env at o us count ts tree e n
@@ -87,7 +87,7 @@ declared_complete (declared {d = d} h) at = rw (begins_complete h at d.place.at)
 
 -- what begins so in the walk begins by the rules
 
-constructed_ok : (env : Environment) (at : ℕ) (o : ObjectType) (us : List Typed) (count : ℕ) (found : Option Callee)
+constructed_ok : (env : Environment) (at : ℕ) (o : ObjectType) (us : List TypedExpr) (count : ℕ) (found : Option Callee)
     (begins : Option Expr) → count ≡ length (terms us) → construction env o count ≡ found
     → constructed env.declarations.classes at us found ≡ Ok begins
     → (tree : Expr) × IsConstructed env o (terms us) tree × (Some tree ≡ begins)
@@ -98,7 +98,7 @@ constructed_ok env at o us count (Some callee) begins n e h =
     let c = called_ok env.declarations.classes at callee us callee.parameters t.0 t.1 in (
       call_of callee.target (map var_type c.0) ((c.2).0),
       construct (subst (λ count. construction env o count ≡ Some callee) n e) c.1 ((c.2).1),
-      ap (λ (t : Typed). built t) ((c.2).2) ∙ same_ok (built t.0) begins t.2,
+      ap (λ (t : TypedExpr). built t) ((c.2).2) ∙ same_ok (built t.0) begins t.2,
     )
 
 begun_sound : (env : Environment) (at : ℕ) (of : Ty) (begins : Option Expr) → begun env at of ≡ Ok begins
@@ -109,14 +109,14 @@ begun_sound env at (ty.Object o) begins h =
     subst (λ begins. BeginsWith env (ty.Object o) written.Default begins) c.2 (default c.1)
 begun_sound env at of begins h = at_ok (λ begins. BeginsWith env of written.Default begins) None begins h (empty refl)
 
-stored_ok : (classes : List Class) (of : Ty) (t : Typed) (begins : Option Expr) → stored_first classes of t ≡ Ok begins
+stored_ok : (classes : List Class) (of : Ty) (t : TypedExpr) (begins : Option Expr) → stored_first classes of t ≡ Ok begins
     → (fits classes of t.ty ≡ true) × (Some (converted_to of (term_of t)) ≡ begins)
 stored_ok classes of t begins h =
     let e = bind_ok (coerced_for_assignment classes of t) (λ e. Ok (Some e)) begins h in
     let f = coerced_for_assignment_ok classes of t e.0 e.1 in
     (f.0, ap Some f.1 ∙ same_ok (Some e.0) begins e.2)
 
-value_sound : (env : Environment) (at : ℕ) (of : Ty) (e : written.Expr) (t : Typed) (begins : Option Expr)
+value_sound : (env : Environment) (at : ℕ) (of : Ty) (e : written.Expr) (t : TypedExpr) (begins : Option Expr)
     → HasType env false e (term_of t) → begun_with env.declarations.classes at of t ≡ Ok begins
     → BeginsWith env of (written.Value e) begins
 unfolding begun_with
@@ -135,7 +135,7 @@ no_second : {env : Environment} {e f : written.Expr} {t : Term} {es : written.Ex
     → AllHaveType env (written.expr e (written.expr f es)) (t ∷ []) → ⊥
 no_second (each d rest) = none_typed rest
 
-alone_sound : (env : Environment) (of : Ty) (es : List written.Expr) (t : Typed) (begins : Option Expr)
+alone_sound : (env : Environment) (of : Ty) (es : List written.Expr) (t : TypedExpr) (begins : Option Expr)
     → object_of of ≡ None → AllHaveType env (written.exprs es) (term_of t ∷ [])
     → stored_first env.declarations.classes of t ≡ Ok begins → BeginsWith env of (written.Arguments es) begins
 alone_sound env of [] t begins n all h = elim all [ ]
@@ -143,14 +143,14 @@ alone_sound env of (e ∷ []) t begins n all h = let s = stored_ok env.declarati
     subst (λ begins. BeginsWith env of (written.Arguments (e ∷ [])) begins) s.1 (one n (out_first all) s.0)
 alone_sound env of (e ∷ f ∷ es) t begins n all h = absurd (no_second all)
 
-one_sound : (env : Environment) (at : ℕ) (of : Ty) (es : List written.Expr) (us : List Typed) (begins : Option Expr)
+one_sound : (env : Environment) (at : ℕ) (of : Ty) (es : List written.Expr) (us : List TypedExpr) (begins : Option Expr)
     → object_of of ≡ None → AllHaveType env (written.exprs es) (terms us)
     → begun_by_one env.declarations.classes at of us ≡ Ok begins → BeginsWith env of (written.Arguments es) begins
 unfolding begun_by_one
 one_sound env at of es (t ∷ []) begins n all h = alone_sound env of es t begins n all h
 one_sound env at of es _ begins n all h = absurd (no_fault _ begins h)
 
-begun_by_sound : (env : Environment) (of_at at : ℕ) (of : Ty) (es : List written.Expr) (us : List Typed)
+begun_by_sound : (env : Environment) (of_at at : ℕ) (of : Ty) (es : List written.Expr) (us : List TypedExpr)
     (begins : Option Expr) → AllHaveType env (written.exprs es) (terms us) → begun_by env of_at at of us ≡ Ok begins
     → BeginsWith env of (written.Arguments es) begins
 unfolding begun_by

@@ -10,7 +10,7 @@ use Rattle.ash_typing.specs.TypingResult.{TypingResult, ◌>>=◌, broken}
 use Rattle.ash_typed.specs.Tree.{Expr}
 use Rattle.ash_typing.specs.Environment.{Environment, Class, Callee, construction}
 pub use Rattle.ash_typed.specs.StatementTree.{Initialization}
-use Rattle.ash_typing.specs.Expressions.{Typed, typed, all_typed, coerced_for_assignment, called, at_element}
+use Rattle.ash_typing.specs.Expressions.{TypedExpr, typed, all_typed, coerced_for_assignment, called, at_element}
 use Rattle.ash_typing.specs.Terms.{initialization}
 
 -- the type of variables
@@ -32,11 +32,11 @@ known_ty of t = Ok t
 
 -- objects are constructed
 
-abbrev pub built : Typed → Option Expr
+abbrev pub built : TypedExpr → Option Expr
 built t = Some t.tree
 
 -- An object is constructed, by the type at this offset.
-unfoldable pub constructed : List Class → ℕ → List Typed → Option Callee → TypingResult (Option Expr)
+unfoldable pub constructed : List Class → ℕ → List TypedExpr → Option Callee → TypingResult (Option Expr)
 constructed classes at ts None = broken NoFactory at
 constructed classes at ts (Some callee) = called classes at callee ts callee.parameters >>= λ t. Ok (built t)
 
@@ -45,21 +45,21 @@ unfoldable pub begun : Environment → ℕ → Ty → TypingResult (Option Expr)
 begun env at (ty.Object o) = constructed env.declarations.classes at [] (construction env o 0)
 begun env at _ = Ok None
 
-abbrev pub stored_first : List Class → Ty → Typed → TypingResult (Option Expr)
+abbrev pub stored_first : List Class → Ty → TypedExpr → TypingResult (Option Expr)
 stored_first classes of t = coerced_for_assignment classes of t >>= λ e. Ok (Some e)
 
 -- `T x = e`, with x at this offset, begins so: objects are not assigned.
-unfoldable pub begun_with : List Class → ℕ → Ty → Typed → TypingResult (Option Expr)
+unfoldable pub begun_with : List Class → ℕ → Ty → TypedExpr → TypingResult (Option Expr)
 begun_with classes at (ty.Object o) t = broken NotAssignable at
 begun_with classes at of t = stored_first classes of t
 
 -- `T x(e)` is `T x = e` for a primitive type.
-unfoldable pub begun_by_one : List Class → ℕ → Ty → List Typed → TypingResult (Option Expr)
+unfoldable pub begun_by_one : List Class → ℕ → Ty → List TypedExpr → TypingResult (Option Expr)
 begun_by_one classes at of (t ∷ []) = stored_first classes of t
 begun_by_one classes at of _ = broken TypeMismatch at
 
 -- `T x(e ..)`, with the type and x at these offsets, begins so.
-unfoldable pub begun_by : Environment → ℕ → ℕ → Ty → List Typed → TypingResult (Option Expr)
+unfoldable pub begun_by : Environment → ℕ → ℕ → Ty → List TypedExpr → TypingResult (Option Expr)
 begun_by env of_at at (ty.Object o) ts = constructed env.declarations.classes of_at ts (construction env o (length ts))
 begun_by env of_at at (ty.Handle o) ts = broken TypeMismatch at
 begun_by env of_at at of ts = begun_by_one env.declarations.classes at of ts

@@ -75,9 +75,9 @@ with_locals env locals = record {
   locals = locals;
 }
 
--- `seen calls h` is what each item of a module sees.
-abbrev pub seen : List host.Registration → ModuleDeclarations → Environment
-seen calls h = record { declarations = h; registered = calls; this = None; locals = [] }
+-- `module_environment calls h` is what each item of a module sees.
+abbrev pub module_environment : List host.Registration → ModuleDeclarations → Environment
+module_environment calls h = record { declarations = h; registered = calls; this = None; locals = [] }
 
 -- `inside env place` is what the members of the class of a place see.
 abbrev pub inside : Environment → ℕ → Environment

@@ -28,8 +28,8 @@ use Rattle.ash_typed.specs.declared.tree.operations.Calculator.{Calculator}
 use Rattle.ash_typed.specs.declared.tree.operations.Member.{Member}
 use Rattle.ash_typed.specs.declared.tree.operations.Member.TheVariants as members
 use Rattle.ash_typed.specs.declared.tree.operations.Operands.{Operands}
-use Rattle.ash_typed.specs.declared.tree.operations.Step.{Step}
-use Rattle.ash_typed.specs.declared.tree.operations.Step.TheVariants as steps
+use Rattle.ash_typed.specs.declared.tree.operations.IncrementOp.{IncrementOp}
+use Rattle.ash_typed.specs.declared.tree.operations.IncrementOp.TheVariants as steps
 use Rattle.ash_typing.specs.TypingResult.{TypingResult, ◌>>=◌, broken}
 use Rattle.ash_typing.specs.Types.{var_type, signed, common, ty_of, ty_of_element, operator_class_of, binary_of}
 use Rattle.ash_typing.specs.Types.{integers_in}
@@ -45,32 +45,32 @@ use Rattle.ash_typing.specs.Terms.{call_of, array_parameters, Term, term, read_t
 use Rattle.ash_typing.specs.Terms.{right_by, adapted_by}
 
 -- A typed expression has the offset of its first token, and what it is by itself.
-pub record Typed : Type 0 where
+pub record TypedExpr : Type 0 where
   pub at : ℕ
   pub ty : Ty
   pub form : Form
   pub tree : Expr
 
 -- `placed at t` is a term of an expression whose first token is at this offset.
-abbrev pub placed : ℕ → Term → Typed
+abbrev pub placed : ℕ → Term → TypedExpr
 placed at t = record { at = at; ty = t.ty; form = t.form; tree = t.tree }
 
-abbrev pub term_of : Typed → Term
+abbrev pub term_of : TypedExpr → Term
 term_of t = record { ty = t.ty; form = t.form; tree = t.tree }
 
-abbrev pub term_at : ℕ → Ty → Expr → Typed
+abbrev pub term_at : ℕ → Ty → Expr → TypedExpr
 term_at at of tree = placed at (term of tree)
 
-abbrev pub read_at : ℕ → Ty → Expr → Typed
+abbrev pub read_at : ℕ → Ty → Expr → TypedExpr
 read_at at of tree = placed at (read_term of tree)
 
 -- conversions
 
-abbrev pub coerced : Ty → Typed → Expr
+abbrev pub coerced : Ty → TypedExpr → Expr
 coerced to t = converted_to to (term_of t)
 
 -- The expression is converted as in an assignment to a variable of this type.
-unfoldable pub coerced_for_assignment : List Class → Ty → Typed → TypingResult Expr
+unfoldable pub coerced_for_assignment : List Class → Ty → TypedExpr → TypingResult Expr
 coerced_for_assignment classes to t = if fits classes to t.ty then Ok (coerced to t) else broken TypeMismatch t.at
 
 -- what an operand has to be
@@ -93,55 +93,55 @@ handle_of at ty.Unknown = Ok ty.Unknown
 handle_of at _ = broken TypeMismatch at
 
 -- `adapted s other of t` is the operand of an operator, where the other operand has this form and type.
-unfoldable pub adapted : OperatorClass → Form → Ty → Typed → Typed
+unfoldable pub adapted : OperatorClass → Form → Ty → TypedExpr → TypedExpr
 adapted s other of t = placed t.at (adapted_by s other of (term_of t))
 
 -- operators between two operands
 
 -- Two operands are taken for operands of a class by an operator.
 pub record UnifiedOperands : Type 0 where
-  pub left : Typed
+  pub left : TypedExpr
   pub operands : Operands
   pub right : Expr
 
-abbrev pub unified_as : OperatorClass → Typed → Typed → Option Operands → TypingResult UnifiedOperands
+abbrev pub unified_as : OperatorClass → TypedExpr → TypedExpr → Option Operands → TypingResult UnifiedOperands
 unified_as s a b (Some o) = Ok (record { left = a; operands = o; right = right_by s o (term_of b) })
 unified_as s a b None = broken TypeMismatch (if takes s a.ty then b.at else a.at)
 
-abbrev pub unified_by : OperatorClass → Typed → Typed → TypingResult UnifiedOperands
+abbrev pub unified_by : OperatorClass → TypedExpr → TypedExpr → TypingResult UnifiedOperands
 unified_by s a b = unified_as s a b (common_operands s (assumed_type s b.ty a.ty) (assumed_type s a.ty b.ty))
 
-unfoldable pub unify_operands : BinaryOp → Typed → Typed → TypingResult UnifiedOperands
+unfoldable pub unify_operands : BinaryOp → TypedExpr → TypedExpr → TypingResult UnifiedOperands
 unify_operands op a b =
     unified_by (operator_class_of op) (adapted (operator_class_of op) b.form b.ty a)
     (adapted (operator_class_of op) a.form a.ty b)
 
-abbrev pub operated : BinaryOp → UnifiedOperands → Typed
+abbrev pub operated : BinaryOp → UnifiedOperands → TypedExpr
 operated op m =
     term_at m.left.at (operator_result (operator_class_of op) m.operands)
     (applied op m.operands (coerced (operand_type m.operands) m.left) m.right)
 
-unfoldable pub operate : BinaryOp → Typed → Typed → TypingResult Typed
+unfoldable pub operate : BinaryOp → TypedExpr → TypedExpr → TypingResult TypedExpr
 operate op a b = unify_operands op a b >>= λ m. Ok (operated op m)
 
 -- operators before an operand
 
-unfoldable pub counted : ℕ → Step → Typed → Option Place → TypingResult Typed
+unfoldable pub counted : ℕ → IncrementOp → TypedExpr → Option Place → TypingResult TypedExpr
 counted at step t None = broken NotAssignable t.at
 counted at step t (Some p) = integer_of t.at t.ty >>= λ k. Ok (term_at at (ty.Integer k) (Count p k step))
 
-abbrev pub altered : ℕ → IntType → Change → Typed → Typed
+abbrev pub altered : ℕ → IntType → Change → TypedExpr → TypedExpr
 altered at k change t = term_at at (ty.Integer k) (Alter change (coerced (ty.Integer k) t))
 
 -- `integer_at at k t` is the value alone, which can't be assigned.
-abbrev pub integer_at : ℕ → IntType → Typed → Typed
+abbrev pub integer_at : ℕ → IntType → TypedExpr → TypedExpr
 integer_at at k t = term_at at (ty.Integer k) (coerced (ty.Integer k) t)
 
-abbrev pub handle_at : Bool → ℕ → Typed → TypingResult Typed
+abbrev pub handle_at : Bool → ℕ → TypedExpr → TypingResult TypedExpr
 handle_at true at t = Ok (record { at = at; ty = t.ty; form = handle_form t.form; tree = t.tree })
 handle_at false at t = handle_of t.at t.ty >>= λ h. Ok (term_at at h t.tree)
 
-unfoldable pub unary_at : Bool → ℕ → UnaryOp → Typed → TypingResult Typed
+unfoldable pub unary_at : Bool → ℕ → UnaryOp → TypedExpr → TypingResult TypedExpr
 unary_at left at unary.Plus t = integer_of t.at t.ty >>= λ k. Ok (integer_at at k t)
 unary_at left at unary.Minus t = integer_of t.at t.ty >>= λ k. Ok (altered at (signed k) (changes.Negate (signed k)) t)
 unary_at left at unary.BitNot t = integer_of t.at t.ty >>= λ k. Ok (altered at k (changes.Complement k) t)
@@ -151,11 +151,11 @@ unary_at left at unary.Decrement t = counted at steps.Decrement t (assignable t.
 unary_at left at unary.Handle t = handle_at left at t
 
 -- `prim(e)` converts so.
-abbrev pub converting : ℕ → Ty → Typed → TypingResult Typed
+abbrev pub converting : ℕ → Ty → TypedExpr → TypingResult TypedExpr
 converting at (ty.Integer k) t = integer_of t.at t.ty >>= λ j. Ok (integer_at at k t)
 converting at _ t = bool_of t.at t.ty >>= λ yes. Ok (term_at at ty.Bool t.tree)
 
-unfoldable pub convert_at : ℕ → Primitive → Typed → TypingResult Typed
+unfoldable pub convert_at : ℕ → Primitive → TypedExpr → TypingResult TypedExpr
 convert_at at to t = converting at (ty_of to) t
 
 -- `c ? a : b`
@@ -164,31 +164,31 @@ abbrev pub is_void : Ty → Bool
 is_void ty.Void = true
 is_void _ = false
 
-abbrev pub chosen : Typed → Typed → Typed → Option Ty → TypingResult Typed
+abbrev pub chosen : TypedExpr → TypedExpr → TypedExpr → Option Ty → TypingResult TypedExpr
 chosen c a b (Some t) = Ok (term_at c.at t (Conditional c.tree (coerced t a) (coerced t b)))
 chosen c a b None = broken TypeMismatch (if is_void a.ty then a.at else b.at)
 
-unfoldable pub choice : Typed → Typed → Typed → TypingResult Typed
+unfoldable pub choice : TypedExpr → TypedExpr → TypedExpr → TypingResult TypedExpr
 choice c a b = bool_of c.at c.ty >>= λ yes. chosen c a b (common a.ty b.ty)
 
 -- assignments
 
 -- What is at a place is an operand of its type.
-abbrev pub updated : ℕ → Ty → Place → Calculator → Typed → TypingResult Typed
+abbrev pub updated : ℕ → Ty → Place → Calculator → TypedExpr → TypingResult TypedExpr
 updated at of p c v =
     unify_operands (binary_of c) (term_at at of Null) v >>= λ m. integer_of at of
     >>= λ k. Ok (term_at at (ty.Integer k) (Update p k (record { operator = c; of = integers_in m.operands }) m.right))
 
-unfoldable pub stored : List Class → ℕ → Ty → Place → Option Calculator → Typed → TypingResult Typed
+unfoldable pub stored : List Class → ℕ → Ty → Place → Option Calculator → TypedExpr → TypingResult TypedExpr
 stored classes at of p None v = coerced_for_assignment classes of v >>= λ e. Ok (term_at at of (Assign p e))
 stored classes at of p (Some op) v = updated at of p op v
 
-abbrev pub assigned_to : List Class → Typed → AssignOp → Typed → Option Place → TypingResult Typed
+abbrev pub assigned_to : List Class → TypedExpr → AssignOp → TypedExpr → Option Place → TypingResult TypedExpr
 assigned_to classes t op v None = broken NotAssignable t.at
 assigned_to classes t op v (Some p) =
     if is_stored t.form t.ty then stored classes t.at t.ty p (operator_of op) v else broken NotAssignable t.at
 
-unfoldable pub assigned : List Class → Typed → AssignOp → Typed → TypingResult Typed
+unfoldable pub assigned : List Class → TypedExpr → AssignOp → TypedExpr → TypingResult TypedExpr
 assigned classes t op v = assigned_to classes t op v (assignable t.form t.tree)
 
 abbrev pub is_assign : AssignOp → Bool
@@ -197,16 +197,16 @@ is_assign _ = false
 
 -- calls
 
-abbrev pub all_coerced : List Class → List Ty → List Typed → TypingResult Exprs
+abbrev pub all_coerced : List Class → List Ty → List TypedExpr → TypingResult Exprs
 all_coerced classes (p ∷ ps) (t ∷ ts) =
     coerced_for_assignment classes p t >>= λ e. all_coerced classes ps ts >>= λ es. Ok (expr e es)
 all_coerced classes _ _ = Ok no_expr
 
-unfoldable pub arguments_at : List Class → ℕ → List Ty → List Typed → TypingResult Exprs
+unfoldable pub arguments_at : List Class → ℕ → List Ty → List TypedExpr → TypingResult Exprs
 arguments_at classes at parameters ts =
     if nat_eq (length parameters) (length ts) then all_coerced classes parameters ts else broken WrongArgumentCount at
 
-unfoldable pub called : List Class → ℕ → Callee → List Typed → Option (List Ty) → TypingResult Typed
+unfoldable pub called : List Class → ℕ → Callee → List TypedExpr → Option (List Ty) → TypingResult TypedExpr
 called classes at callee ts None = broken NoFactory at
 called classes at callee ts (Some parameters) =
     arguments_at classes at parameters ts
@@ -218,21 +218,21 @@ callee_at at (Some callee) = Ok callee
 
 -- names
 
-abbrev pub known_at : ℕ → Option Known → TypingResult Typed
+abbrev pub known_at : ℕ → Option Known → TypingResult TypedExpr
 known_at at None = broken UnknownName at
 known_at at (Some known) = Ok (read_at at known.1 known.0)
 
-abbrev pub this_at : ℕ → Option ℕ → TypingResult Typed
+abbrev pub this_at : ℕ → Option ℕ → TypingResult TypedExpr
 this_at at None = broken Misplaced at
 this_at at (Some class) = Ok (term_at at (ty.Handle (objects.Class class)) (This class))
 
 -- suffixes
 
-abbrev pub member_at : Typed → ℕ → Option (Member × Ty) → TypingResult Typed
+abbrev pub member_at : TypedExpr → ℕ → Option (Member × Ty) → TypingResult TypedExpr
 member_at t at None = broken UnknownName at
 member_at t at (Some (member, of)) = Ok (read_at t.at of (Read (Held t.tree member)))
 
-unfoldable pub field_of : Environment → Typed → Ty → ℕ → List ℕ → TypingResult Typed
+unfoldable pub field_of : Environment → TypedExpr → Ty → ℕ → List ℕ → TypingResult TypedExpr
 field_of env t (ty.Object o) at name = member_at t at (member_in env o name)
 field_of env t (ty.Handle o) at name = member_at t at (member_in env o name)
 field_of env t ty.Unknown at name =
@@ -244,45 +244,45 @@ abbrev pub invoked_at : ℕ → Option Invoked → TypingResult (Option Invoked)
 invoked_at at None = broken UnknownName at
 invoked_at at (Some m) = Ok (Some m)
 
-unfoldable pub method_of : Environment → Typed → Ty → ℕ → List ℕ → TypingResult (Option Invoked)
+unfoldable pub method_of : Environment → TypedExpr → Ty → ℕ → List ℕ → TypingResult (Option Invoked)
 method_of env t (ty.Object o) at name = invoked_at at (method_in env o name)
 method_of env t (ty.Handle o) at name = invoked_at at (method_in env o name)
 method_of env t ty.Unknown at name = Ok None
 method_of env t _ at name = broken TypeMismatch t.at
 
-unfoldable pub invoked : List Class → Typed → ℕ → List Typed → Option Invoked → TypingResult Typed
+unfoldable pub invoked : List Class → TypedExpr → ℕ → List TypedExpr → Option Invoked → TypingResult TypedExpr
 invoked classes t at ts None = Ok (term_at t.at ty.Unknown Null)
 invoked classes t at ts (Some m) =
     arguments_at classes at m.parameters ts
     >>= λ es. Ok (term_at t.at m.result (Invoke t.tree m.method (map var_type m.parameters) es))
 
-abbrev pub in_brackets : ℕ → Typed → Typed
+abbrev pub in_brackets : ℕ → TypedExpr → TypedExpr
 in_brackets at t = record { at = at; ty = t.ty; form = bracketed t.form; tree = t.tree }
 
 -- A call, whose arguments are walked once its name is known.
-abbrev pub call_typed : Environment → ℕ → List ℕ → TypingResult (List Typed) → TypingResult Typed
+abbrev pub call_typed : Environment → ℕ → List ℕ → TypingResult (List TypedExpr) → TypingResult TypedExpr
 call_typed env at name arguments =
     callee_at at (callee_in env name) >>= λ callee. arguments
     >>= λ ts. called env.declarations.classes at callee ts callee.parameters
 
-abbrev pub invocation_typed : Environment → Typed → ℕ → List ℕ → TypingResult (List Typed) → TypingResult Typed
+abbrev pub invocation_typed : Environment → TypedExpr → ℕ → List ℕ → TypingResult (List TypedExpr) → TypingResult TypedExpr
 invocation_typed env t at name arguments =
     method_of env t t.ty at name >>= λ m. arguments >>= λ ts. invoked env.declarations.classes t at ts m
 
 -- arrays
 
 -- `index_in i` is an index, which is converted to `uint`.
-abbrev pub index_in : Typed → TypingResult Expr
+abbrev pub index_in : TypedExpr → TypingResult Expr
 index_in i = integer_of i.at i.ty >>= λ k. Ok (coerced (ty.Integer ints.Uint) i)
 
-abbrev pub indexed_at : Typed → Typed → Ty → Element → TypingResult Typed
+abbrev pub indexed_at : TypedExpr → TypedExpr → Ty → Element → TypingResult TypedExpr
 indexed_at t i of e = index_in i >>= λ index. Ok (read_at t.at of (Read (Indexed t.tree index e)))
 
-abbrev pub indexed_object : Typed → Typed → ObjectType → TypingResult Typed
+abbrev pub indexed_object : TypedExpr → TypedExpr → ObjectType → TypingResult TypedExpr
 indexed_object t i (objects.Array e) = indexed_at t i (ty_of_element e) e
 indexed_object t i _ = broken TypeMismatch t.at
 
-unfoldable pub indexed : Typed → Ty → Typed → TypingResult Typed
+unfoldable pub indexed : TypedExpr → Ty → TypedExpr → TypingResult TypedExpr
 indexed t (ty.Object o) i = indexed_object t i o
 indexed t (ty.Handle o) i = indexed_object t i o
 indexed t ty.Unknown i = indexed_at t i ty.Unknown elements.Bool
@@ -297,7 +297,7 @@ known_element at None = broken UnknownType at
 known_element at (Some e) = Ok e
 
 -- `array<T>(e ..)` is typed so.
-abbrev pub array_typed : Environment → ℕ → written.Element → TypingResult (List Typed) → TypingResult Typed
+abbrev pub array_typed : Environment → ℕ → written.Element → TypingResult (List TypedExpr) → TypingResult TypedExpr
 array_typed env at of arguments =
     known_element (at_element of) (element_named env.registered env.declarations of) >>= λ e. arguments
     >>= λ ts. called env.declarations.classes at (array_built e (length ts)) ts (Some (array_parameters (length ts)))
@@ -312,12 +312,12 @@ cast_type at (Some _) = broken TypeMismatch at
 cast_type at None = broken UnknownType at
 
 -- An object or a handle is cast.
-unfoldable pub cast_at : ℕ → ObjectType → Typed → TypingResult Typed
+unfoldable pub cast_at : ℕ → ObjectType → TypedExpr → TypingResult TypedExpr
 cast_at at to t = handle_of t.at t.ty >>= λ h. Ok (term_at at (ty.Handle to) (Cast to t.tree))
 
 -- The walk. `left` is whether the expression is left of `=`.
 abbrev mutual
-  pub typed : Environment → Bool → written.Expr → TypingResult Typed
+  pub typed : Environment → Bool → written.Expr → TypingResult TypedExpr
   typed env left (written.Number p n) = Ok (placed p.at (number_term n))
   typed env left (written.Truth p b) = Ok (term_at p.at ty.Bool (Truth b))
   typed env left (written.Null p) = Ok (term_at p.at ty.Null Null)
@@ -340,21 +340,21 @@ abbrev mutual
       >>= λ value. assigned env.declarations.classes target op value
 
   -- arguments, each in its turn
-  pub all_typed : Environment → written.Exprs → TypingResult (List Typed)
+  pub all_typed : Environment → written.Exprs → TypingResult (List TypedExpr)
   all_typed env written.no_expr = Ok []
   all_typed env (written.expr e es) = typed env false e >>= λ t. all_typed env es >>= λ ts. Ok (t ∷ ts)
 
   -- operators of one level, each with what is before it
-  pub links_typed : Environment → Typed → written.Links → TypingResult Typed
+  pub links_typed : Environment → TypedExpr → written.Links → TypingResult TypedExpr
   links_typed env t written.no_link = Ok t
   links_typed env t (written.link op e ls) =
       typed env false e >>= λ operand. operate op t operand >>= λ both. links_typed env both ls
 
-  pub suffixes_typed : Environment → Typed → written.Suffixes → TypingResult Typed
+  pub suffixes_typed : Environment → TypedExpr → written.Suffixes → TypingResult TypedExpr
   suffixes_typed env t written.no_suffix = Ok t
   suffixes_typed env t (written.suffix s ss) = suffix_typed env t s >>= λ next. suffixes_typed env next ss
 
-  pub suffix_typed : Environment → Typed → written.Suffix → TypingResult Typed
+  pub suffix_typed : Environment → TypedExpr → written.Suffix → TypingResult TypedExpr
   suffix_typed env t (written.Field p name) = field_of env t t.ty p.at name
   suffix_typed env t (written.Method p name es) = invocation_typed env t p.at name (all_typed env es)
   suffix_typed env t (written.Index e) = typed env false e >>= λ i. indexed t t.ty i
@@ -372,6 +372,6 @@ first_at (written.Assign p e op v) = first_at e
 first_at e = (written.place_of e).at
 
 -- `all_placed es ts` is what the walk gives of terms.
-abbrev pub all_placed : written.Exprs → List Term → List Typed
+abbrev pub all_placed : written.Exprs → List Term → List TypedExpr
 all_placed (written.expr e es) (t ∷ ts) = placed (first_at e) t ∷ all_placed es ts
 all_placed _ _ = []

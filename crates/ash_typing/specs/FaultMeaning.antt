@@ -18,6 +18,7 @@ use Rattle.ash_tree.specs.declared.tree.operators.AssignOp.{AssignOp}
 use Rattle.ash_tree.specs.declared.tree.statements.Label.{Label}
 use Rattle.ash_tree.specs.declared.tree.statements.Label.TheVariants as labels
 use Rattle.ash_integers.specs.declared.int_type.IntType.{IntType}
+use Rattle.ash_typed.specs.Limits.{max_module_types}
 use Rattle.ash_typed.specs.declared.types.ObjectType.{ObjectType}
 use Rattle.ash_typed.specs.declared.types.ObjectType.TheVariants as objects
 use Rattle.ash_typing.specs.declared.fault.Rule.{Rule}
@@ -29,7 +30,7 @@ use Rattle.ash_typing.specs.Types.{is_interface, object_of}
 use Rattle.ash_typing.specs.Environment.{Environment, Callee, Invoked, declares, variable_in, callee_in, member_in}
 use Rattle.ash_typing.specs.Environment.{method_in, construction}
 use Rattle.ash_typing.specs.ModuleDeclarations.{declarations, object_named, ty_named}
-use Rattle.ash_typing.specs.Expressions.{Typed, is_void, is_assign, typed}
+use Rattle.ash_typing.specs.Expressions.{TypedExpr, is_void, is_assign, typed}
 use Rattle.ash_typing.specs.Terms.{assignable, is_stored, array_parameters}
 use Rattle.ash_typing.specs.Declarations.{at_type, at_type_name}
 use Rattle.ash_typing.specs.Switches.{is_within}
@@ -42,7 +43,7 @@ use Rattle.ash_tree.specs.Items.{Routine, classes_of, interfaces_of}
 use Rattle.ash_typing.specs.FaultPlaces.{breaks_at}
 use Rattle.ash_typing.specs.Mismatches.{counts_after, Mismatches}
 use Rattle.ash_typing.specs.Phrases.{names_before, names_of_members, names_of_methods, names_listed, Phrase, Expression}
-use Rattle.ash_typing.specs.Phrases.{Suffixes, Initializer, Locals, Statement, Cases, Parameters, ARoutine, Variables}
+use Rattle.ash_typing.specs.Phrases.{Suffixes, Initializer, Locals, Statement, Cases, Parameters, RoutinePhrase, Variables}
 use Rattle.ash_typing.specs.Phrases.{Methods, Interfaces, ClassMembers, Items, Occurs}
 
 -- `argument_count es` is how many arguments there are.
@@ -105,13 +106,14 @@ named_by (Parameters env before (x ∷ xs)) = naming x.place x.name (list_any (d
 named_by (Locals scope at of (d ∷ ds)) = naming d.place d.name (scopes.is_taken scope d.name)
 named_by _ = None
 
--- What the first of these declares, where there may be only so many, and whether there are that many before it: 256
--- classes and interfaces and 256 variables in a module, 32 members of a class or methods of an interface.
+-- What the first of these declares, where there may be only so many, and whether there are that many before it:
+-- `max_module_types` classes and interfaces and `max_globals` variables in a module, `max_class_members` members of a
+-- class or methods of an interface.
 abbrev pub counted_by : Phrase → Option Naming
 counted_by (Items env before (written.AClass c ∷ is)) =
-    naming c.place c.name (nat_le 256 (length (classes_of before) + length (interfaces_of before)))
+    naming c.place c.name (nat_le max_module_types (length (classes_of before) + length (interfaces_of before)))
 counted_by (Items env before (written.AnInterface i ∷ is)) =
-    naming i.place i.name (nat_le 256 (length (classes_of before) + length (interfaces_of before)))
+    naming i.place i.name (nat_le max_module_types (length (classes_of before) + length (interfaces_of before)))
 counted_by (Variables env at of names (d ∷ ds)) = naming d.place d.name (nat_eq names.room 0)
 counted_by (ClassMembers env class before (written.AMethod f ∷ ms)) =
     naming f.place f.name (nat_eq (names_of_members before).room 0)
@@ -152,7 +154,7 @@ is_misplaced used o = used.is_passed || is_interface o
 -- what is written to
 
 -- Something may be assigned to what is typed so: to a place, of a type that takes a value.
-abbrev pub takes_value : Typed → Bool
+abbrev pub takes_value : TypedExpr → Bool
 takes_value t = is_some (assignable t.form t.tree) && is_stored t.form t.ty
 
 -- `++` and `--` before a place
@@ -175,12 +177,12 @@ pub data IsWrong (calls : List Registration) (script : List written.Item) : Rule
       → callee_in env text ≡ None
       → IsWrong calls script rules.UnknownName p.at (name text)
   -- objects of the type of what is before the point have no field and no property of this name, or no method
-  no_member : {env : Environment} {t : Typed} {p : Place} {text : List ℕ} {ss : written.Suffixes} {o : ObjectType}
+  no_member : {env : Environment} {t : TypedExpr} {p : Place} {text : List ℕ} {ss : written.Suffixes} {o : ObjectType}
       → Occurs calls script (Suffixes env t (written.suffix (written.Field p text) ss))
       → object_of t.ty ≡ Some o
       → member_in env o text ≡ None
       → IsWrong calls script rules.UnknownName p.at (name text)
-  no_method : {env : Environment} {t : Typed} {p : Place} {text : List ℕ} {es : written.Exprs} {ss : written.Suffixes}
+  no_method : {env : Environment} {t : TypedExpr} {p : Place} {text : List ℕ} {es : written.Exprs} {ss : written.Suffixes}
       {o : ObjectType}
       → Occurs calls script (Suffixes env t (written.suffix (written.Method p text es) ss))
       → object_of t.ty ≡ Some o
@@ -220,7 +222,7 @@ pub data IsWrong (calls : List Registration) (script : List written.Item) : Rule
       → IsWrong calls script rules.TooMany n.at (name n.text)
   -- what gives a value may end without one
   no_return : {env : Environment} {of : Ty} {r : Routine}
-      → Occurs calls script (ARoutine env of r)
+      → Occurs calls script (RoutinePhrase env of r)
       → is_void of ≡ false
       → returns_in r.body ≡ false
       → IsWrong calls script rules.NoReturn r.place.at (name r.name)
@@ -232,7 +234,7 @@ pub data IsWrong (calls : List Registration) (script : List written.Item) : Rule
       → callee.parameters ≡ Some parameters
       → nat_eq (length parameters) (argument_count es) ≡ false
       → IsWrong calls script rules.WrongArgumentCount p.at (name text)
-  method_count : {env : Environment} {t : Typed} {p : Place} {text : List ℕ} {es : written.Exprs}
+  method_count : {env : Environment} {t : TypedExpr} {p : Place} {text : List ℕ} {es : written.Exprs}
       {ss : written.Suffixes} {o : ObjectType} {m : Invoked}
       → Occurs calls script (Suffixes env t (written.suffix (written.Method p text es) ss))
       → object_of t.ty ≡ Some o
@@ -316,19 +318,19 @@ pub data IsWrong (calls : List Registration) (script : List written.Item) : Rule
       → Mismatches calls script at
       → IsWrong calls script rules.TypeMismatch at m
   -- what is left of `=` or of `op=` takes no value
-  takes_none : {env : Environment} {p : Place} {op : AssignOp} {e v : written.Expr} {t : Typed} {m : Meaning}
+  takes_none : {env : Environment} {p : Place} {op : AssignOp} {e v : written.Expr} {t : TypedExpr} {m : Meaning}
       → Occurs calls script (Expression env (written.Assign p e op v))
       → typed env (is_assign op) e ≡ Ok t
       → takes_value t ≡ false
       → IsWrong calls script rules.NotAssignable t.at m
   -- what is counted up or down is no place
-  no_place : {env : Environment} {p : Place} {op : UnaryOp} {e : written.Expr} {t : Typed} {m : Meaning}
+  no_place : {env : Environment} {p : Place} {op : UnaryOp} {e : written.Expr} {t : TypedExpr} {m : Meaning}
       → Occurs calls script (Expression env (written.Unary p op e))
       → counts op ≡ true
       → typed env false e ≡ Ok t
       → assignable t.form t.tree ≡ None
       → IsWrong calls script rules.NotAssignable t.at m
-  no_place_before : {env : Environment} {t : Typed} {s : written.Suffix} {ss : written.Suffixes} {m : Meaning}
+  no_place_before : {env : Environment} {t : TypedExpr} {s : written.Suffix} {ss : written.Suffixes} {m : Meaning}
       → Occurs calls script (Suffixes env t (written.suffix s ss))
       → counts_after s ≡ true
       → assignable t.form t.tree ≡ None

@@ -18,13 +18,14 @@ use Rattle.ash_typing.specs.Types.{result_type}
 use Rattle.ash_typing.specs.TypingResult.{TypingResult, ◌>>=◌, broken}
 use Rattle.ash_typing.specs.Environment.{Declared, type_declared, ModuleDeclarations, Environment, with_locals}
 use Rattle.ash_typing.specs.Environment.{declares, named_in}
-pub use Rattle.ash_typing.specs.Environment.{inside, seen}
+pub use Rattle.ash_typing.specs.Environment.{inside, module_environment}
 use Rattle.ash_typing.specs.Expressions.{is_void}
 use Rattle.ash_typing.specs.ModuleDeclarations.{object_named, declarations}
 pub use Rattle.ash_typing.specs.ModuleDeclarations.{ty_in}
 use Rattle.ash_typing.specs.Declarations.{Initialization, decl_typed}
 pub use Rattle.ash_typing.specs.Declarations.{at_type, at_type_name, known_ty}
 use Rattle.ash_typed.specs.StatementTree.{Body}
+use Rattle.ash_typed.specs.Limits.{max_module_types, max_globals, max_class_members}
 use Rattle.ash_typing.specs.Statements.{body_typed}
 use Rattle.ash_typed.specs.Modules.{Variables, Function, Signature, Interface, Implementation, Class, Module}
 use Rattle.ash_typing.specs.Returning.{returns_in}
@@ -140,9 +141,9 @@ abbrev pub signatures_typed : Environment → Signatures → List written.Interf
 signatures_typed env ss [] = Ok ss
 signatures_typed env ss (m ∷ ms) = signature_typed env ss m >>= λ next. signatures_typed env next ms
 
--- An interface has at most 32 methods.
+-- An interface has at most `max_class_members` methods.
 abbrev pub no_signatures : Signatures
-no_signatures = record { names = record { registered = []; taken = []; room = 32 }; methods = [] }
+no_signatures = record { names = record { registered = []; taken = []; room = max_class_members }; methods = [] }
 
 abbrev pub interface_of : written.Interface → ℕ → Signatures → Interface
 interface_of i classes ss =
@@ -242,10 +243,10 @@ abbrev pub members_typed : Environment → Members → List written.Member → T
 members_typed env ms [] = Ok ms
 members_typed env ms (m ∷ rest) = member_typed env ms m >>= λ next. members_typed env next rest
 
--- A class has at most 32 fields and methods.
+-- A class has at most `max_class_members` fields and methods.
 abbrev pub no_members : written.Class → List Implementation → Members
 no_members c listed = record {
-  names = record { registered = []; taken = []; room = 32 };
+  names = record { registered = []; taken = []; room = max_class_members };
   class = record {
     name = c.name;
     line = c.place.line;
@@ -273,10 +274,10 @@ pub record Walked : Type 0 where
   pub names : Names
   pub typed : Module
 
--- A module has at most 256 classes and interfaces.
+-- A module has at most `max_module_types` classes and interfaces.
 unfoldable pub room_for_type : ℕ → Module → TypingResult ℕ
 room_for_type at m =
-    if nat_le 256 (length m.classes + length m.interfaces) then broken TooMany at else Ok (length m.classes)
+    if nat_le max_module_types (length m.classes + length m.interfaces) then broken TooMany at else Ok (length m.classes)
 
 abbrev pub with_interface : Module → Interface → Module
 with_interface m i =
@@ -314,10 +315,10 @@ abbrev pub items_typed : Environment → Walked → List written.Item → Typing
 items_typed env w [] = Ok w
 items_typed env w (i ∷ is) = item_typed env w i >>= λ next. items_typed env next is
 
--- A module has at most 256 variables.
+-- A module has at most `max_globals` variables.
 abbrev pub nothing : List host.Registration → Walked
 nothing calls = record {
-  names = record { registered = calls; taken = []; room = 256 };
+  names = record { registered = calls; taken = []; room = max_globals };
   typed = record { interfaces = []; classes = []; functions = []; globals = [] };
 }
 
@@ -325,7 +326,7 @@ abbrev pub module_walked : Walked → Module
 module_walked w = w.typed
 
 abbrev pub module_by : List host.Registration → ModuleDeclarations → List written.Item → TypingResult Module
-module_by calls h is = items_typed (seen calls h) (nothing calls) is >>= λ w. Ok (module_walked w)
+module_by calls h is = items_typed (module_environment calls h) (nothing calls) is >>= λ w. Ok (module_walked w)
 
 unfoldable pub module_typed : List host.Registration → List written.Item → TypingResult Module
 module_typed calls is = module_by calls (declarations calls is) is

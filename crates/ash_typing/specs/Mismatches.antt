@@ -23,7 +23,7 @@ use Rattle.ash_typing.specs.Coercions.{fits}
 use Rattle.ash_typing.specs.Environment.{Environment, Class, Callee, Invoked, callee_in, method_in, construction}
 use Rattle.ash_typing.specs.ModuleDeclarations.{declarations, object_named}
 use Rattle.ash_typing.specs.Typing.{is_object}
-use Rattle.ash_typing.specs.Expressions.{Typed, term_at, is_void, is_assign, unify_operands, typed, all_typed}
+use Rattle.ash_typing.specs.Expressions.{TypedExpr, term_at, is_void, is_assign, unify_operands, typed, all_typed}
 use Rattle.ash_typing.specs.Terms.{operator_of, array_parameters}
 use Rattle.ash_typing.specs.Scopes.{Scope, block_of, after}
 use Rattle.ash_typing.specs.Statements.{gives_nothing}
@@ -96,11 +96,11 @@ condition_of (written.DoWhile p s c) = Some c
 condition_of _ = None
 
 -- An argument, whose first token has this offset, does not fit its parameter.
-pub data IsUnfit (classes : List Class) : List Ty → List Typed → ℕ → Type 0 where
-  this_one : {of : Ty} {t : Typed} {parameters : List Ty} {ts : List Typed}
+pub data IsUnfit (classes : List Class) : List Ty → List TypedExpr → ℕ → Type 0 where
+  this_one : {of : Ty} {t : TypedExpr} {parameters : List Ty} {ts : List TypedExpr}
       → fits classes of t.ty ≡ false
       → IsUnfit classes (of ∷ parameters) (t ∷ ts) t.at
-  later_one : {of : Ty} {t : Typed} {parameters : List Ty} {ts : List Typed} {at : ℕ}
+  later_one : {of : Ty} {t : TypedExpr} {parameters : List Ty} {ts : List TypedExpr} {at : ℕ}
       → IsUnfit classes parameters ts at
       → IsUnfit classes (of ∷ parameters) (t ∷ ts) at
 
@@ -108,28 +108,28 @@ pub data IsUnfit (classes : List Class) : List Ty → List Typed → ℕ → Typ
 pub data Mismatches (calls : List Registration) (script : List written.Item) : ℕ → Type 0 where
   -- an argument does not fit its parameter
   of_call : {env : Environment} {p : Place} {text : List ℕ} {es : written.Exprs} {callee : Callee}
-      {parameters : List Ty} {ts : List Typed} {at : ℕ}
+      {parameters : List Ty} {ts : List TypedExpr} {at : ℕ}
       → Occurs calls script (Expression env (written.Call p text es))
       → callee_in env text ≡ Some callee
       → callee.parameters ≡ Some parameters
       → all_typed env es ≡ Ok ts
       → IsUnfit env.declarations.classes parameters ts at
       → Mismatches calls script at
-  of_method : {env : Environment} {t : Typed} {p : Place} {text : List ℕ} {es : written.Exprs} {ss : written.Suffixes}
-      {o : ObjectType} {m : Invoked} {ts : List Typed} {at : ℕ}
+  of_method : {env : Environment} {t : TypedExpr} {p : Place} {text : List ℕ} {es : written.Exprs} {ss : written.Suffixes}
+      {o : ObjectType} {m : Invoked} {ts : List TypedExpr} {at : ℕ}
       → Occurs calls script (Suffixes env t (written.suffix (written.Method p text es) ss))
       → object_of t.ty ≡ Some o
       → method_in env o text ≡ Some m
       → all_typed env es ≡ Ok ts
       → IsUnfit env.declarations.classes m.parameters ts at
       → Mismatches calls script at
-  of_array : {env : Environment} {p : Place} {of : written.Element} {es : written.Exprs} {ts : List Typed} {at : ℕ}
+  of_array : {env : Environment} {p : Place} {of : written.Element} {es : written.Exprs} {ts : List TypedExpr} {at : ℕ}
       → Occurs calls script (Expression env (written.NewArray p of es))
       → all_typed env es ≡ Ok ts
       → IsUnfit env.declarations.classes (array_parameters (length ts)) ts at
       → Mismatches calls script at
   of_variable : {env : Environment} {of_at at : ℕ} {o : ObjectType} {es : List written.Expr} {callee : Callee}
-      {parameters : List Ty} {ts : List Typed} {arg_at : ℕ}
+      {parameters : List Ty} {ts : List TypedExpr} {arg_at : ℕ}
       → Occurs calls script (Initializer env of_at at (ty.Object o) (written.Arguments es))
       → all_typed env (written.exprs es) ≡ Ok ts
       → construction env o (length ts) ≡ Some callee
@@ -138,28 +138,28 @@ pub data Mismatches (calls : List Registration) (script : List written.Item) : �
       → Mismatches calls script arg_at
   -- an operand is of no type that its operator takes; of two operands the fault is at the one that the operator takes
   -- nowhere
-  operand : {env : Environment} {p : Place} {op : UnaryOp} {e : written.Expr} {t : Typed}
+  operand : {env : Environment} {p : Place} {op : UnaryOp} {e : written.Expr} {t : TypedExpr}
       → Occurs calls script (Expression env (written.Unary p op e))
       → typed env false e ≡ Ok t
       → takes_operand op t.ty ≡ false
       → Mismatches calls script t.at
-  operand_before : {env : Environment} {t : Typed} {s : written.Suffix} {ss : written.Suffixes}
+  operand_before : {env : Environment} {t : TypedExpr} {s : written.Suffix} {ss : written.Suffixes}
       → Occurs calls script (Suffixes env t (written.suffix s ss))
       → counts_after s ≡ true
       → may_be_integer t.ty ≡ false
       → Mismatches calls script t.at
-  operands : {env : Environment} {t u : Typed} {op : BinaryOp} {e : written.Expr} {ls : written.Links} {at : ℕ}
+  operands : {env : Environment} {t u : TypedExpr} {op : BinaryOp} {e : written.Expr} {ls : written.Links} {at : ℕ}
       → Occurs calls script (Links env t (written.link op e ls))
       → typed env false e ≡ Ok u
       → unify_operands op t u ≡ broken TypeMismatch at
       → Mismatches calls script at
-  converted : {env : Environment} {p : Place} {to : Primitive} {e : written.Expr} {t : Typed}
+  converted : {env : Environment} {p : Place} {to : Primitive} {e : written.Expr} {t : TypedExpr}
       → Occurs calls script (Expression env (written.Convert p to e))
       → typed env false e ≡ Ok t
       → converts (ty_of to) t.ty ≡ false
       → Mismatches calls script t.at
   -- `cast`, of an object to a class or an interface
-  cast_from : {env : Environment} {p : Place} {to : written.TypeName} {e : written.Expr} {t : Typed}
+  cast_from : {env : Environment} {p : Place} {to : written.TypeName} {e : written.Expr} {t : TypedExpr}
       → Occurs calls script (Expression env (written.Cast p to e))
       → typed env false e ≡ Ok t
       → may_be_object t.ty ≡ false
@@ -170,65 +170,65 @@ pub data Mismatches (calls : List Registration) (script : List written.Item) : �
       → is_cast_type o ≡ false
       → Mismatches calls script to.place.at
   -- c ? a : b
-  choice_condition : {env : Environment} {p : Place} {c a b : written.Expr} {t : Typed}
+  choice_condition : {env : Environment} {p : Place} {c a b : written.Expr} {t : TypedExpr}
       → Occurs calls script (Expression env (written.Conditional p c a b))
       → typed env false c ≡ Ok t
       → may_be_bool t.ty ≡ false
       → Mismatches calls script t.at
-  branches : {env : Environment} {p : Place} {c a b : written.Expr} {x y : Typed}
+  branches : {env : Environment} {p : Place} {c a b : written.Expr} {x y : TypedExpr}
       → Occurs calls script (Expression env (written.Conditional p c a b))
       → typed env false a ≡ Ok x
       → typed env false b ≡ Ok y
       → common x.ty y.ty ≡ None
       → Mismatches calls script (if is_void x.ty then x.at else y.at)
   -- what is assigned does not fit the place, or the operator of `op=` takes no such operands
-  assigned : {env : Environment} {p : Place} {op : AssignOp} {e v : written.Expr} {t u : Typed}
+  assigned : {env : Environment} {p : Place} {op : AssignOp} {e v : written.Expr} {t u : TypedExpr}
       → Occurs calls script (Expression env (written.Assign p e op v))
       → typed env (is_assign op) e ≡ Ok t
       → typed env false v ≡ Ok u
       → operator_of op ≡ None
       → fits env.declarations.classes t.ty u.ty ≡ false
       → Mismatches calls script u.at
-  updated : {env : Environment} {p : Place} {op : AssignOp} {c : Calculator} {e v : written.Expr} {t u : Typed} {at : ℕ}
+  updated : {env : Environment} {p : Place} {op : AssignOp} {c : Calculator} {e v : written.Expr} {t u : TypedExpr} {at : ℕ}
       → Occurs calls script (Expression env (written.Assign p e op v))
       → typed env (is_assign op) e ≡ Ok t
       → typed env false v ≡ Ok u
       → operator_of op ≡ Some c
       → unify_operands (binary_of c) (term_at t.at t.ty Null) u ≡ broken TypeMismatch at
       → Mismatches calls script at
-  updated_place : {env : Environment} {p : Place} {op : AssignOp} {c : Calculator} {e v : written.Expr} {t : Typed}
+  updated_place : {env : Environment} {p : Place} {op : AssignOp} {c : Calculator} {e v : written.Expr} {t : TypedExpr}
       → Occurs calls script (Expression env (written.Assign p e op v))
       → typed env (is_assign op) e ≡ Ok t
       → operator_of op ≡ Some c
       → may_be_integer t.ty ≡ false
       → Mismatches calls script t.at
   -- members and elements of what is no object, and of what is no array; and an index
-  no_object : {env : Environment} {t : Typed} {s : written.Suffix} {ss : written.Suffixes}
+  no_object : {env : Environment} {t : TypedExpr} {s : written.Suffix} {ss : written.Suffixes}
       → Occurs calls script (Suffixes env t (written.suffix s ss))
       → names_member s ≡ true
       → may_be_object t.ty ≡ false
       → Mismatches calls script t.at
-  no_array : {env : Environment} {t : Typed} {e : written.Expr} {ss : written.Suffixes}
+  no_array : {env : Environment} {t : TypedExpr} {e : written.Expr} {ss : written.Suffixes}
       → Occurs calls script (Suffixes env t (written.suffix (written.Index e) ss))
       → may_be_array t.ty ≡ false
       → Mismatches calls script t.at
-  no_index : {env : Environment} {t u : Typed} {e : written.Expr} {ss : written.Suffixes}
+  no_index : {env : Environment} {t u : TypedExpr} {e : written.Expr} {ss : written.Suffixes}
       → Occurs calls script (Suffixes env t (written.suffix (written.Index e) ss))
       → typed env false e ≡ Ok u
       → may_be_integer u.ty ≡ false
       → Mismatches calls script u.at
   -- what a variable begins with; but of objects, its brackets have one value, and of a handle it has none
-  initial_value : {env : Environment} {of_at at : ℕ} {of : Ty} {e : written.Expr} {t : Typed}
+  initial_value : {env : Environment} {of_at at : ℕ} {of : Ty} {e : written.Expr} {t : TypedExpr}
       → Occurs calls script (Initializer env of_at at of (written.Value e))
       → typed env false e ≡ Ok t
       → fits env.declarations.classes of t.ty ≡ false
       → Mismatches calls script t.at
-  initial_argument : {env : Environment} {of_at at : ℕ} {of : Ty} {es : List written.Expr} {t : Typed}
+  initial_argument : {env : Environment} {of_at at : ℕ} {of : Ty} {es : List written.Expr} {t : TypedExpr}
       → Occurs calls script (Initializer env of_at at of (written.Arguments es))
       → all_typed env (written.exprs es) ≡ Ok (t ∷ [])
       → fits env.declarations.classes of t.ty ≡ false
       → Mismatches calls script t.at
-  brackets : {env : Environment} {of_at at : ℕ} {of : Ty} {es : List written.Expr} {ts : List Typed}
+  brackets : {env : Environment} {of_at at : ℕ} {of : Ty} {es : List written.Expr} {ts : List TypedExpr}
       → Occurs calls script (Initializer env of_at at of (written.Arguments es))
       → is_object of ≡ false
       → all_typed env (written.exprs es) ≡ Ok ts
@@ -238,25 +238,25 @@ pub data Mismatches (calls : List Registration) (script : List written.Item) : �
       → Occurs calls script (Initializer env of_at at (ty.Handle o) (written.Arguments es))
       → Mismatches calls script at
   -- conditions, and the value of a `switch`
-  condition : {scope : Scope} {s : written.Stmt} {c : written.Expr} {t : Typed}
+  condition : {scope : Scope} {s : written.Stmt} {c : written.Expr} {t : TypedExpr}
       → Occurs calls script (Statement scope s)
       → condition_of s ≡ Some c
       → typed scope.env false c ≡ Ok t
       → may_be_bool t.ty ≡ false
       → Mismatches calls script t.at
   for_condition : {scope : Scope} {p : Place} {f s : written.Stmt} {c : written.Expr} {es : List written.Expr}
-      {t : Typed}
+      {t : TypedExpr}
       → Occurs calls script (Statement scope (written.For p f (Some c) es s))
       → typed (after (block_of scope) f).env false c ≡ Ok t
       → may_be_bool t.ty ≡ false
       → Mismatches calls script t.at
-  switch_value : {scope : Scope} {p : Place} {e : written.Expr} {cs : written.Cases} {t : Typed}
+  switch_value : {scope : Scope} {p : Place} {e : written.Expr} {cs : written.Cases} {t : TypedExpr}
       → Occurs calls script (Statement scope (written.Switch p e cs))
       → typed scope.env false e ≡ Ok t
       → may_be_integer t.ty ≡ false
       → Mismatches calls script t.at
   -- `return`: a value that does not fit, one where none is given, and none where one is
-  returned : {scope : Scope} {p : Place} {e : written.Expr} {t : Typed}
+  returned : {scope : Scope} {p : Place} {e : written.Expr} {t : TypedExpr}
       → Occurs calls script (Statement scope (written.Return p (Some e)))
       → typed scope.env false e ≡ Ok t
       → fits scope.env.declarations.classes scope.result t.ty ≡ false

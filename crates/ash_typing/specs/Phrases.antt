@@ -10,11 +10,12 @@ use Rattle.ash_tree.specs.declared.tree.operators.BinaryOp.{BinaryOp}
 use Rattle.ash_tree.specs.declared.tree.operators.AssignOp.{AssignOp}
 use Rattle.ash_tree.specs.declared.tree.statements.Label.{Label}
 use Rattle.ash_integers.specs.declared.int_type.IntType.{IntType}
+use Rattle.ash_typed.specs.Limits.{max_globals, max_class_members}
 use Rattle.ash_typing.specs.declared.types.Ty.{Ty}
 use Rattle.ash_typing.specs.declared.types.Ty.TheVariants as ty
 use Rattle.ash_typing.specs.Environment.{Environment, Declared, with_locals, inside}
 use Rattle.ash_typing.specs.ModuleDeclarations.{declared, ty_in}
-use Rattle.ash_typing.specs.Expressions.{Typed, operate, typed, suffix_typed}
+use Rattle.ash_typing.specs.Expressions.{TypedExpr, operate, typed, suffix_typed}
 use Rattle.ash_typing.specs.Declarations.{at_type, known_ty}
 use Rattle.ash_typing.specs.Switches.{integer_type_in}
 use Rattle.ash_typing.specs.Scopes.{Scope, block_of, loop_of, switch_of, with_variables, after, body_scope}
@@ -25,19 +26,20 @@ use Rattle.ash_typing.specs.TypedModules.{signature_name, listed_name, environme
 
 -- names that are taken
 
--- Those that are registered, and those of the items before. There are at most 256 variables in a module.
+-- Those that are registered, and those of the items before. There are at most `max_globals` variables in a
+-- module.
 abbrev pub names_before : List Registration → List written.Item → Names
 names_before calls before =
-    record { registered = calls; taken = item_names before; room = 256 - length (variable_names (globals_of before)) }
+    record { registered = calls; taken = item_names before; room = max_globals - length (variable_names (globals_of before)) }
 
--- Those of the members before. There are at most 32 fields and methods in a class.
+-- Those of the members before. There are at most `max_class_members` fields and methods in a class.
 abbrev pub names_of_members : List written.Member → Names
 names_of_members before =
-    record { registered = []; taken = member_names before; room = 32 - length (member_names before) }
+    record { registered = []; taken = member_names before; room = max_class_members - length (member_names before) }
 
--- Those of the methods before. There are at most 32 in an interface.
+-- Those of the methods before. There are at most `max_class_members` in an interface.
 abbrev pub names_of_methods : List written.InterfaceMethod → Names
-names_of_methods before = record { registered = []; taken = map signature_name before; room = 32 - length before }
+names_of_methods before = record { registered = []; taken = map signature_name before; room = max_class_members - length before }
 
 -- Those of the interfaces that a class lists before.
 abbrev pub names_listed : List written.TypeName → Names
@@ -52,8 +54,8 @@ pub data Phrase : Type 0 where
   Expression : Environment → written.Expr → Phrase
   Arguments : Environment → written.Exprs → Phrase
   -- after what is typed so
-  Links : Environment → Typed → written.Links → Phrase
-  Suffixes : Environment → Typed → written.Suffixes → Phrase
+  Links : Environment → TypedExpr → written.Links → Phrase
+  Suffixes : Environment → TypedExpr → written.Suffixes → Phrase
   -- of a variable at the second offset, whose type is written at the first
   Initializer : Environment → ℕ → ℕ → Ty → written.Initializer → Phrase
   -- variables of a block, whose type is written at the offset
@@ -65,7 +67,7 @@ pub data Phrase : Type 0 where
   -- after these
   Parameters : Environment → List Declared → List written.Parameter → Phrase
   -- what gives this type
-  ARoutine : Environment → Ty → Routine → Phrase
+  RoutinePhrase : Environment → Ty → Routine → Phrase
   -- variables of a module or of a class, whose type is written at the offset, where these names are taken
   Variables : Environment → ℕ → Ty → Names → List written.Decl → Phrase
   -- what an interface declares, after these
@@ -89,7 +91,7 @@ environment_of (Statement scope s) = scope.env
 environment_of (Statements scope ss) = scope.env
 environment_of (Cases scope int_type before cs) = scope.env
 environment_of (Parameters env before ps) = env
-environment_of (ARoutine env of r) = env
+environment_of (RoutinePhrase env of r) = env
 environment_of (Variables env at of names ds) = env
 environment_of (Methods env before ms) = env
 environment_of (Interfaces env place before ns) = env
@@ -117,7 +119,7 @@ pub data Occurs (calls : List Registration) (script : List written.Item) : Phras
   before_suffixes : {env : Environment} {p : Place} {e : written.Expr} {ss : written.Suffixes}
       → Occurs calls script (Expression env (written.Postfix p e ss))
       → Occurs calls script (Expression env e)
-  suffixes : {env : Environment} {p : Place} {e : written.Expr} {ss : written.Suffixes} {t : Typed}
+  suffixes : {env : Environment} {p : Place} {e : written.Expr} {ss : written.Suffixes} {t : TypedExpr}
       → Occurs calls script (Expression env (written.Postfix p e ss))
       → typed env false e ≡ Ok t
       → Occurs calls script (Suffixes env t ss)
@@ -127,7 +129,7 @@ pub data Occurs (calls : List Registration) (script : List written.Item) : Phras
   first_operand : {env : Environment} {p : Place} {e : written.Expr} {ls : written.Links}
       → Occurs calls script (Expression env (written.Binary p e ls))
       → Occurs calls script (Expression env e)
-  links : {env : Environment} {p : Place} {e : written.Expr} {ls : written.Links} {t : Typed}
+  links : {env : Environment} {p : Place} {e : written.Expr} {ls : written.Links} {t : TypedExpr}
       → Occurs calls script (Expression env (written.Binary p e ls))
       → typed env false e ≡ Ok t
       → Occurs calls script (Links env t ls)
@@ -152,22 +154,22 @@ pub data Occurs (calls : List Registration) (script : List written.Item) : Phras
   other_arguments : {env : Environment} {e : written.Expr} {es : written.Exprs}
       → Occurs calls script (Arguments env (written.expr e es))
       → Occurs calls script (Arguments env es)
-  linked : {env : Environment} {t : Typed} {op : BinaryOp} {e : written.Expr} {ls : written.Links}
+  linked : {env : Environment} {t : TypedExpr} {op : BinaryOp} {e : written.Expr} {ls : written.Links}
       → Occurs calls script (Links env t (written.link op e ls))
       → Occurs calls script (Expression env e)
-  other_links : {env : Environment} {t u next : Typed} {op : BinaryOp} {e : written.Expr} {ls : written.Links}
+  other_links : {env : Environment} {t u next : TypedExpr} {op : BinaryOp} {e : written.Expr} {ls : written.Links}
       → Occurs calls script (Links env t (written.link op e ls))
       → typed env false e ≡ Ok u
       → operate op t u ≡ Ok next
       → Occurs calls script (Links env next ls)
-  method_arguments : {env : Environment} {t : Typed} {p : Place} {text : List ℕ} {es : written.Exprs}
+  method_arguments : {env : Environment} {t : TypedExpr} {p : Place} {text : List ℕ} {es : written.Exprs}
       {ss : written.Suffixes}
       → Occurs calls script (Suffixes env t (written.suffix (written.Method p text es) ss))
       → Occurs calls script (Arguments env es)
-  index : {env : Environment} {t : Typed} {e : written.Expr} {ss : written.Suffixes}
+  index : {env : Environment} {t : TypedExpr} {e : written.Expr} {ss : written.Suffixes}
       → Occurs calls script (Suffixes env t (written.suffix (written.Index e) ss))
       → Occurs calls script (Expression env e)
-  other_suffixes : {env : Environment} {t next : Typed} {s : written.Suffix} {ss : written.Suffixes}
+  other_suffixes : {env : Environment} {t next : TypedExpr} {s : written.Suffix} {ss : written.Suffixes}
       → Occurs calls script (Suffixes env t (written.suffix s ss))
       → suffix_typed env t s ≡ Ok next
       → Occurs calls script (Suffixes env next ss)
@@ -237,7 +239,7 @@ pub data Occurs (calls : List Registration) (script : List written.Item) : Phras
   switch_value : {scope : Scope} {p : Place} {e : written.Expr} {cs : written.Cases}
       → Occurs calls script (Statement scope (written.Switch p e cs))
       → Occurs calls script (Expression scope.env e)
-  cases : {scope : Scope} {p : Place} {e : written.Expr} {cs : written.Cases} {t : Typed}
+  cases : {scope : Scope} {p : Place} {e : written.Expr} {cs : written.Cases} {t : TypedExpr}
       → Occurs calls script (Statement scope (written.Switch p e cs))
       → typed scope.env false e ≡ Ok t
       → Occurs calls script (Cases (switch_of scope) (integer_type_in t.ty) [] cs)
@@ -260,7 +262,7 @@ pub data Occurs (calls : List Registration) (script : List written.Item) : Phras
       → Occurs calls script (Cases scope int_type (before ++ l ∷ []) cs)
   -- functions
   parameters : {env : Environment} {of : Ty} {r : Routine}
-      → Occurs calls script (ARoutine env of r)
+      → Occurs calls script (RoutinePhrase env of r)
       → Occurs calls script (Parameters env [] r.parameters)
   other_parameters : {env : Environment} {before : List Declared} {x : written.Parameter} {xs : List written.Parameter}
       {of : Ty}
@@ -268,7 +270,7 @@ pub data Occurs (calls : List Registration) (script : List written.Item) : Phras
       → passed_ty x.of (ty_in env x.of) ≡ Ok of
       → Occurs calls script (Parameters env (before ++ record { name = x.name; of = of } ∷ []) xs)
   body : {env : Environment} {of : Ty} {r : Routine} {passed : List Declared}
-      → Occurs calls script (ARoutine env of r)
+      → Occurs calls script (RoutinePhrase env of r)
       → parameters_typed env [] r.parameters ≡ Ok passed
       → Occurs calls script (Statements (body_scope (with_locals env passed) of) (written.stmts r.body))
   -- variables of a module or of a class
@@ -301,11 +303,11 @@ pub data Occurs (calls : List Registration) (script : List written.Item) : Phras
       {ms : List written.Member} {of : Ty}
       → Occurs calls script (ClassMembers env class before (written.AMethod f ∷ ms))
       → result_typed env f.result ≡ Ok of
-      → Occurs calls script (ARoutine env of (routine_of f))
+      → Occurs calls script (RoutinePhrase env of (routine_of f))
   constructor : {env : Environment} {class : List ℕ} {before : List written.Member} {c : written.Constructor}
       {ms : List written.Member}
       → Occurs calls script (ClassMembers env class before (written.AConstructor c ∷ ms))
-      → Occurs calls script (ARoutine env ty.Void (constructing c))
+      → Occurs calls script (RoutinePhrase env ty.Void (constructing c))
   other_members : {env : Environment} {class : List ℕ} {before : List written.Member} {m : written.Member}
       {ms : List written.Member}
       → Occurs calls script (ClassMembers env class before (m ∷ ms))
@@ -327,7 +329,7 @@ pub data Occurs (calls : List Registration) (script : List written.Item) : Phras
   function : {env : Environment} {before : List written.Item} {f : written.Function} {is : List written.Item} {of : Ty}
       → Occurs calls script (Items env before (written.AFunction f ∷ is))
       → result_typed env f.result ≡ Ok of
-      → Occurs calls script (ARoutine env of (routine_of f))
+      → Occurs calls script (RoutinePhrase env of (routine_of f))
   globals : {env : Environment} {before : List written.Item} {v : written.Vars} {is : List written.Item} {of : Ty}
       → Occurs calls script (Items env before (written.AGlobal v ∷ is))
       → known_ty v.of (ty_in env v.of) ≡ Ok of

@@ -18,7 +18,7 @@ use Rattle.ash_typed.specs.StatementTree.{branch, Head, no_head, declared_head, 
 use Rattle.ash_typed.specs.StatementTree.{Switch, Break, Continue, Return, Stmts, no_stmt, stmt, labelled, Cases}
 use Rattle.ash_typed.specs.StatementTree.{no_case, next_case}
 use Rattle.ash_typing.specs.Environment.{Declared, Class, Environment}
-use Rattle.ash_typing.specs.Expressions.{Typed, typed, all_typed, coerced_for_assignment, integer_of, bool_of, is_void}
+use Rattle.ash_typing.specs.Expressions.{TypedExpr, typed, all_typed, coerced_for_assignment, integer_of, bool_of, is_void}
 use Rattle.ash_typing.specs.ModuleDeclarations.{declared, ty_in}
 use Rattle.ash_typing.specs.Declarations.{at_type, known_ty, decl_typed}
 use Rattle.ash_typing.specs.Switches.{integer_type_in, label_typed}
@@ -59,38 +59,38 @@ head_typed scope (written.Return p e) = broken Misplaced p.at
 
 -- statements, once their parts are walked
 
-abbrev pub condition_is : Typed → TypingResult Bool
+abbrev pub condition_is : TypedExpr → TypingResult Bool
 condition_is t = bool_of t.at t.ty
 
-unfoldable pub if_typed : ℕ → TypingResult Typed → TypingResult Stmt → TypingResult Stmt
+unfoldable pub if_typed : ℕ → TypingResult TypedExpr → TypingResult Stmt → TypingResult Stmt
 if_typed line condition inner =
     condition >>= λ c. inner >>= λ s. condition_is c >>= λ yes. Ok (If line c.tree s no_branch)
 
-unfoldable pub if_else_typed : ℕ → TypingResult Typed → TypingResult Stmt → TypingResult Stmt → TypingResult Stmt
+unfoldable pub if_else_typed : ℕ → TypingResult TypedExpr → TypingResult Stmt → TypingResult Stmt → TypingResult Stmt
 if_else_typed line condition inner other =
     condition >>= λ c. inner >>= λ s. other >>= λ t. condition_is c >>= λ yes. Ok (If line c.tree s (branch t))
 
-unfoldable pub while_typed : ℕ → TypingResult Typed → TypingResult Stmt → TypingResult Stmt
+unfoldable pub while_typed : ℕ → TypingResult TypedExpr → TypingResult Stmt → TypingResult Stmt
 while_typed line condition body =
     condition >>= λ c. body >>= λ s. condition_is c >>= λ yes. Ok (Repeat line (repeated First (Some c.tree) [] s))
 
-unfoldable pub do_while_typed : ℕ → TypingResult Stmt → TypingResult Typed → TypingResult Stmt
+unfoldable pub do_while_typed : ℕ → TypingResult Stmt → TypingResult TypedExpr → TypingResult Stmt
 do_while_typed line body condition =
     body >>= λ s. condition >>= λ c. condition_is c >>= λ yes. Ok (Repeat line (repeated Last (Some c.tree) [] s))
 
 -- The head of a `for` may have no condition.
-abbrev pub maybe_typed : Environment → Option written.Expr → TypingResult (Option Typed)
+abbrev pub maybe_typed : Environment → Option written.Expr → TypingResult (Option TypedExpr)
 maybe_typed env None = Ok None
 maybe_typed env (Some e) = typed env false e >>= λ t. Ok (Some t)
 
-abbrev pub maybe_condition_is : Option Typed → TypingResult Bool
+abbrev pub maybe_condition_is : Option TypedExpr → TypingResult Bool
 maybe_condition_is None = Ok true
 maybe_condition_is (Some t) = condition_is t
 
-abbrev pub tree_of : Typed → Expr
+abbrev pub tree_of : TypedExpr → Expr
 tree_of t = t.tree
 
-unfoldable pub for_typed : ℕ → TypingResult Head → TypingResult (Option Typed) → TypingResult (List Typed)
+unfoldable pub for_typed : ℕ → TypingResult Head → TypingResult (Option TypedExpr) → TypingResult (List TypedExpr)
     → TypingResult Stmt
     → TypingResult Stmt
 for_typed line head condition steps body =
@@ -111,7 +111,7 @@ gives_nothing ty.Unknown = true
 gives_nothing _ = false
 
 -- A value is returned at this offset.
-unfoldable pub returned : List Class → Ty → ℕ → Typed → TypingResult Expr
+unfoldable pub returned : List Class → Ty → ℕ → TypedExpr → TypingResult Expr
 returned classes of at t = if is_void of then broken TypeMismatch at else coerced_for_assignment classes of t
 
 unfoldable pub return_typed : Scope → Place → Option written.Expr → TypingResult Stmt

@@ -12,9 +12,10 @@ use Rattle.ash_typing.specs.declared.types.Ty.TheVariants as ty
 use Rattle.ash_typed.specs.declared.types.VarType.{VarType}
 use Rattle.ash_typed.specs.declared.types.ObjectType.TheVariants.{Interface as OfInterface}
 use Rattle.ash_typing.specs.Types.{var_type, result_type}
-use Rattle.ash_typing.specs.Environment.{Declared, Environment, named_in, inside, seen, with_locals}
+use Rattle.ash_typing.specs.Environment.{Declared, Environment, named_in, inside, module_environment, with_locals}
 use Rattle.ash_typing.specs.Typing.{IsVariableType, IsDeclared}
 use Rattle.ash_typing.specs.ModuleDeclarations.{declarations, object_named, ty_in, result_in}
+use Rattle.ash_typed.specs.Limits.{max_module_types, max_globals, max_class_members}
 use Rattle.ash_typed.specs.StatementTree.{Initialization, Body}
 use Rattle.ash_typing.specs.TypedStatements.{AreStmts}
 use Rattle.ash_typed.specs.Modules.{Variables, Function, Signature, Interface, Implementation, Class, Module}
@@ -109,13 +110,13 @@ pub record IsSignature (env : Environment) (m : written.InterfaceMethod) (typed 
   pub differ : IsDistinct bytes_eq (map parameter_name m.parameters)
   pub parameters : typed.parameters ≡ map (type_of_parameter env) m.parameters
 
--- An interface after so many classes. It has at most 32 methods, which differ in name.
+-- An interface after so many classes. It has at most `max_class_members` methods, which differ in name.
 pub record IsInterface (env : Environment) (i : written.Interface) (classes : ℕ) (typed : Interface) : Type 0 where
   pub name : typed.name ≡ i.name
   pub line : typed.line ≡ i.place.line
   pub before : typed.classes_before ≡ classes
   pub differ : IsDistinct bytes_eq (map signature_name i.methods)
-  pub few : length i.methods ≤ 32
+  pub few : length i.methods ≤ max_class_members
   pub methods : AllZip (IsSignature env) i.methods typed.methods
 
 -- These are interfaces, each after so many classes.
@@ -147,14 +148,15 @@ HasConstructor env class [] None = Unit {0}
 HasConstructor env class (c ∷ []) (Some typed) = IsConstructor env class c typed
 HasConstructor env class _ _ = ⊥
 
--- A class, of this place among those of the module. It has at most 32 fields and methods, which differ in name.
+-- A class, of this place among those of the module. It has at most `max_class_members` fields and
+-- methods, which differ in name.
 pub record IsClass (env : Environment) (place : ℕ) (c : written.Class) (typed : Class) : Type 0 where
   pub name : typed.name ≡ c.name
   pub line : typed.line ≡ c.place.line
   pub listed_once : IsDistinct bytes_eq (map listed_name c.interfaces)
   pub interfaces : AllZip (IsListed env place) c.interfaces typed.interfaces
   pub differ : IsDistinct bytes_eq (member_names c.members)
-  pub few : length (member_names c.members) ≤ 32
+  pub few : length (member_names c.members) ≤ max_class_members
   pub fields : AreFields (inside env place) (fields_of c.members) typed.fields
   pub methods : AllZip (IsFunction (inside env place)) (methods_of c.members) typed.methods
   pub constructor : HasConstructor (inside env place) c.name (constructors_of c.members) typed.constructor
@@ -169,15 +171,15 @@ AreClasses env place _ _ = ⊥
 
 -- `environment calls is` is what each item of a module sees.
 abbrev pub environment : List host.Registration → List written.Item → Environment
-environment calls is = seen calls (declarations calls is)
+environment calls is = module_environment calls (declarations calls is)
 
 -- A module, where these calls are registered. It has at most 256 classes and interfaces, and 256 variables. What it
 -- declares differs in name, and has no registered name.
 pub record IsTyped (calls : List host.Registration) (is : List written.Item) (typed : Module) : Type 0 where
   pub differ : IsDistinct bytes_eq (item_names is)
   pub free : AllByRecursion (IsFree calls) (item_names is)
-  pub few_types : length (classes_of is) + length (interfaces_of is) ≤ 256
-  pub few_globals : length (variable_names (globals_of is)) ≤ 256
+  pub few_types : length (classes_of is) + length (interfaces_of is) ≤ max_module_types
+  pub few_globals : length (variable_names (globals_of is)) ≤ max_globals
   pub interfaces : AreInterfaces (environment calls is) (interfaces_of is) (classes_before 0 is) typed.interfaces
   pub classes : AreClasses (environment calls is) 0 (classes_of is) typed.classes
   pub functions : AllZip (IsFunction (environment calls is)) (functions_of is) typed.functions

@@ -28,7 +28,7 @@ use Rattle.ash_typed.specs.declared.tree.operations.Member.{Member}
 use Rattle.ash_typed.specs.declared.tree.operations.Calculator.{Calculator}
 use Rattle.ash_typed.specs.declared.tree.operations.Operands.{Operands}
 use Rattle.ash_typed.specs.declared.tree.operations.Operands.TheVariants as operands
-use Rattle.ash_typed.specs.declared.tree.operations.Step.TheVariants as steps
+use Rattle.ash_typed.specs.declared.tree.operations.IncrementOp.TheVariants as steps
 use Rattle.ash_typing.specs.Types.{is_variable, is_result, var_type, signed, common, object_of, ty_of, ty_of_element}
 use Rattle.ash_typing.specs.Types.{operator_class_of, binary_of, common_operands, operator_result}
 use Rattle.ash_typed.specs.Tree.{Expr, Truth, Null, This, Read, Invoke, Cast, Call, Alter, Conditional, Assign, Update}

@@ -5,7 +5,7 @@ ghost use Rattle.ash_tree.specs.Tree as written;
 ghost use Rattle.ash_typing.specs.declared.types.Ty.{Ty};
 ghost use Rattle.ash_typing.specs.declared.types.Ty.TheVariants.{Unknown};
 ghost use Rattle.ash_typing.specs.Environment.{Environment};
-ghost use Rattle.ash_typing.specs.Expressions.{Typed, typed, all_typed, first_at, placed, all_placed, term_of};
+ghost use Rattle.ash_typing.specs.Expressions.{TypedExpr, typed, all_typed, first_at, placed, all_placed, term_of};
 ghost use Rattle.ash_typing.specs.Declarations.{Initialization, initialized, decl_typed};
 ghost use Rattle.ash_typed.specs.Tree.{Expr};
 ghost use Rattle.ash_typed.specs.TypeOf.{type_of};
@@ -21,8 +21,8 @@ ghost use Rattle.ash_typing.specs.Terms.{Term};
 pub fn typing_of_expressions()
     ensures complete { (env : Environment) (left : Bool) (e : written.Expr) (t : Term)
         → HasType env left e t → typed env left e ≡ Ok (placed (first_at e) t) }
-    ensures sound { (env : Environment) → IsKnown env → (left : Bool) (e : written.Expr) (t : Typed)
-        → typed env left e ≡ Ok t → HasType env left e (term_of t) }
+    ensures sound { (env : Environment) → IsKnown env → (left : Bool) (e : written.Expr)
+        (t : TypedExpr) → typed env left e ≡ Ok t → HasType env left e (term_of t) }
     ensures no_fault { (env : Environment) → IsKnown env → (left : Bool) (e : written.Expr)
         → IsOk (typed env left e) ↔ ((t : Term) × HasType env left e t) }
     ensures one_term { (env : Environment) (left : Bool) (e : written.Expr) (t u : Term)
@@ -39,7 +39,7 @@ pub fn typing_of_expressions()
 pub fn typing_of_arguments()
     ensures complete { (env : Environment) (es : written.Exprs) (ts : List Term)
         → AllHaveType env es ts → all_typed env es ≡ Ok (all_placed es ts) }
-    ensures sound { (env : Environment) → IsKnown env → (es : written.Exprs) (ts : List Typed)
+    ensures sound { (env : Environment) → IsKnown env → (es : written.Exprs) (ts : List TypedExpr)
         → all_typed env es ≡ Ok ts → AllHaveType env es (map term_of ts) }
     ensures no_fault { (env : Environment) → IsKnown env → (es : written.Exprs)
         → IsOk (all_typed env es) ↔ ((ts : List Term) × AllHaveType env es ts) }

@@ -16,8 +16,8 @@ use Rattle.ash_typed.specs.declared.tree.operations.Calculator.{Calculator}
 use Rattle.ash_typed.specs.declared.tree.operations.Calculator.TheVariants as calculators
 use Rattle.ash_typed.specs.declared.tree.operations.Calculation.{Calculation}
 use Rattle.ash_typed.specs.declared.tree.operations.Change.{Change}
-use Rattle.ash_typed.specs.declared.tree.operations.Step.{Step}
-use Rattle.ash_typed.specs.declared.tree.operations.Step.TheVariants as steps
+use Rattle.ash_typed.specs.declared.tree.operations.IncrementOp.{IncrementOp}
+use Rattle.ash_typed.specs.declared.tree.operations.IncrementOp.TheVariants as steps
 use Rattle.ash_typed.specs.SoundOperations.{IsShift, IsChange, negate, complement, not}
 use Rattle.ash_phrases.specs.Activity.{Activity}
 use Rattle.ash_phrases.specs.Operators.{word_at, zero_of, calculated_by, give_or_raise, calculate, altered, counted, given_by}
@@ -110,13 +110,13 @@ altered_is_none n w (negate {int_type} signed) e = integer_is_none n (integer_wo
 altered_is_none n w (complement {int_type}) e = integer_is_none n (integer_word int_type _) e
 altered_is_none n w not e = cc
 
-pub counted_integer : (step : Step) (int_type : IntType) (w : Word) → IsInteger int_type (counted step int_type w)
+pub counted_integer : (step : IncrementOp) (int_type : IntType) (w : Word) → IsInteger int_type (counted step int_type w)
 counted_integer steps.Increment int_type w = integer_word int_type _
 counted_integer steps.IncrementAfter int_type w = integer_word int_type _
 counted_integer steps.Decrement int_type w = integer_word int_type _
 counted_integer steps.DecrementAfter int_type w = integer_word int_type _
 
-pub given_integer : (step : Step) {int_type : IntType} {old new : Word} → IsInteger int_type old → IsInteger int_type new → IsInteger int_type (given_by step old new)
+pub given_integer : (step : IncrementOp) {int_type : IntType} {old new : Word} → IsInteger int_type old → IsInteger int_type new → IsInteger int_type (given_by step old new)
 given_integer steps.Increment old new = new
 given_integer steps.Decrement old new = new
 given_integer steps.IncrementAfter old new = old

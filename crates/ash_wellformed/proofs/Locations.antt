@@ -10,7 +10,7 @@ use Rattle.ash_typed.specs.declared.types.Element as typed_element
 use Rattle.ash_typed.specs.declared.types.VarType.{VarType}
 use Rattle.ash_typed.specs.declared.types.VarType.TheVariants as vars
 use Rattle.ash_typed.specs.declared.tree.operations.Calculation.{Calculation}
-use Rattle.ash_typed.specs.declared.tree.operations.Step.{Step}
+use Rattle.ash_typed.specs.declared.tree.operations.IncrementOp.{IncrementOp}
 use Rattle.ash_typed.specs.TypeOf.{ValueType, value, as_value, type_of_element}
 use Rattle.ash_typed.specs.Signatures.{type_declared, types_of_globals}
 use Rattle.ash_typed.specs.SoundOperations.{IsShift}
@@ -166,7 +166,7 @@ module _ {c : Context} (context : IsContext c) {env : Environment} {envs : List 
       still : {b : Activity} {left : Word} {P : Word → Type 0} {x : Progress Word} → IsRead c env envs l (vars.Integer int_type) a left b → Leaves c (λ w d. (d ≡ b) × P w) x → Leaves c (λ (w : Word) d. IsLeft c env envs l (vars.Integer int_type) a d) x
       still r got = weaken (λ w d q. subst (IsLeft c env envs l (vars.Integer int_type) a) (sym q.0) (record { goes = r.goes; located = r.located })) got
 
-  pub count_gives : {a : Activity} (int_type : IntType) (step : Step) (l : Location) → IsWellFormed c env envs a → IsLocated c env a l (vars.Integer int_type) → Leaves c (Evaluates c env envs (value (vars.Integer int_type)) a) (count_at int_type step l a)
+  pub count_gives : {a : Activity} (int_type : IntType) (step : IncrementOp) (l : Location) → IsWellFormed c env envs a → IsLocated c env a l (vars.Integer int_type) → Leaves c (Evaluates c env envs (value (vars.Integer int_type)) a) (count_at int_type step l a)
   count_gives int_type step l h located =
       bind (read_gives l h located) (λ old b r.
       let new = counted_integer step int_type old in

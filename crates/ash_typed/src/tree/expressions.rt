@@ -4,7 +4,7 @@
 //! long.
 
 use crate::tree::operations::{
-    Calculation, Change, Conversion, Lazy, Member, Method, Operation, Step, Target, Variable,
+    Calculation, Change, Conversion, IncrementOp, Lazy, Member, Method, Operation, Target, Variable,
 };
 use crate::types::{Element, ObjectType, VarType};
 use ash_integers::IntType;
@@ -74,7 +74,7 @@ pub enum Expr {
     Step {
         place: Place,
         of: IntType,
-        step: Step,
+        step: IncrementOp,
     },
     /// The parameters are the types of the arguments, in order.
     Call {

@@ -193,7 +193,7 @@ pub struct Conversion {
 
 /// What `++` or `--` does to a place, and which of its values it gives.
 #[derive(Clone, Copy)]
-pub enum Step {
+pub enum IncrementOp {
     /// `++p`
     Increment,
     /// `--p`

@@ -8,13 +8,13 @@ use Rattle.ash_typed.specs.Modules.{module_of}
 use Rattle.ash_classes.specs.declared.cycles.Cycle.{Cycle}
 use Rattle.ash_classes.specs.References.{Refers, classes_of}
 use Rattle.ash_classes.specs.ReportedCycle.{reported_cycle}
-use Rattle.ash_classes.specs.Ways.{IsReportedCycle, AreRanks}
+use Rattle.ash_classes.specs.Paths.{IsReportedCycle, AreRanks}
 use Rattle.ash_check.specs.CheckedModules.{IsChecked}
-use Rattle.ash_check.specs.Checks.{checked, Cyclic, GoesRound}
+use Rattle.ash_check.specs.Checks.{checked, Cyclic, IsNamedCycle}
 use Rattle.ash_check.specs.Faults.{fault_of_error}
 use Rattle.ash_check.proofs.CheckedLaws.{is_checked}
 use Rattle.ash_check.proofs.CheckLaws.{error_is_reported, reported_if_err, typed_is_checked, cycle_is_reported}
-use Rattle.ash_check.proofs.CheckLaws.{way_begins_within, way_is_within, goes_round}
+use Rattle.ash_check.proofs.CheckLaws.{path_begins_within, path_is_within, named_cycle}
 use Rattle.ash_typing.proofs.ModuleLaws.{module_typed-exact}
 use Rattle.ash_check.proofs.checks.check_against.Goals as goal
 
@@ -27,13 +27,13 @@ pub cycle_names-requires-clause-first : goal.cycle_names-requires-clause-first
 cycle_names-requires-clause-first c =
     let classes = classes_of (written_module c.args.script.now) in
     let reported : IsReportedCycle (Refers classes) c.in-Err.cycle.first c.in-Err.cycle.others.items = subst (λ r. IfErr r (λ (cycle : Cycle). IsReportedCycle (Refers classes) cycle.first cycle.others.items)) c.in-Err.is c.in_ok-ranks.ensures.cycle in
-    way_begins_within classes c.in-Err.cycle.first c.in-Err.cycle.others.items c.in-Err.cycle.first reported.round.way
+    path_begins_within classes c.in-Err.cycle.first c.in-Err.cycle.others.items c.in-Err.cycle.first reported.cycle.path
 
 pub cycle_names-requires-clause-others : goal.cycle_names-requires-clause-others
 cycle_names-requires-clause-others c =
     let classes = classes_of (written_module c.args.script.now) in
     let reported : IsReportedCycle (Refers classes) c.in-Err.cycle.first c.in-Err.cycle.others.items = subst (λ r. IfErr r (λ (cycle : Cycle). IsReportedCycle (Refers classes) cycle.first cycle.others.items)) c.in-Err.is c.in_ok-ranks.ensures.cycle in
-    way_is_within classes c.in-Err.cycle.first c.in-Err.cycle.others.items c.in-Err.cycle.first reported.round.way
+    path_is_within classes c.in-Err.cycle.first c.in-Err.cycle.others.items c.in-Err.cycle.first reported.cycle.path
 
 pub returns-in-Ok-clause-answer : goal.returns-in-Ok-clause-answer
 returns-in-Ok-clause-answer c =
@@ -50,12 +50,12 @@ returns-in_ok-cycle_names-in-Err-clause-answer c =
     let some : reported_cycle (classes_of items) ≡ Some (first, others) = subst (λ r. IfErr r (λ (cycle : Cycle). reported_cycle (classes_of items) ≡ Some (cycle.first, cycle.others.items))) c.in-Err.is c.in_ok-ranks.ensures.reported in
     cycle_is_reported (registered c.args.registry.now) items (module_of c.in_ok-module.module) first others c.in_ok-module.ensures some ∙ ap (λ names. Err (Cyclic names)) (sym c.in_ok-cycle_names-in-Err.ensures)
 
-pub returns-in_ok-cycle_names-in-Err-clause-round :
-    goal.returns-in_ok-cycle_names-in-Err-clause-round
-returns-in_ok-cycle_names-in-Err-clause-round c =
+pub returns-in_ok-cycle_names-in-Err-clause-cycle :
+    goal.returns-in_ok-cycle_names-in-Err-clause-cycle
+returns-in_ok-cycle_names-in-Err-clause-cycle c =
     let classes = classes_of (written_module c.args.script.now) in
     let reported : IsReportedCycle (Refers classes) c.in-Err.cycle.first c.in-Err.cycle.others.items = subst (λ r. IfErr r (λ (cycle : Cycle). IsReportedCycle (Refers classes) cycle.first cycle.others.items)) c.in-Err.is c.in_ok-ranks.ensures.cycle in
-    subst (GoesRound classes) (sym c.in_ok-cycle_names-in-Err.ensures) (goes_round classes c.in-Err.cycle.first c.in-Err.cycle.others.items reported.round.way)
+    subst (IsNamedCycle classes) (sym c.in_ok-cycle_names-in-Err.ensures) (named_cycle classes c.in-Err.cycle.first c.in-Err.cycle.others.items reported.cycle.path)
 
 pub returns-in-Ok-clause-typed : goal.returns-in-Ok-clause-typed
 returns-in-Ok-clause-typed c = (module_typed-exact (registered c.args.registry.now) (written_module c.args.script.now) (module_of c.in_ok-module.module)).0 c.in_ok-module.ensures

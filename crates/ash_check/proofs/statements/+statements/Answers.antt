@@ -82,7 +82,7 @@ check_cases-loop-i-preserved t c =
     let scope = scope_of c.args.scope.now (locals_of c.loop-i.locals) in
     let body : stmts_typed scope (written.stmts (map stmt_of (code_case.out-Case x).body.items)) ≡ stmts_typed scope (written.stmts (map stmt_of c.deref-in-loop-i.result.now)) = ap (λ xs. stmts_typed scope (written.stmts (map stmt_of xs))) (sym c.deref-in-loop-i.ensures.value) in
     let next = scope_of c.args.scope.now (locals_of c.check_block.new.locals) in (
-      cases_step c.loop-i.typed.items c.push-in-loop-i.new.self.items c.case.result scope next c.args.int_type c.loop-i.before.items c.push.new.self.items labels c.loop-i.i x c.in_ok-known.known (typed_views.body_of c.in_ok-body.body.items) _ c.in_ok-push-2.ensures.items c.in_ok-push.ensures.items (ap (scope_of c.args.scope.now) c.in_ok-body.ensures.unchanged) c.loop-i-test.true c.index-labels-i.is (same_label ∙ c.in_ok-known.ensures) (body ∙ c.in_ok-body.ensures.typed) c.case.ensures c.loop-i.invariant.0,
+      cases_step c.loop-i.typed.items c.push-in-loop-i.new.self.items c.case.result scope next c.args.int_type c.loop-i.before.items c.push.new.self.items labels c.loop-i.i x c.in_ok-known.known (typed_views.body_of c.in_ok-body.body.items) _ c.in_ok-push-2.ensures.items c.in_ok-push.ensures.items (ap (scope_of c.args.scope.now) c.in_ok-body.ensures.unchanged) c.loop-i-test.true c.index-labels-i.is (same_label ∙ c.in_ok-known.ensures) (body ∙ c.in_ok-body.ensures.typed) c.case.ensures.label_first c.loop-i.invariant.0,
       c.in_ok-body.ensures.unchanged ∙ c.loop-i.invariant.1,
     )
 
@@ -101,7 +101,7 @@ pub check_inner_block-returns-clause-typed : goal.check_inner_block-returns-clau
 check_inner_block-returns-clause-typed t c =
     let scope = scope_of c.args.scope.now (locals_of c.args.locals.now) in
     let k : c.len.result ≡ length (locals_of c.args.locals.now) = omega (arith, c.len.ensures, c.args.locals.now.ok.0, length-map c.args.locals.now.items binding_of) in
-    block_typed scope _ _ c.args.place (written.stmts (map stmt_of c.args.body.now)) _ refl (first_is_all scope c.len.result k) c.in_ok-body.ensures.typed ∙ ap Ok (sym c.block-typed.ensures)
+    block_typed scope _ _ c.args.place (written.stmts (map stmt_of c.args.body.now)) _ refl (first_is_all scope c.len.result k) c.in_ok-body.ensures.typed ∙ ap Ok (sym c.block-typed.ensures.body_in_order)
 
 pub check_stmt-returns-in-Block-clause-typed : goal.check_stmt-returns-in-Block-clause-typed
 check_stmt-returns-in-Block-clause-typed t c =

@@ -6,7 +6,7 @@ use Rattle.std.specs.List.{Contains}
 use Rattle.ash_classes.specs.Marking.{rows_of, Goes, IsAt}
 use Rattle.ash_classes.proofs.Rounds.{row_read}
 use Rattle.ash_classes.proofs.Ranked.{row_of_place}
-use Rattle.ash_classes.proofs.WaysBack.{same_mark, other_mark, found_in, missed_in}
+use Rattle.ash_classes.proofs.PathsBack.{same_mark, other_mark, found_in, missed_in}
 use Rattle.ash_classes.proofs.cycles.nearest.Goals as goal
 use Rattle.ash_classes.proofs.cycles.nearest.Goals.{else-eq-via-then-eq+else-contains, else-eq-via-else-eq}
 

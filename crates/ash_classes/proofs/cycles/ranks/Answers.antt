@@ -6,7 +6,7 @@ use Rattle.ash_classes.proofs.cycles.ranks.Goals as goal
 
 pub returns-in-Some-clause-cycle : goal.returns-in-Some-clause-cycle
 returns-in-Some-clause-cycle c = record {
-  round = c.in_ok-others.ensures;
+  cycle = c.in_ok-others.ensures;
   earliest = earliest_of (Goes (rows_of c.args.referrers.now)) (length c.args.referrers.now) c.loop-first.first
       c.loop-first.ranks.items c.loop-first.invariant;
 }

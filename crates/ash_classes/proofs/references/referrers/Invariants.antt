@@ -1,7 +1,7 @@
-use Rattle.ash_classes.specs.References.{seen}
+use Rattle.ash_classes.specs.References.{borrowed_classes}
 use Rattle.ash_classes.specs.Marking.{rows_of}
 use Rattle.ash_classes.proofs.ReferenceLaws.{AreRowsBefore}
 use Rattle.ash_classes.proofs.references.referrers.Given as goal
 
 abbrev pub invariant-loop-to : goal.invariant-loop-to
-invariant-loop-to l = AreRowsBefore (seen l.classes) l.to-index (rows_of l.rows.items)
+invariant-loop-to l = AreRowsBefore (borrowed_classes l.classes) l.to-index (rows_of l.rows.items)

@@ -1,18 +1,18 @@
 use Rattle.std.proofs.Common.{◌≡◌, ◌+◌, ◌∙◌, ℕ, List, sym, subst, arith, Some, slice_get, true, false, ap}
 use Rattle.ash_tree.specs.Views.{class_of}
-use Rattle.ash_classes.specs.References.{seen}
-use Rattle.ash_classes.proofs.ReferenceLaws.{IsRowBefore, row_more, row_same, row_end, seen_at, length-seen}
+use Rattle.ash_classes.specs.References.{borrowed_classes}
+use Rattle.ash_classes.proofs.ReferenceLaws.{IsRowBefore, row_more, row_same, row_end, borrowed_at, length-borrowed_classes}
 use Rattle.ash_classes.proofs.references.row_of.Goals as goal
 use Rattle.ash_classes.proofs.references.row_of.Goals.{then-refers+in_ok-push, else-refers}
 
 pub loop-place-preserved : goal.loop-place-preserved
 loop-place-preserved c =
-    let classes = seen c.args.classes.now in
+    let classes = borrowed_classes c.args.classes.now in
     let one = class_of c.index-classes-place.result.now in
     let other = class_of c.args.to.now in
     let i : ℕ = c.loop-place.place in
     let at : slice_get classes i ≡ Some one =
-    seen_at c.args.classes.now i c.index-classes-place.result c.loop-place-test.true c.index-classes-place.is in
+    borrowed_at c.args.classes.now i c.index-classes-place.result c.loop-place-test.true c.index-classes-place.is in
     elim c.if-refers.branch [
       | then-refers+in_ok-push w ↦
           subst (λ (r : List ℕ). IsRowBefore classes other (i + 1) r)
@@ -27,5 +27,5 @@ loop-place-preserved c =
     ]
 
 pub returns : goal.returns
-returns c = row_end (seen c.args.classes.now) (class_of c.args.to.now) c.loop-place.place c.loop-place.row.items
-    (omega (arith, length-seen c.args.classes.now, c.loop-place-test.false)) c.loop-place.invariant
+returns c = row_end (borrowed_classes c.args.classes.now) (class_of c.args.to.now) c.loop-place.place c.loop-place.row.items
+    (omega (arith, length-borrowed_classes c.args.classes.now, c.loop-place-test.false)) c.loop-place.invariant

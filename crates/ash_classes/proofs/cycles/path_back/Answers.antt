@@ -1,7 +1,7 @@
 use Rattle.std.proofs.Common.{◌≡◌, ℕ, ◌+◌, ◌-◌, length, arith, subst}
 use Rattle.ash_classes.specs.Marking.{rows_of, Goes, IsAt}
-use Rattle.ash_classes.proofs.WaysBack.{IsOnWay, next_exists, step_way, end_way}
-use Rattle.ash_classes.proofs.cycles.way_back.Goals as goal
+use Rattle.ash_classes.proofs.PathsBack.{IsOnPath, next_exists, step_path, end_path}
+use Rattle.ash_classes.proofs.cycles.path_back.Goals as goal
 
 pub unreachable-requires : goal.unreachable-requires
 unreachable-requires c =
@@ -18,19 +18,19 @@ steps-preserved c =
     let R = Goes (rows_of c.args.referrers.now) in
     let k : ℕ = c.steps.remaining - 1 in
     let one : c.steps.remaining ≡ k + 1 = omega arith in
-    let on : IsOnWay R c.args.first c.args.first c.steps.at (k + 1) c.args.distances.now c.steps.way.items =
-    subst (λ (n : ℕ). IsOnWay R c.args.first c.args.first c.steps.at n c.args.distances.now c.steps.way.items) one
+    let on : IsOnPath R c.args.first c.args.first c.steps.at (k + 1) c.args.distances.now c.steps.path.items =
+    subst (λ (n : ℕ). IsOnPath R c.args.first c.args.first c.steps.at n c.args.distances.now c.steps.path.items) one
     c.steps.invariant in
     rw c.in_ok-push.ensures.items
-    (step_way R (length c.args.referrers.now) c.args.first c.args.first c.steps.at k c.in-Some.next
-    c.args.distances.now c.steps.way.items c.requires.distances on c.in-Some.ensures)
+    (step_path R (length c.args.referrers.now) c.args.first c.args.first c.steps.at k c.in-Some.next
+    c.args.distances.now c.steps.path.items c.requires.distances on c.in-Some.ensures)
 
 pub returns : goal.returns
 returns c =
     let R = Goes (rows_of c.args.referrers.now) in
     let done : c.steps.remaining ≡ 0 = omega (arith, c.steps-test.false) in
-    let on : IsOnWay R c.args.first c.args.first c.steps.at 0 c.args.distances.now c.steps.way.items =
-    subst (λ (n : ℕ). IsOnWay R c.args.first c.args.first c.steps.at n c.args.distances.now c.steps.way.items) done
+    let on : IsOnPath R c.args.first c.args.first c.steps.at 0 c.args.distances.now c.steps.path.items =
+    subst (λ (n : ℕ). IsOnPath R c.args.first c.args.first c.steps.at n c.args.distances.now c.steps.path.items) done
     c.steps.invariant in
-    end_way R (length c.args.referrers.now) c.args.first c.args.first c.steps.at c.args.distances.now c.steps.way.items
+    end_path R (length c.args.referrers.now) c.args.first c.args.first c.steps.at c.args.distances.now c.steps.path.items
     c.requires.distances on

@@ -1,29 +1,29 @@
--- The foremost way, step by step along the distances.
+-- The foremost path, step by step along the distances.
 use Rattle.std.proofs.Common.{◌≡◌, ℕ, suc, ◌+◌, ◌<◌, ◌≤◌, List, [], ◌∷◌, ◌++◌, length, Option, Some, None, inl, inr}
 use Rattle.std.proofs.Common.{sym, ap, ◌∙◌, subst, arith, append_assoc, append-nil, eqb, true, false, get_or, Contains}
 use Rattle.std.proofs.lemmas.Bool.{cases_lt, eqb-true, eqb-false}
 use Rattle.std.proofs.lemmas.Option.{same_Some, none-some}
 use Rattle.std.specs.Option.{option_eq}
-use Rattle.ash_classes.specs.Ways.{IsWay, IsNoLater, IsForemost}
+use Rattle.ash_classes.specs.Paths.{IsPath, IsNoLater, IsForemost}
 use Rattle.ash_classes.specs.Marking.{IsAt, IsNearest, AreDistances}
 
 one_mark : (marks : List (Option ℕ)) (place a b : ℕ) → IsAt marks place a → IsAt marks place b → a ≡ b
 one_mark marks place a b g h = same_Some a b (sym g ∙ h)
 
--- no way is shorter than the distance
+-- no path is shorter than the distance
 no_shorter : (R : ℕ → ℕ → Type 0) (places to : ℕ) (marks : List (Option ℕ)) → AreDistances R places to marks
-    → (from k : ℕ) → IsAt marks from k → (between : List ℕ) → IsWay R from between to → k ≤ length between
-no_shorter R places to marks d from k at between way =
-    let near = d.least from between way in
+    → (from k : ℕ) → IsAt marks from k → (between : List ℕ) → IsPath R from between to → k ≤ length between
+no_shorter R places to marks d from k at between path =
+    let near = d.least from between path in
     let e : near.0 ≡ k = one_mark marks from near.0 k near.1 at in
     omega (arith, near.2, e)
 
--- the place that a shortest way goes to first is one nearer
+-- the place that a shortest path goes to first is one nearer
 one_nearer : (R : ℕ → ℕ → Type 0) (places to : ℕ) (marks : List (Option ℕ)) → AreDistances R places to marks
-    → (from k next : ℕ) (between : List ℕ) → IsAt marks from (k + 1) → R from next → IsWay R next between to
+    → (from k next : ℕ) (between : List ℕ) → IsAt marks from (k + 1) → R from next → IsPath R next between to
     → length between ≤ k → IsAt marks next k
-one_nearer R places to marks d from k next between at step way short =
-    let near = d.least next between way in
+one_nearer R places to marks d from k next between at step path short =
+    let near = d.least next between path in
     let reached = d.reached next near.0 near.1 in
     let long : k + 1 ≤ suc (length reached.0) =
     no_shorter R places to marks d from (k + 1) at (next ∷ reached.0) (step, reached.2) in
@@ -35,13 +35,13 @@ pub next_exists : (R : ℕ → ℕ → Type 0) (places to : ℕ) (marks : List (
     → (from k : ℕ) → IsAt marks from (k + 1) → (next : ℕ) × R from next × IsAt marks next k
 next_exists R places to marks d from k at = let reached = d.reached from (k + 1) at in go reached.0 reached.1 reached.2
   where
-    go : (between : List ℕ) → length between ≡ k + 1 → IsWay R from between to
+    go : (between : List ℕ) → length between ≡ k + 1 → IsPath R from between to
         → (next : ℕ) × R from next × IsAt marks next k
-    go [] long way = absurd (omega (arith, long))
-    go (next ∷ between) long way =
-        (next, way.0, one_nearer R places to marks d from k next between at way.0 way.1 (omega (arith, long)))
+    go [] long path = absurd (omega (arith, long))
+    go (next ∷ between) long path =
+        (next, path.0, one_nearer R places to marks d from k next between at path.0 path.1 (omega (arith, long)))
 
--- the nearest place, and the foremost way from there
+-- the nearest place, and the foremost path from there
 pub step_foremost : (R : ℕ → ℕ → Type 0) (places to : ℕ) (marks : List (Option ℕ)) → AreDistances R places to marks
     → (from k next : ℕ) → IsAt marks from (k + 1) → IsNearest R marks from k (Some next) → (rest : List ℕ)
     → IsForemost R next rest to → IsForemost R from (next ∷ rest) to
@@ -49,23 +49,23 @@ step_foremost R places to marks d from k next at nearest rest f =
     let reached = d.reached next k nearest.1 in
     let short : length rest ≤ k = omega (arith, f.shortest reached.0 reached.2, reached.1) in
     record {
-      way = (nearest.0, f.way);
-      shortest = λ other way. omega (arith, no_shorter R places to marks d from (k + 1) at other way, short);
+      path = (nearest.0, f.path);
+      shortest = λ other path. omega (arith, no_shorter R places to marks d from (k + 1) at other path, short);
       foremost = other_later short;
     }
   where
-    other_later : length rest ≤ k → (other : List ℕ) → IsWay R from other to → length other ≡ length (next ∷ rest)
+    other_later : length rest ≤ k → (other : List ℕ) → IsPath R from other to → length other ≡ length (next ∷ rest)
         → IsNoLater (next ∷ rest) other
-    other_later short [] way long = absurd (omega (arith, long))
-    other_later short (q ∷ qs) way long =
+    other_later short [] path long = absurd (omega (arith, long))
+    other_later short (q ∷ qs) path long =
         let q_at : IsAt marks q k =
-        one_nearer R places to marks d from k q qs at way.0 way.1 (omega (arith, long, short)) in
-        let least : next ≤ q = nearest.2 q way.0 q_at in
+        one_nearer R places to marks d from k q qs at path.0 path.1 (omega (arith, long, short)) in
+        let least : next ≤ q = nearest.2 q path.0 q_at in
         elim (cases_lt next q) [
           | inl lower ↦ inl lower
           | inr higher ↦
               let e : next ≡ q = omega (arith, least, higher) in
-              inr (e, f.foremost qs (subst (λ (x : ℕ). IsWay R x qs to) (sym e) way.1) (omega (arith, long)))
+              inr (e, f.foremost qs (subst (λ (x : ℕ). IsPath R x qs to) (sym e) path.1) (omega (arith, long)))
         ]
 
 -- where one goes straight to the end, no place is between
@@ -73,39 +73,39 @@ pub end_foremost : (R : ℕ → ℕ → Type 0) (places to : ℕ) (marks : List 
     → (from : ℕ) → IsAt marks from 0 → IsForemost R from [] to
 end_foremost R places to marks d from at = let reached = d.reached from 0 at in
     record {
-      way = straight reached.0 reached.1 reached.2;
-      shortest = λ other way. omega arith;
-      foremost = λ other way long. tt;
+      path = straight reached.0 reached.1 reached.2;
+      shortest = λ other path. omega arith;
+      foremost = λ other path long. tt;
     }
   where
-    straight : (between : List ℕ) → length between ≡ 0 → IsWay R from between to → R from to
-    straight [] long way = way
-    straight (next ∷ between) long way = absurd (omega (arith, long))
+    straight : (between : List ℕ) → length between ≡ 0 → IsPath R from between to → R from to
+    straight [] long path = path
+    straight (next ∷ between) long path = absurd (omega (arith, long))
 
--- a foremost way from the place that was reached goes on the way so far
-pub record IsOnWay (R : ℕ → ℕ → Type 0) (first to at remaining : ℕ) (marks : List (Option ℕ))
-    (way : List ℕ) : Type 0 where
+-- a foremost path from the place that was reached goes on the path so far
+pub record IsOnPath (R : ℕ → ℕ → Type 0) (first to at remaining : ℕ) (marks : List (Option ℕ))
+    (path : List ℕ) : Type 0 where
   pub here : IsAt marks at remaining
-  pub rest : (rest : List ℕ) → IsForemost R at rest to → IsForemost R first (way ++ rest) to
+  pub rest : (rest : List ℕ) → IsForemost R at rest to → IsForemost R first (path ++ rest) to
 
-pub start_way : (R : ℕ → ℕ → Type 0) (first to remaining : ℕ) (marks : List (Option ℕ)) → IsAt marks first remaining
-    → IsOnWay R first to first remaining marks []
-start_way R first to remaining marks at = record { here = at; rest = λ rest f. f }
+pub start_path : (R : ℕ → ℕ → Type 0) (first to remaining : ℕ) (marks : List (Option ℕ)) → IsAt marks first remaining
+    → IsOnPath R first to first remaining marks []
+start_path R first to remaining marks at = record { here = at; rest = λ rest f. f }
 
-pub step_way : (R : ℕ → ℕ → Type 0) (places first to at k next : ℕ) (marks : List (Option ℕ)) (way : List ℕ)
-    → AreDistances R places to marks → IsOnWay R first to at (k + 1) marks way → IsNearest R marks at k (Some next)
-    → IsOnWay R first to next k marks (way ++ next ∷ [])
-step_way R places first to at k next marks way d on nearest = record {
+pub step_path : (R : ℕ → ℕ → Type 0) (places first to at k next : ℕ) (marks : List (Option ℕ)) (path : List ℕ)
+    → AreDistances R places to marks → IsOnPath R first to at (k + 1) marks path → IsNearest R marks at k (Some next)
+    → IsOnPath R first to next k marks (path ++ next ∷ [])
+step_path R places first to at k next marks path d on nearest = record {
   here = nearest.1;
   rest = λ rest f.
-      subst (λ (xs : List ℕ). IsForemost R first xs to) (sym (append_assoc way (next ∷ []) rest))
+      subst (λ (xs : List ℕ). IsForemost R first xs to) (sym (append_assoc path (next ∷ []) rest))
       (on.rest (next ∷ rest) (step_foremost R places to marks d at k next on.here nearest rest f));
 }
 
-pub end_way : (R : ℕ → ℕ → Type 0) (places first to at : ℕ) (marks : List (Option ℕ)) (way : List ℕ)
-    → AreDistances R places to marks → IsOnWay R first to at 0 marks way → IsForemost R first way to
-end_way R places first to at marks way d on =
-    subst (λ (xs : List ℕ). IsForemost R first xs to) (append-nil way)
+pub end_path : (R : ℕ → ℕ → Type 0) (places first to at : ℕ) (marks : List (Option ℕ)) (path : List ℕ)
+    → AreDistances R places to marks → IsOnPath R first to at 0 marks path → IsForemost R first path to
+end_path R places first to at marks path d on =
+    subst (λ (xs : List ℕ). IsForemost R first xs to) (append-nil path)
     (on.rest [] (end_foremost R places to marks d at on.here))
 
 -- a mark that was compared with a distance
