@@ -4,7 +4,7 @@
 use crate::declared::module_signatures;
 use crate::sources::{Question, check_rows, printed, tree_of};
 use ash_check::CheckFault;
-use ash_expressions::{Environment, Position, TypedExpr, check_expr};
+use ash_expressions::{AssignmentSide, Environment, TypedExpr, check_expr};
 use ash_registrations::Registrations;
 use ash_tree as written;
 use ash_tree::{Initializer, Item, Module};
@@ -45,7 +45,7 @@ fn check_value(alloc: Global, value: &written::Expr) -> Result<TypedExpr, String
         this: None,
         locals: &[],
     };
-    match check_expr(&env, Position::Value, value) {
+    match check_expr(&env, AssignmentSide::Value, value) {
         Ok(typed) => Ok(typed),
         Err(error) => Err(printed(alloc, &CheckFault::from(error))),
     }
