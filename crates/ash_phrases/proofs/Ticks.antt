@@ -11,7 +11,7 @@ use Rattle.ash_phrases.specs.Classes.{Program, Callee, Construction, Entry, entr
 use Rattle.ash_phrases.specs.Calls.{value_or_null, blank, call, construct}
 use Rattle.ash_phrases.specs.Functions.{body, calls_within}
 use Rattle.ash_phrases.specs.Laws.{LeavesAtMost, TakesTicks, GainsNone, TicksFall}
-use Rattle.ash_phrases.proofs.Traces.{leaves}
+use Rattle.ash_phrases.proofs.Traces.{at_most_more, leaves}
 use Rattle.ash_phrases.proofs.Walks.{Walk, at_most, bound, followed, given, found_there}
 use Rattle.ash_phrases.proofs.StepWalks.{to_demand_frame, to_demand_number, to_make, to_leave}
 use Rattle.ash_phrases.proofs.Depth.{walk_called, of_phrases}
@@ -37,9 +37,6 @@ takes_later : {A B : Type 0} (f : A → Run B) (n : ℕ) (p : Progress A) → Le
 takes_later f n (Done v b) l h = takes_more (f v b) l (h v b l)
 takes_later f n (Ended i b) l h = tt
 takes_later f n NoStep l h = tt
-
-at_most_more : {t u v : ℕ} → t ≤ u → u ≤ v → t ≤ v
-at_most_more p q = omega arith
 
 at_most_all : {t u v w : ℕ} → t ≤ u → u ≤ v → v ≤ w → t ≤ w
 at_most_all p q r = omega arith

@@ -37,7 +37,7 @@ transition_ticks {a = a} (Leaves result f) = ticks_same a f (back_ticks a.caller
 transition_ticks {a = a} (InWorld world x f) = ticks_same a f refl
 transition_ticks {a = a} (Releases f) = ticks_same a f refl
 
-at_most_more : {t u v : ℕ} → t ≤ u → u ≤ v → t ≤ v
+pub at_most_more : {t u v : ℕ} → t ≤ u → u ≤ v → t ≤ v
 at_most_more p q = omega arith
 
 pub ticks_fall : {a b : Activity} → Trace a b → b.ticks ≤ a.ticks

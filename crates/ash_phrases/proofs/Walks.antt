@@ -7,7 +7,7 @@ use Rattle.ash_phrases.specs.Runs.{Raising, OutOfTicks, Progress, Done, Ended, N
 use Rattle.ash_phrases.specs.Frames.{at_line, spend, tick}
 use Rattle.ash_phrases.specs.Traces.{Transition, TakesTick, InFrame, Trace, Here}
 use Rattle.ash_phrases.specs.Laws.{AreSame, ComesBy, with_more, GoesOn}
-use Rattle.ash_phrases.proofs.Traces.{one, ticks_fall, comes_after, leaves}
+use Rattle.ash_phrases.proofs.Traces.{one, at_most_more, ticks_fall, comes_after, leaves}
 
 pub record Walk {A : Type 0} (n : ℕ) (r s : Run A) : Type 0 where
   pub same : (a : Activity) → a.ticks ≤ n → r a ≡ s a
@@ -16,9 +16,6 @@ pub record Walk {A : Type 0} (n : ℕ) (r s : Run A) : Type 0 where
 
 pub at_most : (t : ℕ) → t ≤ t
 at_most t = omega arith
-
-at_most_more : {t u v : ℕ} → t ≤ u → u ≤ v → t ≤ v
-at_most_more p q = omega arith
 
 fewer_more : {t u v : ℕ} (m : ℕ) → t ≤ u → u + m ≤ v → t + m ≤ v
 fewer_more m p q = omega arith

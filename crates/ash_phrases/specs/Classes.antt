@@ -1,4 +1,4 @@
--- What a module's names stand for while it runs: the places of classes in its source, what class an object is of, and what
+-- What the names of a module mean while it runs: the places of classes in its source, what class an object is of, and what
 -- is entered by a call.
 use Rattle.std.specs.Prelude.{ℕ, ◌+◌, ◌==◌, Bool, false, if◌then◌else◌, nat_eq, nat_le, List, [], ◌++◌, codes, map, length, find, position, count_by, slice_get, Option, None, option_map, is_some}
 use Rattle.std.specs.List.{range_with_len}

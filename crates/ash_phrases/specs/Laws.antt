@@ -76,7 +76,7 @@ pub record OfPhrases (program : Program) (depth : ℕ) (Holds : (A : Type 0) →
   pub functions : (e : Entry) → Holds (Option Word) (entered program depth e)
   pub initializers : Holds (Unit {0}) (initialized program depth)
 
--- A phrase comes by a trace to its value, or to what ends the run; it ends for want of a tick only where none is left.
+-- A phrase comes by a trace to its value, or to what ends the run; a tick is refused only where none is left.
 abbrev pub ComesBy : {A : Type 0} → Activity → Progress A → Type 0
 ComesBy first (Done value activity) = Trace first activity
 ComesBy first (Ended (Raising exception) activity) = Trace first activity
@@ -111,7 +111,7 @@ abbrev pub with_more : ℕ → Activity → Activity
 with_more more activity = record activity { ticks = activity.ticks + more }
 
 -- What a phrase comes to from one activity, and from the same with more ticks: the same, with more ticks left; but where it
--- ended for want of a tick, it goes on from where it ended.
+-- ended since no tick was left, it goes on from where it ended.
 abbrev pub GoesOn : {A : Type 0} → ℕ → Progress A → Progress A → Type 0
 GoesOn more (Done value activity) other = other ≡ Done value (with_more more activity)
 GoesOn more (Ended (Raising exception) activity) other = other ≡ Ended (Raising exception) (with_more more activity)

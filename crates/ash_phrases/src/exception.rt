@@ -32,7 +32,7 @@ pub enum Exception {
 impl Exception {
     /// Its number, from 1 to 11.
     pub fn number(self) -> u8
-        ensures { result ≡ number_of self }
+        ensures number { result ≡ number_of self }
     {
         match self {
             Exception::NullPointerAccess => 1,
@@ -51,7 +51,7 @@ impl Exception {
 
     /// Its name, without the code that a host object raised.
     pub fn name(self) -> &'static str
-        ensures { result.now ≡ name_of self }
+        ensures name { result.now ≡ name_of self }
     {
         match self {
             Exception::NullPointerAccess => "NullPointerAccess",

@@ -251,14 +251,15 @@ pub fn worked_conversions()
 /// The line of each tick of a function with each sort of statement: with as many ticks as are before it, the function
 /// is aborted there, and with all of them it comes to its end.
 pub fn worked_ticks()
-    ensures { ends_within every_statement 25
-        ≡ aborted_at (1 ∷ 2 ∷ 3 ∷ 4 ∷ 5 ∷ 6 ∷ 7 ∷ 8 ∷ 10 ∷ 10 ∷ 11 ∷ 10 ∷ 11 ∷ 10 ∷ 12 ∷ 13 ∷ 12 ∷
-        14 ∷ 14 ∷ 15 ∷ 14 ∷ 16 ∷ 17 ∷ 18 ∷ []) ++ Some (Finished (Some (Word.Int (pos 9)))) ∷ [] }
+    ensures lines { ends_within every_statement 25
+        ≡ aborted_at (1 ∷ 2 ∷ 3 ∷ 4 ∷ 5 ∷ 6 ∷ 7 ∷ 8 ∷ 10 ∷ 10 ∷ 11 ∷ 10 ∷ 11 ∷
+        10 ∷ 12 ∷ 13 ∷ 12 ∷ 14 ∷ 14 ∷ 15 ∷ 14 ∷ 16 ∷ 17 ∷ 18 ∷ [])
+        ++ Some (Finished (Some (Word.Int (pos 9)))) ∷ [] }
 {}
 
 /// The line of each tick of a loop that is left by a `continue` and a `break`, and the number that is returned.
 pub fn worked_jump_ticks()
-    ensures { ends_within every_jump 10
+    ensures lines { ends_within every_jump 10
         ≡ aborted_at (1 ∷ 2 ∷ 2 ∷ 3 ∷ 4 ∷ 2 ∷ 3 ∷ 5 ∷ 6 ∷ [])
         ++ Some (Finished (Some (Word.Int (pos 1)))) ∷ [] }
 {}
@@ -266,7 +267,7 @@ pub fn worked_jump_ticks()
 /// The function and the line of each tick where objects are constructed and a method is called. An entry has the line
 /// of the function's name, or of the class's where no constructor is written.
 pub fn worked_frame_ticks()
-    ensures { ends_within every_frame 10
+    ensures functions_and_lines { ends_within every_frame 10
         ≡ aborted_in ((f, 9) ∷ (f, 10) ∷ (codes "A.A", 5) ∷ (codes "A.A", 6) ∷ (f, 10)
         ∷ (codes "B.B", 1)
         ∷ (f, 11) ∷ (codes "A.m", 7) ∷ (codes "A.m", 8) ∷ [])

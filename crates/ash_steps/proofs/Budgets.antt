@@ -7,7 +7,7 @@ use Rattle.ash_phrases.specs.Classes.{Program}
 use Rattle.ash_phrases.specs.Ends.{End, Finished, Threw, Aborted, Outcome, call_function, load_module}
 use Rattle.ash_phrases.specs.Laws.{IsNotAborted as EndIsNotAborted}
 use Rattle.ash_phrases.proofs.Endings.{budget_suffices}
-use Rattle.ash_steps.specs.States.{Loaded, State, Hosts, Embedding, without_module, world_of}
+use Rattle.ash_steps.specs.States.{LoadedModule, State, Hosts, Embedding, without_module, world_of}
 use Rattle.ash_steps.specs.Requests.{Request}
 use Rattle.ash_steps.specs.Tasks.{Task, Initialize, Invoke, Remove, Read, Show, Count, Rewrite, TaskResult, task_of}
 use Rattle.ash_steps.specs.Steps.{Step, after_load_with, after_load, after_call, perform, unless_refused, step}
@@ -29,7 +29,7 @@ module _ (F : Type 0) (old : State) (hosts : Hosts) (numbered : AreNumbered old.
       let ends : EndIsNotAborted outcome.end = end_of_load p.name source outcome.end outcome.world (back (after_load p.name source old outcome) one e n) in
       ap (λ (o : Option Outcome). option_map (after_load p.name source old) o) ((budget_suffices p budget more (world_of [] old.modules old hosts) numbered).loads outcome f ends) ∙ e
 
-  calls : (p : Program) (m : Loaded) (function : ℕ) (args : List Word) (one : Step F) (o : Option Outcome) → call_function p function args budget (world_of m.globals (without_module m.name old.modules) old hosts) ≡ o → option_map (after_call m old) o ≡ Some one → IsNotAborted one.reply → option_map (after_call m old) (call_function p function args (budget + more) (world_of m.globals (without_module m.name old.modules) old hosts)) ≡ Some one
+  calls : (p : Program) (m : LoadedModule) (function : ℕ) (args : List Word) (one : Step F) (o : Option Outcome) → call_function p function args budget (world_of m.globals (without_module m.name old.modules) old hosts) ≡ o → option_map (after_call m old) o ≡ Some one → IsNotAborted one.reply → option_map (after_call m old) (call_function p function args (budget + more) (world_of m.globals (without_module m.name old.modules) old hosts)) ≡ Some one
   calls p m function args one None f e n = absurd (cc)
   calls p m function args one (Some outcome) f e n =
       let ends : EndIsNotAborted outcome.end = back (after_call m old outcome) one e n in

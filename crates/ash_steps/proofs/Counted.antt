@@ -2,7 +2,7 @@
 use Rattle.std.proofs.Common.{◌≡◌, ℕ, List, [], Option, Some, None, Ok, Err, refl, sym, ap, subst, unwrap_or, option_map}
 use Rattle.ash_phrases.specs.Activity.{World}
 use Rattle.ash_phrases.specs.Ends.{End, Finished, Threw, Aborted, Outcome, call_function, load_module}
-use Rattle.ash_steps.specs.States.{Loaded, State, Hosts, Embedding, without_module, world_of}
+use Rattle.ash_steps.specs.States.{LoadedModule, State, Hosts, Embedding, without_module, world_of}
 use Rattle.ash_steps.specs.Requests.{Request, Value, ShownAs, Number, Done, Refused}
 use Rattle.ash_steps.specs.Tasks.{Task, Initialize, Invoke, Remove, Read, Show, Count, Rewrite, TaskResult, task_of}
 use Rattle.ash_steps.specs.Steps.{Step, replied, after_load_with, after_load, after_call, after_discard, perform, unless_refused, Steps, performed, put_off}
@@ -21,7 +21,7 @@ loads : {F : Type 0} (name source : List ℕ) (old : State) (one : Step F) (o : 
 loads name source old one (Some outcome) e = of_this old (after_load name source old outcome) one (of_load _ name source old outcome.end outcome.world) e
 loads name source old one None e = absurd (cc)
 
-calls : {F : Type 0} (m : Loaded) (old : State) (one : Step F) (o : Option Outcome) → option_map (after_call m old) o ≡ Some one → CountsAnswers old one.reply one.state
+calls : {F : Type 0} (m : LoadedModule) (old : State) (one : Step F) (o : Option Outcome) → option_map (after_call m old) o ≡ Some one → CountsAnswers old one.reply one.state
 calls m old one (Some outcome) e = of_this old (after_call m old outcome) one (refl, refl) e
 calls m old one None e = absurd (cc)
 

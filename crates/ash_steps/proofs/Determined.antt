@@ -3,7 +3,7 @@ use Rattle.std.proofs.Common.{◌≡◌, ◌∙◌, inl, inr, ℕ, List, [], ◌
 use Rattle.std.specs.Option.{option_and_then}
 use Rattle.ash_phrases.specs.Activity.{World}
 use Rattle.ash_phrases.specs.Ends.{End, Finished, Threw, Aborted, Outcome, call_function, load_module}
-use Rattle.ash_steps.specs.States.{Loaded, State, Hosts, Embedding, without_module, world_of}
+use Rattle.ash_steps.specs.States.{LoadedModule, State, Hosts, Embedding, without_module, world_of}
 use Rattle.ash_steps.specs.Requests.{Request, Refusal, Reply, Value, ShownAs, Number, Done, Refused}
 use Rattle.ash_steps.specs.Tasks.{Task, Initialize, Invoke, Remove, Read, Show, Count, Rewrite, TaskResult, task_of}
 use Rattle.ash_steps.specs.Steps.{Step, replied, after_load_with, after_load, after_call, after_discard, perform, unless_refused, step, History, begin_history, with_step, run, Steps, performed, put_off, Runs, no_request, next_request}
@@ -57,7 +57,7 @@ module _ (F : Type 0) (state : State) (hosts : Hosts) where
   loads name source one (Some outcome) e = stays_of (after_load name source state outcome) one (of_load name source outcome.end outcome.world) e
   loads name source one None e = absurd (cc)
 
-  calls : (m : Loaded) (one : Step F) (o : Option Outcome) → option_map (after_call m state) o ≡ Some one → RefusedStays state hosts one.reply one
+  calls : (m : LoadedModule) (one : Step F) (o : Option Outcome) → option_map (after_call m state) o ≡ Some one → RefusedStays state hosts one.reply one
   calls m one (Some outcome) e = stays_of (after_call m state outcome) one tt e
   calls m one None e = absurd (cc)
 

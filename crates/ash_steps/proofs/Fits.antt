@@ -12,7 +12,7 @@ use Rattle.ash_phrases.specs.Laws.{EffectsStay, first_of_load, NumbersLiveOnce}
 use Rattle.ash_phrases.proofs.Released.{swept_by}
 use Rattle.ash_phrases.proofs.Fits.{fit_along, released_fits}
 use Rattle.ash_phrases.proofs.Endings.{runs_stay}
-use Rattle.ash_steps.specs.States.{Loaded, State, Hosts, Embedding, without_module, world_of, state_after}
+use Rattle.ash_steps.specs.States.{LoadedModule, State, Hosts, Embedding, without_module, world_of, state_after}
 use Rattle.ash_steps.specs.Requests.{Request, Value, ShownAs, Number, Done, Refused}
 use Rattle.ash_steps.specs.Tasks.{Task, Initialize, Invoke, Remove, Read, Show, Count, Rewrite, TaskResult, task_of}
 use Rattle.ash_steps.specs.Steps.{Step, hosts_left, without_globals, replied, after_load_with, after_load, after_call, after_discard, perform, unless_refused, History, Steps, performed, put_off, Runs, no_request, next_request}
@@ -34,13 +34,13 @@ module _ {B : Type 0} (host : Ghosts B) (answerers : Answerers B) where
 
   -- globals, what is held outside and events have no part in it
 
-  begin_fits : (globals : List Word) (others : List Loaded) (old : State) (hosts : Hosts) → HostsAnswer host answerers old hosts → Fit (world_of globals others old hosts)
+  begin_fits : (globals : List Word) (others : List LoadedModule) (old : State) (hosts : Hosts) → HostsAnswer host answerers old hosts → Fit (world_of globals others old hosts)
   begin_fits globals others old hosts h = record { answers = h.answers; objects = h.objects; services = h.services; pool = h.pool }
 
-  leave_fits : (ms : List Loaded) (world : World) (old : State) → Fit world → HostsAnswer host answerers (state_after ms world old) (hosts_left world)
+  leave_fits : (ms : List LoadedModule) (world : World) (old : State) → Fit world → HostsAnswer host answerers (state_after ms world old) (hosts_left world)
   leave_fits ms world old h = record { answers = h.answers; objects = h.objects; services = h.services; pool = h.pool }
 
-  unfinished : (ms : List Loaded) (world : World) (old : State) → AreNumbered world.last world.objects → Fit world → HostsAnswer host answerers (state_after ms (without_globals world) old) (hosts_left (without_globals world))
+  unfinished : (ms : List LoadedModule) (world : World) (old : State) → AreNumbered world.last world.objects → Fit world → HostsAnswer host answerers (state_after ms (without_globals world) old) (hosts_left (without_globals world))
   unfinished ms world old ordered h =
       leave_fits ms (without_globals world) old
       (swept_fits (record world { globals = [] }) ordered (record { answers = h.answers; objects = h.objects; services = h.services; pool = h.pool }))
@@ -63,7 +63,7 @@ module _ {B : Type 0} (host : Ghosts B) (answerers : Answerers B) where
         of_this (after_load p.name source old outcome) one
         (load_fits p.name source outcome.end outcome.world (onward.lives).numbered (outcome_fits first outcome numbered stays (begin_fits _ old.modules old hosts fits))) e
 
-    calls : (p : Program) (budget : ℕ) (m : Loaded) (function : ℕ) (args : List Word) (one : Step F) (o : Option Outcome) → call_function p function args budget (world_of m.globals (without_module m.name old.modules) old hosts) ≡ o → option_map (after_call m old) o ≡ Some one → StepFits one
+    calls : (p : Program) (budget : ℕ) (m : LoadedModule) (function : ℕ) (args : List Word) (one : Step F) (o : Option Outcome) → call_function p function args budget (world_of m.globals (without_module m.name old.modules) old hosts) ≡ o → option_map (after_call m old) o ≡ Some one → StepFits one
     calls p budget m function args one None f e = absurd (cc)
     calls p budget m function args one (Some outcome) f e =
         let (entry, found, stays) = (runs_stay p budget (world_of m.globals (without_module m.name old.modules) old hosts) numbered).calls function args outcome f in

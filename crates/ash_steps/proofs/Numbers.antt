@@ -13,7 +13,7 @@ use Rattle.ash_phrases.proofs.Released.{swept_by}
 use Rattle.ash_phrases.proofs.Lives.{joined_lives, same_lives}
 use Rattle.ash_phrases.proofs.Numbers.{along, onward_from, released_onward}
 use Rattle.ash_phrases.proofs.Endings.{runs_stay}
-use Rattle.ash_steps.specs.States.{Loaded, State, Hosts, Embedding, without_module, world_of, numbering_of}
+use Rattle.ash_steps.specs.States.{LoadedModule, State, Hosts, Embedding, without_module, world_of, numbering_of}
 use Rattle.ash_steps.specs.Requests.{Request, Value, ShownAs, Number, Done, Refused}
 use Rattle.ash_steps.specs.Tasks.{Task, Initialize, Invoke, Remove, Read, Show, Count, Rewrite, TaskResult, task_of}
 use Rattle.ash_steps.specs.Steps.{Step, replied, without_globals, after_load_with, after_load, after_call, after_discard, perform, unless_refused, History, Steps, performed, put_off, Runs, no_request, next_request}
@@ -71,7 +71,7 @@ module _ (F : Type 0) (old : State) (numbered : AreNumbered old.last old.objects
 
   -- calls
 
-  calls : (p : Program) (budget : ℕ) (m : Loaded) (function : ℕ) (args : List Word) (hosts : Hosts) (one : Step F) (o : Option Outcome) → call_function p function args budget (world_of m.globals (without_module m.name old.modules) old hosts) ≡ o → option_map (after_call m old) o ≡ Some one → StepLives old one
+  calls : (p : Program) (budget : ℕ) (m : LoadedModule) (function : ℕ) (args : List Word) (hosts : Hosts) (one : Step F) (o : Option Outcome) → call_function p function args budget (world_of m.globals (without_module m.name old.modules) old hosts) ≡ o → option_map (after_call m old) o ≡ Some one → StepLives old one
   calls p budget m function args hosts one None f e = absurd (cc)
   calls p budget m function args hosts one (Some outcome) f e =
       let stays = ((runs_stay p budget (world_of m.globals (without_module m.name old.modules) old hosts) numbered).calls function args outcome f).2 in

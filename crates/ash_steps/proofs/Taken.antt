@@ -10,7 +10,7 @@ use Rattle.ash_phrases.specs.Ends.{End, Finished, Threw, Aborted, Outcome, call_
 use Rattle.ash_phrases.specs.Laws.{EffectsStay}
 use Rattle.ash_phrases.proofs.Taken.{taken_in_order, sweep_leaves}
 use Rattle.ash_phrases.proofs.Endings.{runs_stay}
-use Rattle.ash_steps.specs.States.{Loaded, State, Hosts, Embedding, without_module, world_of}
+use Rattle.ash_steps.specs.States.{LoadedModule, State, Hosts, Embedding, without_module, world_of}
 use Rattle.ash_steps.specs.Requests.{Request, Value, ShownAs, Number, Done, Refused}
 use Rattle.ash_steps.specs.Tasks.{Task, Initialize, Invoke, Remove, Read, Show, Count, Rewrite, TaskResult, task_of}
 use Rattle.ash_steps.specs.Steps.{Step, replied, without_globals, after_load_with, after_load, after_call, after_discard, perform, unless_refused, History, Steps, performed, put_off, Runs, no_request, next_request}
@@ -49,7 +49,7 @@ module _ (F : Type 0) (old : State) (hosts : Hosts) (numbered : AreNumbered old.
       let stays = (runs_stay p budget (world_of [] old.modules old hosts) numbered).loads outcome f in
       of_this (after_load p.name source old outcome) one (load_takes p.name source outcome.end outcome.world (outcome_takes _ outcome stays)) e
 
-  calls : (p : Program) (budget : ℕ) (m : Loaded) (function : ℕ) (args : List Word) (one : Step F) (o : Option Outcome) → call_function p function args budget (world_of m.globals (without_module m.name old.modules) old hosts) ≡ o → option_map (after_call m old) o ≡ Some one → StepTakes one
+  calls : (p : Program) (budget : ℕ) (m : LoadedModule) (function : ℕ) (args : List Word) (one : Step F) (o : Option Outcome) → call_function p function args budget (world_of m.globals (without_module m.name old.modules) old hosts) ≡ o → option_map (after_call m old) o ≡ Some one → StepTakes one
   calls p budget m function args one None f e = absurd (cc)
   calls p budget m function args one (Some outcome) f e =
       let stays = ((runs_stay p budget (world_of m.globals (without_module m.name old.modules) old hosts) numbered).calls function args outcome f).2 in

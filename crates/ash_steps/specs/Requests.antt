@@ -34,10 +34,10 @@ pub data Refusal (Fault : Type 0) : Type 0 where
   GenerationSpent : Refusal Fault
 
 -- what is in an object: its fields by name, the state of a host object, or the elements of an array
-pub data Contents : Type 0 where
-  Fields : (fields : List (List ℕ × Word)) → Contents
-  HostState : (state : List ℕ) → Contents
-  Elements : (elements : List Word) → Contents
+pub data ObjectContents : Type 0 where
+  Fields : (fields : List (List ℕ × Word)) → ObjectContents
+  HostState : (state : List ℕ) → ObjectContents
+  Elements : (elements : List Word) → ObjectContents
 
 -- An object as a reply shows it: its number, the name of its type, its count and what is in it. A class has the name of its
 -- module before its own, `m.C`.
@@ -45,7 +45,7 @@ pub record Shown : Type 0 where
   pub number : ℕ
   pub type_name : List ℕ
   pub count : ℕ
-  pub contents : Contents
+  pub contents : ObjectContents
 
 -- an answer has how a run ended, how many requests have been answered, and the events
 pub data Reply (Fault : Type 0) : Type 0 where

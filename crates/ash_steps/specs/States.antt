@@ -12,7 +12,7 @@ use Rattle.ash_phrases.specs.Activity.{FreeBox, World}
 use Rattle.ash_phrases.specs.Numbers.{Numbering}
 
 -- a module that is loaded: its name, its source, and what its globals hold, in source order
-pub record Loaded : Type 0 where
+pub record LoadedModule : Type 0 where
   pub name : List ℕ
   pub source : List ℕ
   pub globals : List Word
@@ -20,7 +20,7 @@ pub record Loaded : Type 0 where
 -- The modules by ascending name, the objects, the states of the services in order of registration, the last number that
 -- was given to an object, and how many requests have been answered.
 pub record State : Type 0 where
-  pub modules : List Loaded
+  pub modules : List LoadedModule
   pub objects : Objects (List ℕ)
   pub services : List (List ℕ)
   pub last : ℕ
@@ -47,37 +47,37 @@ pub record Embedding (Fault : Type 0) : Type 0 where
 abbrev pub compare_names : List ℕ → List ℕ → Ordering
 compare_names = slice_cmp nat_cmp
 
-abbrev pub has_name : List ℕ → Loaded → Bool
+abbrev pub has_name : List ℕ → LoadedModule → Bool
 has_name name m = bytes_eq m.name name
 
-abbrev pub find_module : List ℕ → State → Option Loaded
+abbrev pub find_module : List ℕ → State → Option LoadedModule
 find_module name state = find (has_name name) state.modules
 
 -- the modules with one more, before the first whose name comes after its own
-abbrev pub with_module : Loaded → List Loaded → List Loaded
+abbrev pub with_module : LoadedModule → List LoadedModule → List LoadedModule
 with_module new [] = new ∷ []
 with_module new (m ∷ ms) = if is_lt (compare_names new.name m.name) then new ∷ m ∷ ms else m ∷ with_module new ms
 
 -- the modules without the one of this name
-abbrev pub without_module : List ℕ → List Loaded → List Loaded
+abbrev pub without_module : List ℕ → List LoadedModule → List LoadedModule
 without_module name ms = filter (λ m. not (has_name name m)) ms
 
 -- the modules with what a run left in the globals of the one of this name
-abbrev pub update_globals : List ℕ → List Word → List Loaded → List Loaded
-update_globals name globals ms = map (λ (m : Loaded). if has_name name m then record m { globals = globals } else m) ms
+abbrev pub update_globals : List ℕ → List Word → List LoadedModule → List LoadedModule
+update_globals name globals ms = map (λ (m : LoadedModule). if has_name name m then record m { globals = globals } else m) ms
 
 -- the globals of all modules
-abbrev pub globals_of : List Loaded → List Word
-globals_of ms = flat_map (λ (m : Loaded). m.globals) ms
+abbrev pub globals_of : List LoadedModule → List Word
+globals_of ms = flat_map (λ (m : LoadedModule). m.globals) ms
 
 -- states and worlds
 
 -- what a run finds, where a module has these globals and there are these others: what their globals hold is held outside
-abbrev pub world_of : List Word → List Loaded → State → Hosts → World
+abbrev pub world_of : List Word → List LoadedModule → State → Hosts → World
 world_of globals others state hosts = record { globals = globals; outside = handles (globals_of others); objects = state.objects; last = state.last; services = state.services; pool = hosts.pool; answers = hosts.answers; events = [] }
 
 -- the state that a run leaves, with these modules: one request more is answered
-abbrev pub state_after : List Loaded → World → State → State
+abbrev pub state_after : List LoadedModule → World → State → State
 state_after ms world old = record { modules = ms; objects = world.objects; services = world.services; last = world.last; seq = old.seq + 1 }
 
 -- the objects of a state by their numbers, and the last number that was given

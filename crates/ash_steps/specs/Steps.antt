@@ -4,7 +4,7 @@ use Rattle.std.specs.Option.{option_and_then}
 use Rattle.ash_phrases.specs.Activity.{World}
 use Rattle.ash_phrases.specs.Releases.{sweep}
 use Rattle.ash_phrases.specs.Ends.{End, Finished, Outcome, call_function, load_module}
-use Rattle.ash_steps.specs.States.{Loaded, State, Hosts, Embedding, with_module, without_module, update_globals, world_of, state_after}
+use Rattle.ash_steps.specs.States.{LoadedModule, State, Hosts, Embedding, with_module, without_module, update_globals, world_of, state_after}
 use Rattle.ash_steps.specs.Requests.{Request, Load, Call, Discard, Object, Seq, Snapshot, Refusal, Reopen, DeviceFailed, NoMemory, GenerationSpent, Reply, Answered, Value, ShownAs, Number, Done, Refused}
 use Rattle.ash_steps.specs.Tasks.{Task, Initialize, Invoke, Remove, Read, Show, Count, Rewrite, TaskResult, task_of}
 
@@ -27,7 +27,7 @@ module _ {Fault : Type 0} where
   replied reply state hosts = record { reply = reply; state = state; hosts = hosts }
 
   -- an answer, which raises the sequence number by one
-  abbrev pub answered : End → List Loaded → World → State → Step Fault
+  abbrev pub answered : End → List LoadedModule → World → State → Step Fault
   answered end ms world old = record { reply = Answered end (old.seq + 1) world.events; state = state_after ms world old; hosts = hosts_left world }
 
   -- A module is loaded where its initializers come to their end. Else it goes, and all that they did else stays.
@@ -39,7 +39,7 @@ module _ {Fault : Type 0} where
   after_load name source old outcome = after_load_with name source old outcome.end outcome.world
 
   -- What a call did to globals, objects and services stays, however it ended.
-  abbrev pub after_call : Loaded → State → Outcome → Step Fault
+  abbrev pub after_call : LoadedModule → State → Outcome → Step Fault
   after_call m old outcome = answered outcome.end (update_globals m.name (outcome.world).globals old.modules) outcome.world old
 
   -- a release point without the module

@@ -18,8 +18,8 @@ use Rattle.ash_phrases.specs.Operators.{word_at}
 use Rattle.ash_phrases.specs.Classes.{places_of_classes, dotted}
 use Rattle.ash_steps.specs.declared.argument.Argument.{Argument}
 use Rattle.ash_steps.specs.declared.argument.Argument.TheVariants as arguments
-use Rattle.ash_steps.specs.States.{Loaded, State, Embedding, find_module, globals_of}
-use Rattle.ash_steps.specs.Requests.{Request, Load, Call, Discard, Global, Object, Seq, Snapshot, Refusal, SequenceSpent, BadName, ModuleTaken, TooManyModules, BadSource, NoModule, NoFunction, NotCallable, BadArguments, NoGlobal, NoObject, Contents, Fields, HostState, Elements, Shown}
+use Rattle.ash_steps.specs.States.{LoadedModule, State, Embedding, find_module, globals_of}
+use Rattle.ash_steps.specs.Requests.{Request, Load, Call, Discard, Global, Object, Seq, Snapshot, Refusal, SequenceSpent, BadName, ModuleTaken, TooManyModules, BadSource, NoModule, NoFunction, NotCallable, BadArguments, NoGlobal, NoObject, ObjectContents, Fields, HostState, Elements, Shown}
 
 -- names of modules: a letter or `_`, then letters, digits and `_`, at most 64 bytes
 
@@ -50,9 +50,9 @@ max_seq = 2 ^ 64 - 1
 
 -- arguments
 
-abbrev pub both : {A : Type 0} → Option A → Option (List A) → Option (List A)
-both (Some one) (Some more) = Some (one ∷ more)
-both _ _ = None
+abbrev pub option_cons : {A : Type 0} → Option A → Option (List A) → Option (List A)
+option_cons (Some one) (Some more) = Some (one ∷ more)
+option_cons _ _ = None
 
 -- an argument as a word of a parameter's type, where the type holds it
 abbrev pub argument_of : VarType → Argument → Option Word
@@ -63,7 +63,7 @@ argument_of _ _ = None
 -- as many arguments as parameters, each of its type
 abbrev pub arguments_of : List VarType → List Argument → Option (List Word)
 arguments_of [] [] = Some []
-arguments_of (of ∷ parameters) (argument ∷ more) = both (argument_of of argument) (arguments_of parameters more)
+arguments_of (of ∷ parameters) (argument ∷ more) = option_cons (argument_of of argument) (arguments_of parameters more)
 arguments_of _ _ = None
 
 -- a function is called from outside where it takes and gives primitives alone
@@ -79,7 +79,7 @@ is_callable f = list_all is_primitive f.parameters && option_map_or is_primitive
 
 pub data Task : Type 0 where
   Initialize : (name source : List ℕ) (tree : Module) → Task
-  Invoke : (loaded : Loaded) (tree : Module) (function : ℕ) (args : List Word) → Task
+  Invoke : (loaded : LoadedModule) (tree : Module) (function : ℕ) (args : List Word) → Task
   Remove : (name : List ℕ) → Task
   Read : (word : Word) → Task
   Show : (shown : Shown) → Task
@@ -114,7 +114,7 @@ module _ {Fault : Type 0} where
   initialize name source (Ok tree) = Ok (Initialize name source tree)
   initialize name source (Err fault) = Err (BadSource fault)
 
-  abbrev pub call_in : Loaded → Module → List ℕ → List Argument → TaskResult Fault
+  abbrev pub call_in : LoadedModule → Module → List ℕ → List Argument → TaskResult Fault
   call_in m tree name args =
       require_some (position (λ (f : Function). bytes_eq f.name name) tree.functions) NoFunction
       (λ place. require_some (slice_get tree.functions place) NoFunction
@@ -141,8 +141,8 @@ shown_fields c fields = zip (map name_of c.fields) fields
 
 module _ {Fault : Type 0} (embedding : Embedding Fault) where
   -- The typed tree of a module that is loaded. In every state that requests lead to there is one, since the source had one
-  -- when it was loaded; so no request is refused for want of it.
-  abbrev pub tree_of : Loaded → Option Module
+  -- when it was loaded; so no request is refused since there is none.
+  abbrev pub tree_of : LoadedModule → Option Module
   tree_of m = tree_in (embedding.read m.source)
 
   -- the refusals of each request, in the order in which they are tested
@@ -170,12 +170,12 @@ module _ {Fault : Type 0} (embedding : Embedding Fault) where
   class_named owner place state = option_and_then (class_placed place) (option_and_then tree_of (find_module owner state))
 
   -- the name of the type of an object, and what is in it
-  abbrev pub described : Plain (List ℕ) → State → Option (List ℕ × Contents)
+  abbrev pub described : Plain (List ℕ) → State → Option (List ℕ × ObjectContents)
   described (Script owner place fields) state = option_map (λ (c : Class). (dotted owner c.name, Fields (shown_fields c fields))) (class_named owner place state)
   described (Array of elements) state = Some (codes "array", Elements elements)
   described (Host kind bytes) state = Some (embedding.name_of_kind kind, HostState bytes)
 
-  abbrev pub shown : ℕ → State → List ℕ × Contents → Shown
+  abbrev pub shown : ℕ → State → List ℕ × ObjectContents → Shown
   shown number state of = record { number = number; type_name = of.0; count = count_of number (globals_of state.modules) state.objects; contents = of.1 }
 
   abbrev pub showing : ℕ → State → TaskResult Fault

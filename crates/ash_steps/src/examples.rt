@@ -1,5 +1,6 @@
 //! Runs over requests, whose replies are computed from the definitions. These functions do nothing when they run.
-ghost use Rattle.std.specs.Prelude.{◌≡◌, ◌^◌, ◌-◌, [], ◌∷◌, pos, negsuc, true, false, codes, replicate, Some, None};
+ghost use Rattle.std.specs.Prelude.{◌≡◌, ◌^◌, ◌-◌, [], ◌∷◌, pos, negsuc, true, false, codes};
+ghost use Rattle.std.specs.Prelude.{replicate, Some, None};
 ghost use Rattle.ash_host.specs.declared.word.Word.{Word};
 ghost use Rattle.ash_host.specs.declared.event.Event.TheVariants.{Drew, Called, Dropped};
 ghost use Rattle.ash_host.specs.declared.event.Target.{Target};

@@ -28,7 +28,7 @@ pub fn refusal_changes_nothing<F>()
 
 /// An answer raises the sequence number by one, and every other reply leaves the state as it was.
 pub fn answers_are_counted<F>()
-    ensures { (embedding : Embedding F) (budget : ℕ) (request : Request)
+    ensures counted { (embedding : Embedding F) (budget : ℕ) (request : Request)
         (state : State) (hosts : Hosts) (one : Step F)
         → Steps embedding budget request state hosts one
         → CountsAnswers state one.reply one.state }
@@ -50,7 +50,7 @@ pub fn steps_are_determined<F>()
 
 /// Over requests each number is drawn at most once, and dropped at most once and only after it was drawn.
 pub fn numbers_live_once<F>()
-    ensures { (embedding : Embedding F) (budget : ℕ) (requests : List Request)
+    ensures once { (embedding : Embedding F) (budget : ℕ) (requests : List Request)
         (state : State) (hosts : Hosts) (history : History F)
         → Runs embedding budget requests state hosts history
         → AreNumbered state.last state.objects
@@ -60,7 +60,7 @@ pub fn numbers_live_once<F>()
 /// The states of host objects, of services and of free boxes stay no longer than they may be, where hosts answer what
 /// they may.
 pub fn host_states_fit<F, B: HostObject>()
-    ensures { (embedding : Embedding F) (budget : ℕ) (requests : List Request)
+    ensures fit { (embedding : Embedding F) (budget : ℕ) (requests : List Request)
         (state : State) (hosts : Hosts) (history : History F) (answerers : Answerers B)
         → Runs embedding budget requests state hosts history
         → AreNumbered state.last state.objects
@@ -70,7 +70,7 @@ pub fn host_states_fit<F, B: HostObject>()
 
 /// A step whose run is not aborted is the same within any larger budget.
 pub fn budget_suffices<F>()
-    ensures { (embedding : Embedding F) (budget more : ℕ) (request : Request)
+    ensures same { (embedding : Embedding F) (budget more : ℕ) (request : Request)
         (state : State) (hosts : Hosts) (one : Step F)
         → AreNumbered state.last state.objects
         → step embedding budget request state hosts ≡ Some one
@@ -80,7 +80,7 @@ pub fn budget_suffices<F>()
 
 /// The answers of hosts are taken in order, each at most once.
 pub fn answers_are_taken_in_order<F>()
-    ensures { (embedding : Embedding F) (budget : ℕ) (requests : List Request)
+    ensures in_order { (embedding : Embedding F) (budget : ℕ) (requests : List Request)
         (state : State) (hosts : Hosts) (history : History F)
         → Runs embedding budget requests state hosts history
         → AreNumbered state.last state.objects

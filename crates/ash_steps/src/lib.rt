@@ -3,7 +3,7 @@
 //! A state has the modules that are loaded, each with its globals, the objects, the states of the services, the
 //! last number that was given to an object, and how many requests have been answered. A request is refused for its
 //! first cause, which changes nothing, or does what it asks for, and raises that number where it is answered; or it is
-//! refused for a cause that is not in the state, as where memory runs out. The crate stands on the meaning of typed
+//! refused for a cause that is not in the state, as where memory runs out. The crate uses the meaning of typed
 //! trees, and leaves open how a source is read: its definitions take what the embedding program has registered, with
 //! the function that gives the typed tree of a source, or its first fault. They are in `specs/`, in reading order:
 //! `States`, `Requests`, `Tasks` (the refusals of each request, in order), `Steps` (what is done, and runs over

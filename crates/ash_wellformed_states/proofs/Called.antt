@@ -18,7 +18,7 @@ use Rattle.ash_wellformed.proofs.Calls.{contains_map}
 use Rattle.ash_wellformed.proofs.Entries.{found_in}
 use Rattle.ash_wellformed.proofs.Ends.{runs_keep}
 use Rattle.ash_wellformed.proofs.Modules.{more_modules_keep}
-use Rattle.ash_steps.specs.States.{Loaded, State, Hosts, Embedding, has_name, find_module, globals_of, without_module, update_globals, world_of, state_after}
+use Rattle.ash_steps.specs.States.{LoadedModule, State, Hosts, Embedding, has_name, find_module, globals_of, without_module, update_globals, world_of, state_after}
 use Rattle.ash_steps.specs.Steps.{hosts_left}
 use Rattle.ash_steps.specs.Tasks.{is_module_name, max_seq, tree_in, tree_of}
 use Rattle.ash_steps.specs.Premises.{ReadsSound}
@@ -28,39 +28,39 @@ use Rattle.ash_wellformed_states.proofs.Ascending.{found_by_name, ascend_map}
 use Rattle.ash_wellformed_states.proofs.Left.{root_cases, hosts_after, begun, state_well, keeps_loaded, known_some}
 
 -- a module with other globals where it has the name
-abbrev pub changed : List ℕ → List Word → Loaded → Loaded
+abbrev pub changed : List ℕ → List Word → LoadedModule → LoadedModule
 changed name globals m = if has_name name m then record m { globals = globals } else m
 
 module _ (name : List ℕ) (globals : List Word) where
-  same_name_from : (m : Loaded) (b : Bool) → (if b then record m { globals = globals } else m).name ≡ m.name
+  same_name_from : (m : LoadedModule) (b : Bool) → (if b then record m { globals = globals } else m).name ≡ m.name
   same_name_from m true = refl
   same_name_from m false = refl
 
-  same_name : (m : Loaded) → (changed name globals m).name ≡ m.name
+  same_name : (m : LoadedModule) → (changed name globals m).name ≡ m.name
   same_name m = same_name_from m (has_name name m)
 
-  same_source_from : (m : Loaded) (b : Bool) → (if b then record m { globals = globals } else m).source ≡ m.source
+  same_source_from : (m : LoadedModule) (b : Bool) → (if b then record m { globals = globals } else m).source ≡ m.source
   same_source_from m true = refl
   same_source_from m false = refl
 
-  same_source : (m : Loaded) → (changed name globals m).source ≡ m.source
+  same_source : (m : LoadedModule) → (changed name globals m).source ≡ m.source
   same_source m = same_source_from m (has_name name m)
 
-  changed_where : (m : Loaded) → has_name name m ≡ true → changed name globals m ≡ record m { globals = globals }
+  changed_where : (m : LoadedModule) → has_name name m ≡ true → changed name globals m ≡ record m { globals = globals }
   changed_where m e = ap (λ (b : Bool). if b then record m { globals = globals } else m) e
 
-  unchanged_where : (m : Loaded) → has_name name m ≡ false → changed name globals m ≡ m
+  unchanged_where : (m : LoadedModule) → has_name name m ≡ false → changed name globals m ≡ m
   unchanged_where m e = ap (λ (b : Bool). if b then record m { globals = globals } else m) e
 
-  still_named : (key : List ℕ) (m : Loaded) → has_name key (changed name globals m) ≡ has_name key m
+  still_named : (key : List ℕ) (m : LoadedModule) → has_name key (changed name globals m) ≡ has_name key m
   still_named key m = ap (λ (n : List ℕ). bytes_eq n key) (same_name m)
 
   module _ {Fault : Type 0} (embedding : Embedding Fault) where
-    tree_same : (o : Option Loaded) → option_and_then (tree_of embedding) (option_map (changed name globals) o) ≡ option_and_then (tree_of embedding) o
+    tree_same : (o : Option LoadedModule) → option_and_then (tree_of embedding) (option_map (changed name globals) o) ≡ option_and_then (tree_of embedding) o
     tree_same None = refl
     tree_same (Some m) = ap (λ (s : List ℕ). tree_in (embedding.read s)) (same_source m)
 
-    known_same : (ms : List Loaded) (key : List ℕ) → known_of embedding (map (changed name globals) ms) key ≡ known_of embedding ms key
+    known_same : (ms : List LoadedModule) (key : List ℕ) → known_of embedding (map (changed name globals) ms) key ≡ known_of embedding ms key
     known_same ms key = ap (option_and_then (tree_of embedding)) (find_map (has_name key) (changed name globals) (still_named key) ms) ∙ tree_same (find (has_name key) ms)
 
 not_false : (b : Bool) → b ≡ false → not b ≡ true
@@ -71,8 +71,8 @@ false_of : (b : Bool) → not b ≡ true → b ≡ false
 false_of true e = absurd (cc)
 false_of false e = refl
 
-module _ {Fault : Type 0} (embedding : Embedding Fault) (host : Host) (sound : ReadsSound host embedding) (s : State) (hosts : Hosts) (h : IsWellFormedState embedding host s) (hs : AreHosts hosts) (m : Loaded) (tree : Module) (found : find_module m.name s ≡ Some m) (is : embedding.read m.source ≡ Ok tree) where
-  abbrev others : List Loaded
+module _ {Fault : Type 0} (embedding : Embedding Fault) (host : Host) (sound : ReadsSound host embedding) (s : State) (hosts : Hosts) (h : IsWellFormedState embedding host s) (hs : AreHosts hosts) (m : LoadedModule) (tree : Module) (found : find_module m.name s ≡ Some m) (is : embedding.read m.source ≡ Ok tree) where
+  abbrev others : List LoadedModule
   others = without_module m.name s.modules
 
   abbrev before : World
@@ -97,37 +97,37 @@ module _ {Fault : Type 0} (embedding : Embedding Fault) (host : Host) (sound : R
       same_tree one other e = cc
 
   pub world_before : IsWorld c before
-  world_before = begun embedding c s hosts m.globals others h hs (λ x i. (from_filter (λ (y : Loaded). not (has_name m.name y)) s.modules x i).0) h.living own_values
+  world_before = begun embedding c s hosts m.globals others h hs (λ x i. (from_filter (λ (y : LoadedModule). not (has_name m.name y)) s.modules x i).0) h.living own_values
 
   -- the only module of its name
-  only : (x : Loaded) → Contains s.modules x → has_name m.name x ≡ true → x ≡ m
+  only : (x : LoadedModule) → Contains s.modules x → has_name m.name x ≡ true → x ≡ m
   only x i e =
       let named = found_by_name s.modules h.ascending x i in
       same_Some x m (sym named ∙ ap (λ (n : List ℕ). find (has_name n) s.modules) (name_says m.name x e) ∙ found)
 
   module _ (left : s.seq < max_seq) (w : World) (settled : IsSettled c w) where
-    abbrev f : Loaded → Loaded
+    abbrev f : LoadedModule → LoadedModule
     f = changed m.name w.globals
 
-    loaded_from : (x : Loaded) → Contains s.modules x → (b : Bool) → has_name m.name x ≡ b → IsLoaded embedding w.objects (f x)
+    loaded_from : (x : LoadedModule) → Contains s.modules x → (b : Bool) → has_name m.name x ≡ b → IsLoaded embedding w.objects (f x)
     loaded_from x i true e =
         let one : x ≡ m = only x i e in
-        subst (IsLoaded embedding w.objects) (sym (changed_where m.name w.globals x e)) (subst (λ (y : Loaded). IsLoaded embedding w.objects (record y { globals = w.globals })) (sym one) (record { tree = tree; is = is; values = (settled.world).globals }))
+        subst (IsLoaded embedding w.objects) (sym (changed_where m.name w.globals x e)) (subst (λ (y : LoadedModule). IsLoaded embedding w.objects (record y { globals = w.globals })) (sym one) (record { tree = tree; is = is; values = (settled.world).globals }))
     loaded_from x i false e =
         subst (IsLoaded embedding w.objects) (sym (unchanged_where m.name w.globals x e))
-        (keeps_loaded embedding c s before w others x h refl refl refl settled.since settled.world (in_filter (λ (y : Loaded). not (has_name m.name y)) s.modules x i (not_false (has_name m.name x) e)) (rec_of (IsLoaded embedding s.objects) s.modules h.loaded x i))
+        (keeps_loaded embedding c s before w others x h refl refl refl settled.since settled.world (in_filter (λ (y : LoadedModule). not (has_name m.name y)) s.modules x i (not_false (has_name m.name x) e)) (rec_of (IsLoaded embedding s.objects) s.modules h.loaded x i))
 
     from_outside : (n : ℕ) → Contains (handles (globals_of others)) n → Contains (handles (globals_of (map f s.modules))) n
     from_outside n i =
         let (x, at, inside) = from_globals others n i in
-        let (there, kept) = from_filter (λ (y : Loaded). not (has_name m.name y)) s.modules x at in
+        let (there, kept) = from_filter (λ (y : LoadedModule). not (has_name m.name y)) s.modules x at in
         let same : f x ≡ x = unchanged_where m.name w.globals x (false_of (has_name m.name x) kept) in
-        in_globals (map f s.modules) (f x) n (contains_map f s.modules x there) (subst (λ (y : Loaded). Contains (handles y.globals) n) (sym same) inside)
+        in_globals (map f s.modules) (f x) n (contains_map f s.modules x there) (subst (λ (y : LoadedModule). Contains (handles y.globals) n) (sym same) inside)
 
     from_own : (n : ℕ) → Contains (handles w.globals) n → Contains (handles (globals_of (map f s.modules))) n
     from_own n i =
         let same : f m ≡ record m { globals = w.globals } = changed_where m.name w.globals m (name_yes m.name m refl) in
-        in_globals (map f s.modules) (f m) n (contains_map f s.modules m is_loaded) (subst (λ (y : Loaded). Contains (handles y.globals) n) (sym same) i)
+        in_globals (map f s.modules) (f m) n (contains_map f s.modules m is_loaded) (subst (λ (y : LoadedModule). Contains (handles y.globals) n) (sym same) i)
 
     pub called_well : IsWellFormedState embedding host (state_after (update_globals m.name w.globals s.modules) w s)
     called_well = state_well embedding c s (map f s.modules) w settled

@@ -20,7 +20,7 @@ use Rattle.ash_wellformed.proofs.Integers.{zero_value}
 use Rattle.ash_wellformed.proofs.Entries.{found_passes, chained}
 use Rattle.ash_wellformed.proofs.Ends.{loads_keep}
 use Rattle.ash_wellformed.proofs.Modules.{more_modules_keep}
-use Rattle.ash_steps.specs.States.{Loaded, State, Hosts, Embedding, has_name, find_module, globals_of, with_module, without_module, world_of, state_after}
+use Rattle.ash_steps.specs.States.{LoadedModule, State, Hosts, Embedding, has_name, find_module, globals_of, with_module, without_module, world_of, state_after}
 use Rattle.ash_steps.specs.Steps.{hosts_left, without_globals}
 use Rattle.ash_steps.specs.Tasks.{is_module_name, max_modules, max_seq, tree_in, tree_of}
 use Rattle.ash_steps.specs.Premises.{ReadsSound}
@@ -41,22 +41,22 @@ module _ {Fault : Type 0} (embedding : Embedding Fault) (host : Host) (s : State
   -- discarded
 
   module _ (name : List ℕ) where
-    abbrev is_kept : Loaded → Bool
+    abbrev is_kept : LoadedModule → Bool
     is_kept m = not (has_name name m)
 
-    abbrev others : List Loaded
+    abbrev others : List LoadedModule
     others = without_module name s.modules
 
-    within : (m : Loaded) → Contains others m → Contains s.modules m
+    within : (m : LoadedModule) → Contains others m → Contains s.modules m
     within m i = (from_filter is_kept s.modules m i).0
 
-    kept_with : (x y : Loaded) → is_kept x ≡ true → y.name ≡ x.name → is_kept y ≡ true
+    kept_with : (x y : LoadedModule) → is_kept x ≡ true → y.name ≡ x.name → is_kept y ≡ true
     kept_with x y kept same = ap (λ (n : List ℕ). not (bytes_eq n name)) same ∙ kept
 
     knows_others : KnowsAll (known_of embedding others) (known_of embedding s.modules)
     knows_others key tree e =
         let (m, found, is) = chained (tree_of embedding) (find (has_name key) others) tree e in
-        let kept = (found_passes (λ (x : Loaded). is_kept x ≡ true) (has_name key) others m found (rec_from (λ (x : Loaded). is_kept x ≡ true) others (λ x i. (from_filter is_kept s.modules x i).1))).1 in
+        let kept = (found_passes (λ (x : LoadedModule). is_kept x ≡ true) (has_name key) others m found (rec_from (λ (x : LoadedModule). is_kept x ≡ true) others (λ x i. (from_filter is_kept s.modules x i).1))).1 in
         let same : m.name ≡ key = found_name key others m found in
         ap (option_and_then (tree_of embedding)) (sym (find_filter (has_name key) is_kept (λ x e. kept_with m x kept (name_says key x e ∙ sym same)) s.modules)) ∙ e
 
@@ -73,10 +73,10 @@ module _ {Fault : Type 0} (embedding : Embedding Fault) (host : Host) (s : State
   -- loaded
 
   module _ (sound : ReadsSound host embedding) (name source : List ℕ) (tree : Module) (good : is_module_name name ≡ true) (is : embedding.read source ≡ Ok tree) (free : find_module name s ≡ None) (few : length s.modules < max_modules) where
-    abbrev loaded_with : List Word → Loaded
+    abbrev loaded_with : List Word → LoadedModule
     loaded_with globals = record { name = name; source = source; globals = globals }
 
-    abbrev after_with : List Word → List Loaded
+    abbrev after_with : List Word → List LoadedModule
     after_with globals = with_module (loaded_with globals) s.modules
 
     abbrev before : World

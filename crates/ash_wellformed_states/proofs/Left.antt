@@ -16,7 +16,7 @@ use Rattle.ash_wellformed.specs.Laws.{IsSettled, KnowsAll, IsKnownShape}
 use Rattle.ash_wellformed.proofs.Values.{none_in, values_live}
 use Rattle.ash_wellformed.proofs.Ends.{settled}
 use Rattle.ash_wellformed.proofs.Modules.{fewer_modules_keep, values_are_of_their_module, values_keep_their_types}
-use Rattle.ash_steps.specs.States.{Loaded, State, Hosts, Embedding, has_name, globals_of, world_of, state_after}
+use Rattle.ash_steps.specs.States.{LoadedModule, State, Hosts, Embedding, has_name, globals_of, world_of, state_after}
 use Rattle.ash_steps.specs.Steps.{hosts_left}
 use Rattle.ash_steps.specs.Tasks.{max_modules, max_seq, tree_in, tree_of}
 use Rattle.ash_wellformed_states.specs.WellFormedStates.{AreHosts, Ascend, HasValidName, known_of, IsLoaded, IsWellFormedState}
@@ -44,7 +44,7 @@ hosts_after s = hosts_kept s.world
 
 module _ {Fault : Type 0} (embedding : Embedding Fault) where
   -- what the globals of modules refer to lives
-  pub globals_live : {host : Host} (s : State) → IsWellFormedState embedding host s → (ms : List Loaded) → ((m : Loaded) → Contains ms m → Contains s.modules m) → AllLive s.objects (handles (globals_of ms))
+  pub globals_live : {host : Host} (s : State) → IsWellFormedState embedding host s → (ms : List LoadedModule) → ((m : LoadedModule) → Contains ms m → Contains s.modules m) → AllLive s.objects (handles (globals_of ms))
   globals_live s h ms within = record {
     each = λ n i.
         let (m, at, inside) = from_globals ms n i in
@@ -52,7 +52,7 @@ module _ {Fault : Type 0} (embedding : Embedding Fault) where
   }
 
   -- the world in which a run begins
-  pub begun : (c : Context) (s : State) (hosts : Hosts) (globals : List _) (ms : List Loaded) → IsWellFormedState embedding c.host s → AreHosts hosts → ((m : Loaded) → Contains ms m → Contains s.modules m) → AreObjects c.modules s.objects → AreValues c.program s.objects (types_of_globals ((c.program).tree).globals) globals → IsWorld c (world_of globals ms s hosts)
+  pub begun : (c : Context) (s : State) (hosts : Hosts) (globals : List _) (ms : List LoadedModule) → IsWellFormedState embedding c.host s → AreHosts hosts → ((m : LoadedModule) → Contains ms m → Contains s.modules m) → AreObjects c.modules s.objects → AreValues c.program s.objects (types_of_globals ((c.program).tree).globals) globals → IsWorld c (world_of globals ms s hosts)
   begun c s hosts globals ms h hs within living values = record {
     numbered = h.numbered;
     last = h.last;
@@ -65,7 +65,7 @@ module _ {Fault : Type 0} (embedding : Embedding Fault) where
   }
 
   -- the state that a run leaves
-  pub state_well : (c : Context) (s : State) (ms : List Loaded) (w : World) → IsSettled c w → Ascend ms → AllByRecursion HasValidName ms → length ms ≤ max_modules → AllByRecursion (IsLoaded embedding w.objects) ms → AreObjects (known_of embedding ms) w.objects → s.seq < max_seq → ((n : ℕ) → Contains (roots [] w) n → Contains (handles (globals_of ms)) n) → IsWellFormedState embedding c.host (state_after ms w s)
+  pub state_well : (c : Context) (s : State) (ms : List LoadedModule) (w : World) → IsSettled c w → Ascend ms → AllByRecursion HasValidName ms → length ms ≤ max_modules → AllByRecursion (IsLoaded embedding w.objects) ms → AreObjects (known_of embedding ms) w.objects → s.seq < max_seq → ((n : ℕ) → Contains (roots [] w) n → Contains (handles (globals_of ms)) n) → IsWellFormedState embedding c.host (state_after ms w s)
   state_well c s ms w settled ascending valid few loaded living left roots_in = record {
     ascending = ascending;
     valid = valid;
@@ -82,7 +82,7 @@ module _ {Fault : Type 0} (embedding : Embedding Fault) where
   }
 
   -- a module that does not run is as it was
-  pub keeps_loaded : (c : Context) (s : State) (before w : World) (ms : List Loaded) (m : Loaded) → IsWellFormedState embedding c.host s → before.objects ≡ s.objects → before.last ≡ s.last → before.outside ≡ handles (globals_of ms) → Follows before w → IsWorld c w → Contains ms m → IsLoaded embedding s.objects m → IsLoaded embedding w.objects m
+  pub keeps_loaded : (c : Context) (s : State) (before w : World) (ms : List LoadedModule) (m : LoadedModule) → IsWellFormedState embedding c.host s → before.objects ≡ s.objects → before.last ≡ s.last → before.outside ≡ handles (globals_of ms) → Follows before w → IsWorld c w → Contains ms m → IsLoaded embedding s.objects m → IsLoaded embedding w.objects m
   keeps_loaded c s before w ms m h objects last outside follows world at l = record {
     tree = l.tree;
     is = l.is;
@@ -103,7 +103,7 @@ module _ {Fault : Type 0} (embedding : Embedding Fault) where
       live = record { each = λ n i. (world.outside).each n (subst (λ (ns : List ℕ). Contains ns n) (sym (follows.outside ∙ outside)) (in_globals ms m n at i)) }
 
   -- a module is known where it is loaded
-  pub known_some : (ms : List Loaded) (m : Loaded) (tree : Module) → find (has_name m.name) ms ≡ Some m → embedding.read m.source ≡ Ok tree → known_of embedding ms m.name ≡ Some tree
+  pub known_some : (ms : List LoadedModule) (m : LoadedModule) (tree : Module) → find (has_name m.name) ms ≡ Some m → embedding.read m.source ≡ Ok tree → known_of embedding ms m.name ≡ Some tree
   known_some ms m tree found is = ap (option_and_then (tree_of embedding)) found ∙ ap tree_in is
 
   some_is : {A : Type 0} (o : Option A) (x : A) → o ≡ Some x → IsSome o
@@ -111,7 +111,7 @@ module _ {Fault : Type 0} (embedding : Embedding Fault) where
   some_is (Some y) x e = refl
 
   -- Without a module: the objects that the others lead to are well-formed without it.
-  pub removed : (c : Context) (s : State) (ms : List Loaded) (w : World) → IsWellFormedState embedding c.host s → IsWorld c w → Follows c.began w → (c.began).objects ≡ s.objects → (c.began).last ≡ s.last → (c.began).outside ≡ handles (globals_of ms) → w.globals ≡ [] → ((m : Loaded) → Contains ms m → Contains s.modules m) → Ascend ms → AllByRecursion HasValidName ms → length ms ≤ max_modules → KnowsAll (known_of embedding ms) c.modules → s.seq < max_seq → IsWellFormedState embedding c.host (state_after ms (sweep [] w) s) × AreHosts (hosts_left (sweep [] w))
+  pub removed : (c : Context) (s : State) (ms : List LoadedModule) (w : World) → IsWellFormedState embedding c.host s → IsWorld c w → Follows c.began w → (c.began).objects ≡ s.objects → (c.began).last ≡ s.last → (c.began).outside ≡ handles (globals_of ms) → w.globals ≡ [] → ((m : LoadedModule) → Contains ms m → Contains s.modules m) → Ascend ms → AllByRecursion HasValidName ms → length ms ≤ max_modules → KnowsAll (known_of embedding ms) c.modules → s.seq < max_seq → IsWellFormedState embedding c.host (state_after ms (sweep [] w) s) × AreHosts (hosts_left (sweep [] w))
   removed c s ms w h world since objects last outside none within ascending valid few knows left =
       (state_well c s ms (sweep [] w) after ascending valid few loaded living left roots_in, hosts_after after)
     where
@@ -123,7 +123,7 @@ module _ {Fault : Type 0} (embedding : Embedding Fault) where
           (λ one. subst (λ (ns : List ℕ). Contains ns n) ((after.since).outside ∙ outside) one)
           (λ other. absurd (none_in n (subst (λ (ws : List _). Contains (handles ws) n) (swept_none w none) other))) i
 
-      loaded_at : (m : Loaded) → Contains ms m → IsLoaded embedding (sweep [] w).objects m
+      loaded_at : (m : LoadedModule) → Contains ms m → IsLoaded embedding (sweep [] w).objects m
       loaded_at m at = keeps_loaded c s c.began (sweep [] w) ms m h objects last outside after.since after.world at (rec_of (IsLoaded embedding s.objects) s.modules h.loaded m (within m at))
 
       loaded : AllByRecursion (IsLoaded embedding (sweep [] w).objects) ms

@@ -6,7 +6,7 @@ use Rattle.std.specs.Ordering.{is_lt}
 use Rattle.std.proofs.lemmas.List.Elements.{All-from_recursion, All-contains, Contains-append_left, Contains-append_right, Contains-append_cases, filter_map-append}
 use Rattle.ash_host.specs.Objects.{handle, handles}
 use Rattle.ash_host.proofs.RecordLaws.{bytes_decide}
-use Rattle.ash_steps.specs.States.{Loaded, compare_names, has_name, with_module, globals_of}
+use Rattle.ash_steps.specs.States.{LoadedModule, compare_names, has_name, with_module, globals_of}
 use Rattle.ash_wellformed.proofs.Values.{first_in, later_in, none_in}
 use Rattle.ash_wellformed.proofs.Entries.{found_passes}
 
@@ -79,73 +79,73 @@ module _ {A : Type 0} where
 
 -- names
 
-pub name_says : (name : List ℕ) (m : Loaded) → has_name name m ≡ true → m.name ≡ name
+pub name_says : (name : List ℕ) (m : LoadedModule) → has_name name m ≡ true → m.name ≡ name
 name_says name m e = (bytes_decide m.name name).0 e
 
-pub name_yes : (name : List ℕ) (m : Loaded) → m.name ≡ name → has_name name m ≡ true
+pub name_yes : (name : List ℕ) (m : LoadedModule) → m.name ≡ name → has_name name m ≡ true
 name_yes name m e = (bytes_decide m.name name).1 e
 
-pub found_name : (name : List ℕ) (ms : List Loaded) (m : Loaded) → find (has_name name) ms ≡ Some m → m.name ≡ name
-found_name name ms m e = name_says name m (found_passes (λ (x : Loaded). Unit {0}) (has_name name) ms m e (rec_from (λ (x : Loaded). Unit {0}) ms (λ x i. tt))).0
+pub found_name : (name : List ℕ) (ms : List LoadedModule) (m : LoadedModule) → find (has_name name) ms ≡ Some m → m.name ≡ name
+found_name name ms m e = name_says name m (found_passes (λ (x : LoadedModule). Unit {0}) (has_name name) ms m e (rec_from (λ (x : LoadedModule). Unit {0}) ms (λ x i. tt))).0
 
 -- one more module
 
-with_first : (new m : Loaded) (ms : List Loaded) (P : List Loaded → Type 0) → P (new ∷ m ∷ ms) → P (m ∷ with_module new ms) → P (with_module new (m ∷ ms))
+with_first : (new m : LoadedModule) (ms : List LoadedModule) (P : List LoadedModule → Type 0) → P (new ∷ m ∷ ms) → P (m ∷ with_module new ms) → P (with_module new (m ∷ ms))
 with_first new m ms P first later = elim (is_lt (compare_names new.name m.name)) as (λ b. P (if b then new ∷ m ∷ ms else m ∷ with_module new ms)) [ true ↦ first | false ↦ later ]
 
-later_find : (p : Loaded → Bool) (m : Loaded) (one other : List Loaded) → find p one ≡ find p other → find p (m ∷ one) ≡ find p (m ∷ other)
-later_find p m one other e = ap (λ (o : Option Loaded). cond (p m) (Some m) o) e
+later_find : (p : LoadedModule → Bool) (m : LoadedModule) (one other : List LoadedModule) → find p one ≡ find p other → find p (m ∷ one) ≡ find p (m ∷ other)
+later_find p m one other e = ap (λ (o : Option LoadedModule). cond (p m) (Some m) o) e
 
-pub find_with_other : (p : Loaded → Bool) (new : Loaded) (ms : List Loaded) → p new ≡ false → find p (with_module new ms) ≡ find p ms
+pub find_with_other : (p : LoadedModule → Bool) (new : LoadedModule) (ms : List LoadedModule) → p new ≡ false → find p (with_module new ms) ≡ find p ms
 find_with_other p new [] e = ap (λ (b : Bool). cond b (Some new) None) e
 find_with_other p new (m ∷ ms) e =
     with_first new m ms (λ all. find p all ≡ find p (m ∷ ms)) (ap (λ (b : Bool). cond b (Some new) (find p (m ∷ ms))) e) (later_find p m (with_module new ms) ms (find_with_other p new ms e))
 
-none_first : (p : Loaded → Bool) (m : Loaded) (b : Bool) (o : Option Loaded) → p m ≡ b → cond b (Some m) o ≡ None → (p m ≡ false) × (o ≡ None)
+none_first : (p : LoadedModule → Bool) (m : LoadedModule) (b : Bool) (o : Option LoadedModule) → p m ≡ b → cond b (Some m) o ≡ None → (p m ≡ false) × (o ≡ None)
 none_first p m true o is e = absurd (cc)
 none_first p m false o is e = (is, e)
 
-pub find_with_new : (p : Loaded → Bool) (new : Loaded) (ms : List Loaded) → p new ≡ true → find p ms ≡ None → find p (with_module new ms) ≡ Some new
+pub find_with_new : (p : LoadedModule → Bool) (new : LoadedModule) (ms : List LoadedModule) → p new ≡ true → find p ms ≡ None → find p (with_module new ms) ≡ Some new
 find_with_new p new [] passes none = ap (λ (b : Bool). cond b (Some new) None) passes
 find_with_new p new (m ∷ ms) passes none =
     let parts = none_first p m (p m) (find p ms) refl none in
     with_first new m ms (λ all. find p all ≡ Some new) (ap (λ (b : Bool). cond b (Some new) (find p (m ∷ ms))) passes)
     (ap (λ (b : Bool). cond b (Some m) (find p (with_module new ms))) parts.0 ∙ find_with_new p new ms passes parts.1)
 
-pub in_with_new : (new : Loaded) (ms : List Loaded) → Contains (with_module new ms) new
+pub in_with_new : (new : LoadedModule) (ms : List LoadedModule) → Contains (with_module new ms) new
 in_with_new new [] = first_in new []
 in_with_new new (m ∷ ms) = with_first new m ms (λ all. Contains all new) (first_in new (m ∷ ms)) (later_in m new (with_module new ms) (in_with_new new ms))
 
-later_in_with : (m x : Loaded) (ms all : List Loaded) → (Contains ms x → Contains all x) → Contains (m ∷ ms) x → Contains (m ∷ all) x
+later_in_with : (m x : LoadedModule) (ms all : List LoadedModule) → (Contains ms x → Contains all x) → Contains (m ∷ ms) x → Contains (m ∷ all) x
 later_in_with m x ms all more (zero, l, e) = (0, omega arith, e)
 later_in_with m x ms all more (suc k, l, e) = later_in m x all (more (k, omega arith, e))
 
-pub in_with_old : (new : Loaded) (ms : List Loaded) (x : Loaded) → Contains ms x → Contains (with_module new ms) x
+pub in_with_old : (new : LoadedModule) (ms : List LoadedModule) (x : LoadedModule) → Contains ms x → Contains (with_module new ms) x
 in_with_old new [] x i = absurd (none_in x i)
 in_with_old new (m ∷ ms) x i = with_first new m ms (λ all. Contains all x) (later_in new x (m ∷ ms) i) (later_in_with m x ms (with_module new ms) (λ more. in_with_old new ms x more) i)
 
-pub rec_with : (Q : Loaded → Type 0) (new : Loaded) (ms : List Loaded) → Q new → ((x : Loaded) → Contains ms x → Q x) → AllByRecursion Q (with_module new ms)
+pub rec_with : (Q : LoadedModule → Type 0) (new : LoadedModule) (ms : List LoadedModule) → Q new → ((x : LoadedModule) → Contains ms x → Q x) → AllByRecursion Q (with_module new ms)
 rec_with Q new [] q each = (q, tt)
 rec_with Q new (m ∷ ms) q each = with_first new m ms (λ all. AllByRecursion Q all) (q, (each m (first_in m ms), rec_from Q ms (λ x i. each x (later_in m x ms i)))) (each m (first_in m ms), rec_with Q new ms q (λ x i. each x (later_in m x ms i)))
 
-pub length-with : (new : Loaded) (ms : List Loaded) → length (with_module new ms) ≡ length ms + 1
+pub length-with : (new : LoadedModule) (ms : List LoadedModule) → length (with_module new ms) ≡ length ms + 1
 length-with new [] = refl
 length-with new (m ∷ ms) = with_first new m ms (λ all. length all ≡ length (m ∷ ms) + 1) (omega arith) (omega (arith, length-with new ms))
 
 -- what globals hold
 
-in_first : (m x : Loaded) (ms : List Loaded) (n : ℕ) → m ≡ x → Contains (handles x.globals) n → Contains (handles (m.globals ++ globals_of ms)) n
-in_first m x ms n e i = subst (λ (ns : List ℕ). Contains ns n) (sym (filter_map-append handle m.globals (globals_of ms))) (Contains-append_left (handles m.globals) (handles (globals_of ms)) n (subst (λ (y : Loaded). Contains (handles y.globals) n) (sym e) i))
+in_first : (m x : LoadedModule) (ms : List LoadedModule) (n : ℕ) → m ≡ x → Contains (handles x.globals) n → Contains (handles (m.globals ++ globals_of ms)) n
+in_first m x ms n e i = subst (λ (ns : List ℕ). Contains ns n) (sym (filter_map-append handle m.globals (globals_of ms))) (Contains-append_left (handles m.globals) (handles (globals_of ms)) n (subst (λ (y : LoadedModule). Contains (handles y.globals) n) (sym e) i))
 
-in_rest : (m : Loaded) (ms : List Loaded) (n : ℕ) → Contains (handles (globals_of ms)) n → Contains (handles (m.globals ++ globals_of ms)) n
+in_rest : (m : LoadedModule) (ms : List LoadedModule) (n : ℕ) → Contains (handles (globals_of ms)) n → Contains (handles (m.globals ++ globals_of ms)) n
 in_rest m ms n i = subst (λ (ns : List ℕ). Contains ns n) (sym (filter_map-append handle m.globals (globals_of ms))) (Contains-append_right (handles m.globals) (handles (globals_of ms)) n i)
 
-pub in_globals : (ms : List Loaded) (m : Loaded) (n : ℕ) → Contains ms m → Contains (handles m.globals) n → Contains (handles (globals_of ms)) n
+pub in_globals : (ms : List LoadedModule) (m : LoadedModule) (n : ℕ) → Contains ms m → Contains (handles m.globals) n → Contains (handles (globals_of ms)) n
 in_globals [] m n at i = absurd (none_in m at)
 in_globals (x ∷ ms) m n (zero, l, e) i = in_first x m ms n e i
 in_globals (x ∷ ms) m n (suc k, l, e) i = in_rest x ms n (in_globals ms m n (k, omega arith, e) i)
 
-pub from_globals : (ms : List Loaded) (n : ℕ) → Contains (handles (globals_of ms)) n → (m : Loaded) × Contains ms m × Contains (handles m.globals) n
+pub from_globals : (ms : List LoadedModule) (n : ℕ) → Contains (handles (globals_of ms)) n → (m : LoadedModule) × Contains ms m × Contains (handles m.globals) n
 from_globals [] n i = absurd (none_in n i)
 from_globals (x ∷ ms) n i =
     elim (Contains-append_cases (handles x.globals) (handles (globals_of ms)) n (subst (λ (ns : List ℕ). Contains ns n) (filter_map-append handle x.globals (globals_of ms)) i)) [

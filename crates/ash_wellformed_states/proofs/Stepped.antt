@@ -21,7 +21,7 @@ use Rattle.ash_steps.specs.declared.argument.Argument.{Argument}
 use Rattle.ash_steps.specs.declared.argument.Argument.TheVariants as arguments
 use Rattle.ash_steps.specs.States.{State, Hosts, Embedding, without_module, world_of}
 use Rattle.ash_steps.specs.Requests.{Refused, Value, ShownAs, Number, Done}
-use Rattle.ash_steps.specs.Tasks.{both, argument_of, arguments_of, Task, Initialize, Invoke, Remove, Read, Show, Count, Rewrite, TaskResult, task_of}
+use Rattle.ash_steps.specs.Tasks.{option_cons, argument_of, arguments_of, Task, Initialize, Invoke, Remove, Read, Show, Count, Rewrite, TaskResult, task_of}
 use Rattle.ash_steps.specs.Steps.{Step, replied, after_load_with, after_load, after_call, after_discard, perform, unless_refused, performed as was_performed, put_off, no_request, next_request}
 use Rattle.ash_steps.specs.Premises.{ReadsSound}
 use Rattle.ash_wellformed_states.specs.WellFormedStates.{AreHosts, IsWellFormedState, StepsKeep, RunsKeep}
@@ -43,7 +43,7 @@ argument_value (vars.Integer int_type) (arguments.Number z) w e = number_from in
 argument_value (vars.Object o) a w e = absurd (cc)
 argument_value (vars.Handle o) a w e = absurd (cc)
 
-both_some : (o : Option Word) (os : Option (List Word)) (ws : List Word) → both o os ≡ Some ws → (w : Word) × (rest : List Word) × (o ≡ Some w) × (os ≡ Some rest) × (w ∷ rest ≡ ws)
+both_some : (o : Option Word) (os : Option (List Word)) (ws : List Word) → option_cons o os ≡ Some ws → (w : Word) × (rest : List Word) × (o ≡ Some w) × (os ≡ Some rest) × (w ∷ rest ≡ ws)
 both_some (Some w) (Some rest) ws e = (w, rest, refl, refl, same_Some (w ∷ rest) ws e)
 both_some (Some w) None ws e = absurd (cc)
 both_some None os ws e = absurd (cc)

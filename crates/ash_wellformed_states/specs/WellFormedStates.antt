@@ -11,7 +11,7 @@ use Rattle.ash_typed.specs.Signatures.{Host, types_of_globals}
 use Rattle.ash_phrases.specs.Activity.{FreeBox}
 use Rattle.ash_phrases.specs.ObjectSteps.{max_objects, max_number}
 use Rattle.ash_wellformed.specs.WellFormed.{Known, AreValues, AreObjects, AreOffered, IsState, IsAnswer}
-use Rattle.ash_steps.specs.States.{Loaded, State, Hosts, Embedding, compare_names, has_name, globals_of}
+use Rattle.ash_steps.specs.States.{LoadedModule, State, Hosts, Embedding, compare_names, has_name, globals_of}
 use Rattle.ash_steps.specs.Requests.{Request}
 use Rattle.ash_steps.specs.Tasks.{is_module_name, max_modules, max_seq, tree_of}
 use Rattle.ash_steps.specs.Steps.{Step, Steps, History, Runs}
@@ -23,25 +23,25 @@ pub record AreHosts (h : Hosts) : Type 0 where
   pub answers : AllByRecursion (λ (r : HostRecord). IsState r.after × IsAnswer r.answer) h.answers
 
 -- the modules come after a name
-abbrev pub ComeAfter : List ℕ → List Loaded → Type 0
-ComeAfter name ms = AllByRecursion (λ (m : Loaded). compare_names name m.name ≡ Less) ms
+abbrev pub ComeAfter : List ℕ → List LoadedModule → Type 0
+ComeAfter name ms = AllByRecursion (λ (m : LoadedModule). compare_names name m.name ≡ Less) ms
 
 -- each module comes before all that follow it: names ascend, and no two are one
-abbrev pub Ascend : List Loaded → Type 0
+abbrev pub Ascend : List LoadedModule → Type 0
 Ascend [] = Unit {0}
 Ascend (m ∷ ms) = ComeAfter m.name ms × Ascend ms
 
 -- the name of a module is one that a module may have
-abbrev pub HasValidName : Loaded → Type 0
+abbrev pub HasValidName : LoadedModule → Type 0
 HasValidName m = is_module_name m.name ≡ true
 
 module _ {Fault : Type 0} (embedding : Embedding Fault) where
   -- the modules that are loaded, by name
-  abbrev pub known_of : List Loaded → Known
+  abbrev pub known_of : List LoadedModule → Known
   known_of ms name = option_and_then (tree_of embedding) (find (has_name name) ms)
 
   -- a module that is loaded: its source is read, and its globals are of their types
-  pub record IsLoaded (all : Objects (List ℕ)) (m : Loaded) : Type 0 where
+  pub record IsLoaded (all : Objects (List ℕ)) (m : LoadedModule) : Type 0 where
     pub tree : Module
     pub is : embedding.read m.source ≡ Ok tree
     pub values : AreValues (record { name = m.name; tree = tree }) all (types_of_globals tree.globals) m.globals

@@ -2,4 +2,4 @@ use Rattle.ash_phrases.proofs.Depth as depth
 use Rattle.ash_phrases.proofs.laws.depth_is_no_part.Goals as goal
 
 pub returns : goal.returns
-returns c = depth.depth_is_no_part
+returns c = record { same = depth.depth_is_no_part }

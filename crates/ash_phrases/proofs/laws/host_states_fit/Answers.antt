@@ -2,4 +2,4 @@ use Rattle.ash_phrases.proofs.Fits as fits
 use Rattle.ash_phrases.proofs.laws.host_states_fit.Goals as goal
 
 pub returns : goal.returns
-returns g c = fits.host_states_fit _
+returns g c = record { fit = fits.host_states_fit _ }

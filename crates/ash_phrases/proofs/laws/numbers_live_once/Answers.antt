@@ -2,4 +2,4 @@ use Rattle.ash_phrases.proofs.Numbers as numbers
 use Rattle.ash_phrases.proofs.laws.numbers_live_once.Goals as goal
 
 pub returns : goal.returns
-returns c = λ first last t numbered. numbers.along t numbered
+returns c = record { once = λ first last t numbered. numbers.along t numbered }

@@ -2,4 +2,4 @@ use Rattle.ash_phrases.proofs.Ticks as ticks
 use Rattle.ash_phrases.proofs.laws.ticks_fall.Goals as goal
 
 pub returns : goal.returns
-returns c = ticks.ticks_fall
+returns c = record { fall = ticks.ticks_fall }

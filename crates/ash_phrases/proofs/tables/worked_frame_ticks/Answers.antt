@@ -4,4 +4,4 @@ use Rattle.ash_phrases.proofs.tables.worked_frame_ticks.Goals as goal
 
 pub returns : goal.returns
 unfolding computing
-returns c = refl
+returns c = record { functions_and_lines = refl }

@@ -2,4 +2,4 @@ use Rattle.ash_steps.proofs.Taken as lemmas
 use Rattle.ash_steps.proofs.laws.answers_are_taken_in_order.Goals as goal
 
 pub returns : goal.returns
-returns g c = lemmas.runs_take
+returns g c = record { in_order = lemmas.runs_take }
