@@ -2,7 +2,7 @@
 
 use crate::checks::check;
 use crate::fuses::{Failing, fuses};
-use ash_disk::{FuseDisk, MemoryDisk, Survives};
+use ash_disk::{FailingDisk, MemoryDisk, Survives};
 use ash_durable::{Host, OpenRefused, StoreFault};
 use ash_meaning::refusal::Refusal;
 use ash_registry::Registry;
@@ -88,7 +88,7 @@ impl Plan {
     }
 }
 
-type Fused = FuseDisk<MemoryDisk>;
+type Fused = FailingDisk<MemoryDisk>;
 
 /// Where a plan was stopped: how many parts of it were acknowledged, and the disks.
 #[derive(Drop)]
@@ -153,8 +153,8 @@ pub(crate) fn handle_plan(
     disks: (MemoryDisk, MemoryDisk),
     calls: (u64, u64),
 ) -> Result<Stopped, Fail> {
-    let first = FuseDisk::new(disks.0, calls.0);
-    let second = FuseDisk::new(disks.1, calls.1);
+    let first = FailingDisk::new(disks.0, calls.0);
+    let second = FailingDisk::new(disks.1, calls.1);
     let begun = if plan.is_new {
         made(alloc, first, second)
     } else {

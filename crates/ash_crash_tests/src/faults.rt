@@ -2,7 +2,7 @@
 
 use crate::checks::{check, check_bytes, check_text};
 use crate::fuses::{Failing, fuses};
-use ash_disk::{FuseDisk, MemoryDisk, Survives};
+use ash_disk::{FailingDisk, MemoryDisk, Survives};
 use ash_durable::{Host, StoreFault};
 use ash_host::Word;
 use ash_meaning::refusal::Refusal;
@@ -100,7 +100,11 @@ fn files_that_are_open(rt: HostRuntime) -> Result<(), Fail> {
 }
 
 /// A host with a new store on disks that fail after so many calls.
-fn fused(alloc: Global, first: u64, second: u64) -> Result<Host<FuseDisk<MemoryDisk>>, StoreFault> {
+fn fused(
+    alloc: Global,
+    first: u64,
+    second: u64,
+) -> Result<Host<FailingDisk<MemoryDisk>>, StoreFault> {
     let (first, second) = (fuse(alloc, first), fuse(alloc, second));
     created(alloc, first, second, Registry::new(alloc))
 }
@@ -276,14 +280,14 @@ fn requests_after_a_failure(rt: HostRuntime) -> Result<(), Fail> {
 }
 
 /// How many of two requests a host answers, and its number after them.
-fn answers(host: &mut Host<FuseDisk<MemoryDisk>>) -> (u64, u64) {
+fn answers(host: &mut Host<FailingDisk<MemoryDisk>>) -> (u64, u64) {
     let loaded = load(host, SOURCE).is_ok();
     let called = call(host, &[Argument::Number(5)]).is_ok();
     (u64::from(loaded) + u64::from(called), seq(host))
 }
 
 /// What opening the store of a host again gives: its number, or why there is no host.
-fn number_again(alloc: Global, host: Host<FuseDisk<MemoryDisk>>) -> Result<u64, StoreFault> {
+fn number_again(alloc: Global, host: Host<FailingDisk<MemoryDisk>>) -> Result<u64, StoreFault> {
     let (first, second) = closed(host);
     opened(alloc, first, second, Registry::new(alloc)).map(|host| seq(&host))
 }

@@ -6,7 +6,7 @@ use Rattle.std.proofs.lemmas.List.{take_all, take_more, take-append-le, reverse-
 use Rattle.std.proofs.lemmas.Bool.{cases_lt}
 use Rattle.ash_disk.specs.Image.{after_write, Torn, TornFrom, torn_not}
 use Rattle.ash_disk.specs.Calls.{file_after, synced_after, MayLeave, file_may_stay}
-use Rattle.ash_disk.specs.Moments.{During}
+use Rattle.ash_disk.specs.Moments.{HoldsDuring}
 use Rattle.ash_disk.specs.declared.call.Call.{Call}
 use Rattle.ash_disk.specs.declared.call.Call.TheVariants.{Write, Sync}
 use Rattle.ash_disk.proofs.MomentLaws.{at_start}
@@ -26,7 +26,7 @@ reverse_pushed calls call = reverse-append calls (call ∷ [])
 pushed : (first : List ℕ) (calls : List Call) (call : Call) (P : List ℕ → Type 0)
     → ((image : List ℕ) → MayLeave first (reverse calls) image → P image)
     → ((image : List ℕ) → MayLeave first (call ∷ reverse calls) image → P image)
-    → During (length calls) (length (calls ++ call ∷ [])) (Leaves first calls) (Leaves first (calls ++ call ∷ [])) P
+    → HoldsDuring (length calls) (length (calls ++ call ∷ [])) (Leaves first calls) (Leaves first (calls ++ call ∷ [])) P
 pushed first calls call P before after = record {
   later = omega (arith, length-append calls (call ∷ []));
   kept = λ time image past left. subst (λ (l : List Call). MayLeave first (reverse l) image)
@@ -48,47 +48,47 @@ pushed first calls call P before after = record {
 
 unpushed : (first : List ℕ) (calls : List Call) (P : List ℕ → Type 0)
     → ((image : List ℕ) → MayLeave first (reverse calls) image → P image)
-    → During (length calls) (length calls) (Leaves first calls) (Leaves first calls) P
+    → HoldsDuring (length calls) (length calls) (Leaves first calls) (Leaves first calls) P
 unpushed first calls P here =
     at_start (length calls) (Leaves first calls) P
     (λ image left. here image
     (subst (λ (l : List Call). MayLeave first (reverse l) image) (take_all (length calls) calls (omega arith)) left))
 
--- all calls are kept
+-- all calls are recorded
 whole : (first : List ℕ) (calls : List Call) (image : List ℕ) → MayLeave first (reverse calls) image
     → Leaves first calls (length calls) image
 whole first calls image left =
     subst (λ (l : List Call). MayLeave first (reverse l) image) (sym (take_all (length calls) calls (omega arith))) left
 
--- a sync that is kept, or finds no memory
+-- a sync that is recorded, or finds no memory
 pub during_sync : (first : List ℕ) (calls later : List Call) (done : Bool)
     → later ≡ cond done (calls ++ Sync ∷ []) calls
-    → During (length calls) (length later) (Leaves first calls) (Leaves first later) (Leaves first calls (length calls))
+    → HoldsDuring (length calls) (length later) (Leaves first calls) (Leaves first later) (Leaves first calls (length calls))
 during_sync first calls later true is =
-    subst (λ (l : List Call). During (length calls) (length l) (Leaves first calls) (Leaves first l)
+    subst (λ (l : List Call). HoldsDuring (length calls) (length l) (Leaves first calls) (Leaves first l)
     (Leaves first calls (length calls))) (sym is)
     (pushed first calls Sync (Leaves first calls (length calls)) (whole first calls)
     (λ image synced. whole first calls image
     (subst (MayLeave first (reverse calls)) (sym synced) (file_may_stay first (reverse calls)))))
 during_sync first calls later false is =
-    subst (λ (l : List Call). During (length calls) (length l) (Leaves first calls) (Leaves first l)
+    subst (λ (l : List Call). HoldsDuring (length calls) (length l) (Leaves first calls) (Leaves first l)
     (Leaves first calls (length calls))) (sym is)
     (unpushed first calls (Leaves first calls (length calls)) (whole first calls))
 
--- a write that is kept, or finds no memory
+-- a write that is recorded, or finds no memory
 pub during_write : {T E : Type 0} (first : List ℕ) (calls later : List Call) (at : ℕ) (bytes : List ℕ) (r : Result T E)
     → OnOk r ((v : Vec ℕ Global) × (v.items ≡ bytes) × (later ≡ calls ++ Write at v ∷ [])) → OnErr r (later ≡ calls)
-    → During (length calls) (length later) (Leaves first calls) (Leaves first later)
+    → HoldsDuring (length calls) (length later) (Leaves first calls) (Leaves first later)
     (TornFrom at (length bytes) (Leaves first calls (length calls)))
 during_write first calls later at bytes (Ok x) kept none =
-    subst (λ (l : List Call). During (length calls) (length l) (Leaves first calls) (Leaves first l)
+    subst (λ (l : List Call). HoldsDuring (length calls) (length l) (Leaves first calls) (Leaves first l)
     (TornFrom at (length bytes) (Leaves first calls (length calls)))) (sym kept.2)
     (pushed first calls (Write at kept.0) (TornFrom at (length bytes) (Leaves first calls (length calls)))
     (λ image left. (image, whole first calls image left, torn_not at (length bytes) image))
     (λ image left.
     (left.0, whole first calls left.0 left.1, subst (λ (l : List ℕ). Torn at (length l) left.0 image) kept.1 left.2)))
 during_write first calls later at bytes (Err e) kept none =
-    subst (λ (l : List Call). During (length calls) (length l) (Leaves first calls) (Leaves first l)
+    subst (λ (l : List Call). HoldsDuring (length calls) (length l) (Leaves first calls) (Leaves first l)
     (TornFrom at (length bytes) (Leaves first calls (length calls)))) (sym none)
     (unpushed first calls (TornFrom at (length bytes) (Leaves first calls (length calls)))
     (λ image left. (image, whole first calls image left, torn_not at (length bytes) image)))

@@ -1,11 +1,11 @@
 -- How what a crash may leave goes on from call to call.
 use Rattle.std.proofs.Common.{◌≡◌, ◌⊎◌, inl, inr, ℕ, ◌≤◌, List, subst, arith}
 use Rattle.std.proofs.lemmas.Bool.{cases_lt}
-use Rattle.ash_disk.specs.Moments.{During, LeftSince, EveryMoment}
+use Rattle.ash_disk.specs.Moments.{HoldsDuring, LeftSince, EveryMoment}
 
 -- Before the first call there is one moment, now.
 pub at_start : (now : ℕ) (leaves : ℕ → List ℕ → Type 0) (P : List ℕ → Type 0)
-    → ((image : List ℕ) → leaves now image → P image) → During now now leaves leaves P
+    → ((image : List ℕ) → leaves now image → P image) → HoldsDuring now now leaves leaves P
 at_start now leaves P here = record {
   later = omega arith;
   kept = λ time image past left. left;
@@ -17,7 +17,7 @@ at_start now leaves P here = record {
 
 -- One call more.
 pub goes_on : (start middle end : ℕ) (before between after : ℕ → List ℕ → Type 0) (P : List ℕ → Type 0)
-    → During start middle before between P → During middle end between after P → During start end before after P
+    → HoldsDuring start middle before between P → HoldsDuring middle end between after P → HoldsDuring start end before after P
 goes_on start middle end before between after P so_far call = record {
   later = omega (arith, so_far.later, call.later);
   kept = λ time image past left. call.kept time image (omega (arith, so_far.later)) (so_far.kept time image past left);
@@ -31,7 +31,7 @@ goes_on start middle end before between after P so_far call = record {
 
 -- What all images have, and what follows from it.
 pub weaker : (start end : ℕ) (before after : ℕ → List ℕ → Type 0) (P Q : List ℕ → Type 0)
-    → ((image : List ℕ) → P image → Q image) → During start end before after P → During start end before after Q
+    → ((image : List ℕ) → P image → Q image) → HoldsDuring start end before after P → HoldsDuring start end before after Q
 weaker start end before after P Q so call = record {
   later = call.later;
   kept = call.kept;
@@ -41,8 +41,8 @@ weaker start end before after P Q so call = record {
 
 -- One call more, after which images may have something else.
 pub goes_on_either : (start middle end : ℕ) (before between after : ℕ → List ℕ → Type 0) (P Q : List ℕ → Type 0)
-    → During start middle before between P → During middle end between after Q
-    → During start end before after (λ image. P image ⊎ Q image)
+    → HoldsDuring start middle before between P → HoldsDuring middle end between after Q
+    → HoldsDuring start end before after (λ image. P image ⊎ Q image)
 goes_on_either start middle end before between after P Q so_far call =
     goes_on start middle end before between after (λ image. P image ⊎ Q image)
     (weaker start middle before between P (λ image. P image ⊎ Q image) (λ image p. inl p) so_far)
@@ -50,12 +50,12 @@ goes_on_either start middle end before between after P Q so_far call =
 
 -- What a crash now may leave, at the end of the calls.
 pub at_end : (start end : ℕ) (before after : ℕ → List ℕ → Type 0) (P : List ℕ → Type 0)
-    → During start end before after P → (image : List ℕ) → after end image → P image
+    → HoldsDuring start end before after P → (image : List ℕ) → after end image → P image
 at_end start end before after P call image left = call.each end image call.later (omega arith) left
 
 -- What a crash since an earlier time may have left, it might have left before the calls, or the calls allow it.
 pub since_goes_on : (since start end : ℕ) (before after : ℕ → List ℕ → Type 0) (P : List ℕ → Type 0)
-    → During start end before after P → (image : List ℕ) → LeftSince end after since image
+    → HoldsDuring start end before after P → (image : List ℕ) → LeftSince end after since image
     → LeftSince start before since image ⊎ P image
 since_goes_on since start end before after P call image left = elim (cases_lt left.0 start) [
   | inl early ↦ inl (left.0, left.1, omega (arith, early), call.no_more left.0 image (omega (arith, early)) left.3)
@@ -64,14 +64,14 @@ since_goes_on since start end before after P call image left = elim (cases_lt le
 
 -- And what it might have left before is not forgotten.
 pub since_kept : (since start end : ℕ) (before after : ℕ → List ℕ → Type 0) (P : List ℕ → Type 0)
-    → During start end before after P → (image : List ℕ) → LeftSince start before since image
+    → HoldsDuring start end before after P → (image : List ℕ) → LeftSince start before since image
     → LeftSince end after since image
 since_kept since start end before after P call image left =
     (left.0, left.1, omega (arith, left.2, call.later), call.kept left.0 image left.2 left.3)
 
 -- The calls of each of two disks, whichever came first, meet at every moment.
 pub every_moment : (a a' b b' : ℕ) (first first' second second' : ℕ → List ℕ → Type 0) (P Q : List ℕ → Type 0)
-    (R : List ℕ → List ℕ → Type 0) → During a a' first first' P → During b b' second second' Q
+    (R : List ℕ → List ℕ → Type 0) → HoldsDuring a a' first first' P → HoldsDuring b b' second second' Q
     → ((x y : List ℕ) → P x → Q y → R x y) → EveryMoment a a' first' b b' second' R
 every_moment a a' b b' first first' second second' P Q R one other both =
     λ s t x y from_a to_a from_b to_b left_x left_y. both x y (one.each s x from_a to_a left_x)
@@ -92,8 +92,8 @@ every_moment-part a c c' a' b d d' b' first second R a_c c_a b_d d_b every =
 
 -- A moment that is past stays what it was: calls that came later add no image to it and take none from it.
 pub every_moment-past : (a a' now b b' now' : ℕ) (first first' second second' : ℕ → List ℕ → Type 0)
-    (P Q : List ℕ → Type 0) (R : List ℕ → List ℕ → Type 0) → During a' now first first' P
-    → During b' now' second second' Q → EveryMoment a a' first b b' second R
+    (P Q : List ℕ → Type 0) (R : List ℕ → List ℕ → Type 0) → HoldsDuring a' now first first' P
+    → HoldsDuring b' now' second second' Q → EveryMoment a a' first b b' second R
     → EveryMoment a a' first' b b' second' R
 every_moment-past a a' now b b' now' first first' second second' P Q R one other every =
     λ s t x y from_a to_a from_b to_b left_x left_y. every s t x y from_a to_a from_b to_b (one.no_more s x to_a left_x)

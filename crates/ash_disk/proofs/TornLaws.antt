@@ -3,7 +3,7 @@ use Rattle.std.proofs.Common.{◌≡◌, inl, inr, ℕ, ◌+◌, ◌<◌, ◌≤
 use Rattle.std.proofs.Common.{refl, sym, ◌∙◌, ap, subst, arith, append_assoc, length-append, length-drop, length-take}
 use Rattle.std.proofs.Common.{take-append-drop}
 use Rattle.std.proofs.lemmas.List.{take_at, drop_at, same_lists, places, get_or-take, get_or_default, drop-drop}
-use Rattle.ash_disk.specs.Image.{bytes_at, after_write, Torn, TornFrom, Only}
+use Rattle.ash_disk.specs.Image.{bytes_at, after_write, Torn, TornFrom, LeavesOnly}
 
 -- Two parts make the whole.
 pub parts : (n : ℕ) (file : List ℕ) → file ≡ take n file ++ drop n file
@@ -144,6 +144,6 @@ part_read prefix middle suffix at n at_is n_is =
     ∙ take_at middle suffix n (sym n_is)
 
 -- After a sync the file as it was read is all that a write can tear.
-pub torn_from_only : (file : List ℕ) (images : List ℕ → Type 0) (at n : ℕ) (new : List ℕ) → Only file images
+pub torn_from_only : (file : List ℕ) (images : List ℕ → Type 0) (at n : ℕ) (new : List ℕ) → LeavesOnly file images
     → TornFrom at n images new → Torn at n file new
 torn_from_only file images at n new only from = subst (λ (old : List ℕ). Torn at n old new) (only from.0 from.1) from.2

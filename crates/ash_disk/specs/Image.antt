@@ -28,8 +28,8 @@ abbrev pub TornFrom : ℕ → ℕ → (List ℕ → Type 0) → List ℕ → Typ
 TornFrom at n images image = (old : List ℕ) × images old × Torn at n old image
 
 -- The images are this file and nothing else.
-abbrev pub Only : List ℕ → (List ℕ → Type 0) → Type 0
-Only file images = (image : List ℕ) → images image → image ≡ file
+abbrev pub LeavesOnly : List ℕ → (List ℕ → Type 0) → Type 0
+LeavesOnly file images = (image : List ℕ) → images image → image ≡ file
 
 -- A torn write may leave everything as it was.
 pub torn_not : (at n : ℕ) (old : List ℕ) → Torn at n old old

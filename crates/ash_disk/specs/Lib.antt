@@ -2,7 +2,7 @@ pub mod Calls
 pub mod Device
 pub mod Failures
 pub mod File
-pub mod Fuse
+pub mod Failing
 pub mod Image
 pub mod Memory
 pub mod Moments

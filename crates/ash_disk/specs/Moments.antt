@@ -4,7 +4,7 @@ use Rattle.std.specs.Prelude.{ℕ, ◌≤◌, List}
 -- Calls took a disk from one time to another. A crash at any moment of them, from the start to the return, leaves only
 -- images with P. What a crash at an earlier time might have left is what it was before, no more and no less, so no call
 -- can make a past image undone.
-pub record During (start end : ℕ) (before after : ℕ → List ℕ → Type 0) (P : List ℕ → Type 0) : Type 0 where
+pub record HoldsDuring (start end : ℕ) (before after : ℕ → List ℕ → Type 0) (P : List ℕ → Type 0) : Type 0 where
   pub later : start ≤ end
   pub kept : (time : ℕ) (image : List ℕ) → time ≤ start → before time image → after time image
   pub no_more : (time : ℕ) (image : List ℕ) → time ≤ start → after time image → before time image

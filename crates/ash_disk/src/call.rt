@@ -1,4 +1,4 @@
-//! A call that a disk in memory keeps.
+//! A call that a disk in memory records.
 
 /// A call that succeeded and that what a crash leaves depends on.
 #[derive(Drop)]

@@ -14,18 +14,18 @@ pub enum Survives {
     Nothing,
     /// All of it, as if there had been no crash.
     Everything,
-    /// A part that the seed picks: of each write nothing, all, or a mix of old, new and other bytes, with the file
+    /// A part that the seed determines: of each write nothing, all, or a mix of old, new and other bytes, with the file
     /// grown by a part of what it would have grown.
     Part(u64),
 }
 
 // Numbers that a seed determines.
 #[derive(Drop)]
-struct Picks {
+struct SeededNumbers {
     state: u64,
 }
 
-impl Picks {
+impl SeededNumbers {
     fn next(&mut self) -> u64 {
         self.state = self
             .state
@@ -91,13 +91,13 @@ pub(crate) fn image_of_part(
 ) -> Result<Vec<u8>, AllocError>
     ensures { IfOk result (λ image. MayLeave first.now (reverse calls.now) image.items) }
 {
-    let mut picks = Picks { state: seed };
+    let mut numbers = SeededNumbers { state: seed };
     let mut file = first.to_vec(alloc)?;
     let mut image = first.to_vec(alloc)?;
     for call in calls {
         match call {
             Call::Write { at, bytes } => {
-                tear(&mut image, *at, bytes, &mut picks)?;
+                tear(&mut image, *at, bytes, &mut numbers)?;
                 overwrite(&mut file, *at, bytes)?;
             }
             Call::Sync => image = file.to_vec(alloc)?,
@@ -107,13 +107,18 @@ pub(crate) fn image_of_part(
 }
 
 // Writes nothing, all, or a part.
-fn tear(image: &mut Vec<u8>, at: usize, bytes: &[u8], picks: &mut Picks) -> Result<(), AllocError>
+fn tear(
+    image: &mut Vec<u8>,
+    at: usize,
+    bytes: &[u8],
+    numbers: &mut SeededNumbers,
+) -> Result<(), AllocError>
     ensures { OnOk result (Torn at (length bytes.now) image.old.items image.new.items) }
 {
-    match picks.next() % 4 {
+    match numbers.next() % 4 {
         0 => Ok(()),
         1 => overwrite(image, at, bytes),
-        _ => tear_within(image, at, bytes, picks),
+        _ => tear_within(image, at, bytes, numbers),
     }
 }
 
@@ -122,30 +127,30 @@ fn tear_within(
     image: &mut Vec<u8>,
     at: usize,
     bytes: &[u8],
-    picks: &mut Picks,
+    numbers: &mut SeededNumbers,
 ) -> Result<(), AllocError>
     ensures { OnOk result (Torn at (length bytes.now) image.old.items image.new.items) }
 {
     let len = image.len();
     let room = at.saturating_add(bytes.len()).saturating_sub(len);
-    let grown = picks.up_to(room);
-    image.resize(len + grown, picks.byte())?;
-    mix(image, at, bytes, picks);
+    let grown = numbers.up_to(room);
+    image.resize(len + grown, numbers.byte())?;
+    mix(image, at, bytes, numbers);
     Ok(())
 }
 
 // Leaves each byte of the range as it is, or makes it the new one or any.
-fn mix(image: &mut [u8], at: usize, bytes: &[u8], picks: &mut Picks)
+fn mix(image: &mut [u8], at: usize, bytes: &[u8], numbers: &mut SeededNumbers)
     ensures { (place : ℕ) → place < length image.old → IsOutside at (length bytes.now) place
         → slice_index image.new place ≡ slice_index image.old place }
 {
     let start = at.min(image.len());
     let over = bytes.len().min(image.len() - start);
     for i in 0..over {
-        match picks.next() % 3 {
+        match numbers.next() % 3 {
             0 => {}
             1 => image[start + i] = bytes[i],
-            _ => image[start + i] = picks.byte(),
+            _ => image[start + i] = numbers.byte(),
         }
     }
 }

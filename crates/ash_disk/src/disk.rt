@@ -1,8 +1,8 @@
 //! The disk model.
 ghost use Rattle.std.specs.Prelude.{◌≡◌, ◌+◌, ◌≤◌, Bool, ℕ, List, length, IsTrue, IfOk, OnOk};
 ghost use Rattle.ash_disk.specs.Failures.{CountsFailure};
-ghost use Rattle.ash_disk.specs.Image.{bytes_at, after_write, Torn, TornFrom, Only};
-ghost use Rattle.ash_disk.specs.Moments.{During};
+ghost use Rattle.ash_disk.specs.Image.{bytes_at, after_write, Torn, TornFrom, LeavesOnly};
+ghost use Rattle.ash_disk.specs.Moments.{HoldsDuring};
 
 use crate::DeviceFailed;
 
@@ -34,7 +34,7 @@ pub trait Disk {
             → n ≡ length (seen self.old)) }
         ensures unchanged { IsTrue (honest self.old) → seen self.new ≡ seen self.old }
         ensures moments { IsTrue (honest self.old)
-            → During (clock self.old) (clock self.new) (leaves self.old) (leaves self.new)
+            → HoldsDuring (clock self.old) (clock self.new) (leaves self.old) (leaves self.new)
             (leaves self.old (clock self.old)) }
         ensures honesty { honest self.new ≡ honest self.old }
         ensures cause { CountsFailure result (failures self.old) (failures self.new) };
@@ -46,7 +46,7 @@ pub trait Disk {
             → into.new ≡ bytes_at (seen self.old) at (length into.old)) }
         ensures unchanged { IsTrue (honest self.old) → seen self.new ≡ seen self.old }
         ensures moments { IsTrue (honest self.old)
-            → During (clock self.old) (clock self.new) (leaves self.old) (leaves self.new)
+            → HoldsDuring (clock self.old) (clock self.new) (leaves self.old) (leaves self.new)
             (leaves self.old (clock self.old)) }
         ensures honesty { honest self.new ≡ honest self.old }
         ensures cause { CountsFailure result (failures self.old) (failures self.new) };
@@ -58,7 +58,7 @@ pub trait Disk {
         ensures in_part { IsTrue (honest self.old) → at ≤ length (seen self.old)
             → Torn at (length bytes.now) (seen self.old) (seen self.new) }
         ensures moments { IsTrue (honest self.old) → at ≤ length (seen self.old)
-            → During (clock self.old) (clock self.new) (leaves self.old) (leaves self.new)
+            → HoldsDuring (clock self.old) (clock self.new) (leaves self.old) (leaves self.new)
             (TornFrom at (length bytes.now) (leaves self.old (clock self.old))) }
         ensures honesty { honest self.new ≡ honest self.old }
         ensures cause { CountsFailure result (failures self.old) (failures self.new) };
@@ -66,10 +66,10 @@ pub trait Disk {
     /// Brings to the device what was written. After it, a crash leaves what a read gives.
     fn sync(&mut self) -> Result<(), DeviceFailed>
         ensures durable { OnOk result (IsTrue (honest self.old)
-            → Only (seen self.new) (leaves self.new (clock self.new))) }
+            → LeavesOnly (seen self.new) (leaves self.new (clock self.new))) }
         ensures unchanged { IsTrue (honest self.old) → seen self.new ≡ seen self.old }
         ensures moments { IsTrue (honest self.old)
-            → During (clock self.old) (clock self.new) (leaves self.old) (leaves self.new)
+            → HoldsDuring (clock self.old) (clock self.new) (leaves self.old) (leaves self.new)
             (leaves self.old (clock self.old)) }
         ensures honesty { honest self.new ≡ honest self.old }
         ensures cause { CountsFailure result (failures self.old) (failures self.new) };

@@ -1,6 +1,6 @@
 //! A write and its sync, by which the store changes a file.
 ghost use Rattle.std.specs.Prelude.{◌≡◌, ◌≤◌, length, IsTrue, OnOk};
-ghost use Rattle.ash_disk.specs.Device.{IsDurable, Throughout};
+ghost use Rattle.ash_disk.specs.Device.{IsDurable, HoldsThroughout};
 ghost use Rattle.ash_disk.specs.Failures.{CountsFailure};
 ghost use Rattle.ash_disk.specs.Image.{after_write, Torn, TornFrom};
 
@@ -16,7 +16,7 @@ pub fn write_durably<D: Disk>(disk: &mut D, at: u64, bytes: &[u8]) -> Result<(),
     ensures in_part { IsTrue (D.honest disk.old) → at ≤ length (D.seen disk.old)
         → Torn at (length bytes.now) (D.seen disk.old) (D.seen disk.new) }
     ensures moments { IsTrue (D.honest disk.old) → at ≤ length (D.seen disk.old)
-        → Throughout D.Disk disk.old disk.new
+        → HoldsThroughout D.Disk disk.old disk.new
         (TornFrom at (length bytes.now) (D.leaves disk.old (D.clock disk.old))) }
     ensures honesty { D.honest disk.new ≡ D.honest disk.old }
     ensures cause { CountsFailure result (D.failures disk.old) (D.failures disk.new) }

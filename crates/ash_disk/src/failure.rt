@@ -20,7 +20,7 @@ impl fmt::Display for DeviceFailed {
 impl Error for DeviceFailed {}
 
 /// Reports an error as a failure of the device, and counts it. The count stays at 2^64 - 1 once it is there.
-pub(crate) fn counted<T, E: Drop>(
+pub(crate) fn count_failure<T, E: Drop>(
     outcome: Result<T, E>,
     failures: &mut u64,
 ) -> Result<T, DeviceFailed>

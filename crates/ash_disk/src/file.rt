@@ -1,7 +1,7 @@
 //! A file of the system as a disk.
 ghost use Rattle.std.specs.Prelude.{◌≡◌, false, ⊤, [], IfOk};
 
-use crate::failure::counted;
+use crate::failure::count_failure;
 use crate::{DeviceFailed, Disk};
 use std::fs::{File, Files, OpenOptions};
 use std::io;
@@ -21,14 +21,14 @@ impl FileDisk {
 
     /// The disk of a file that is open for reading and writing.
     pub fn new(file: File) -> FileDisk
-        ensures { file_failures result ≡ 0 }
+        ensures failures { file_failures result ≡ 0 }
     {
         FileDisk { file, failures: 0 }
     }
 
     /// Opens a file that is there.
     pub fn open<R: Files<File = File>>(files: &R, path: &str) -> io::Result<FileDisk>
-        ensures { IfOk result (λ disk. file_failures disk ≡ 0) }
+        ensures failures { IfOk result (λ disk. file_failures disk ≡ 0) }
     {
         let file = OpenOptions::new().read(true).write(true).open(files, path)?;
         Ok(FileDisk::new(file))
@@ -37,7 +37,7 @@ impl FileDisk {
     /// Opens a file, or makes an empty one where there is none, and syncs its folder, so that a file which was just
     /// made is still there after a crash. What the file holds stays.
     pub fn open_or_make<R: Files<File = File>>(files: &R, path: &str) -> io::Result<FileDisk>
-        ensures { IfOk result (λ disk. file_failures disk ≡ 0) }
+        ensures failures { IfOk result (λ disk. file_failures disk ≡ 0) }
     {
         let mut options = OpenOptions::new();
         options.read(true).write(true).create(true);
@@ -72,19 +72,19 @@ impl Disk for FileDisk {
     ghost seen_may_stay = { λ _ _. tt };
 
     fn len(&mut self) -> Result<u64, DeviceFailed> {
-        let metadata = counted(self.file.metadata(), &mut self.failures)?;
+        let metadata = count_failure(self.file.metadata(), &mut self.failures)?;
         Ok(metadata.len())
     }
 
     fn read(&mut self, at: u64, into: &mut [u8]) -> Result<(), DeviceFailed> {
-        counted(self.file.read_exact_at(into, at), &mut self.failures)
+        count_failure(self.file.read_exact_at(into, at), &mut self.failures)
     }
 
     fn write_at(&mut self, at: u64, bytes: &[u8]) -> Result<(), DeviceFailed> {
-        counted(self.file.write_all_at(bytes, at), &mut self.failures)
+        count_failure(self.file.write_all_at(bytes, at), &mut self.failures)
     }
 
     fn sync(&mut self) -> Result<(), DeviceFailed> {
-        counted(self.file.sync_all(), &mut self.failures)
+        count_failure(self.file.sync_all(), &mut self.failures)
     }
 }

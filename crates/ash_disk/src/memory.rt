@@ -1,21 +1,22 @@
-//! A disk in memory that keeps its first bytes and its calls.
-ghost use Rattle.std.specs.Prelude.{◌≡◌, ◌+◌, ◌≤◌, ◌∷◌, ◌++◌, ◌↔◌, [], length, reverse, true, if◌then◌else◌, ℕ, List};
+//! A disk in memory that has its first bytes and records its calls.
+ghost use Rattle.std.specs.Prelude.{◌≡◌, ◌+◌, ◌≤◌, ◌∷◌, ◌++◌, ◌↔◌, []};
+ghost use Rattle.std.specs.Prelude.{if◌then◌else◌, length, reverse, true, ℕ, List};
 ghost use Rattle.std.specs.Prelude.{IfOk, OnOk, OnErr, IsOk, Ok, is_ok};
 ghost use Rattle.ash_disk.specs.Calls.{file_after, listed_may_stay};
 ghost use Rattle.ash_disk.specs.Failures.{CountsFailure};
-ghost use Rattle.ash_disk.specs.Image.{after_write, bytes_at, Torn, TornFrom, Only};
-ghost use Rattle.ash_disk.specs.Moments.{During};
+ghost use Rattle.ash_disk.specs.Image.{after_write, bytes_at, Torn, TornFrom, LeavesOnly};
+ghost use Rattle.ash_disk.specs.Moments.{HoldsDuring};
 
 use crate::bytes::overwrite;
 use crate::call::Call;
 use crate::crash::{Survives, image_of_all, image_of_part, image_of_synced};
-use crate::failure::counted;
+use crate::failure::count_failure;
 use crate::{DeviceFailed, Disk};
 use std::alloc::{AllocError, Global};
 
-/// A file in memory, as honest as a disk can be. It keeps its first bytes and each write and sync that succeeded,
-/// so that it can give an image that a crash at any of them may have left. A call that finds no memory changes
-/// nothing and is a failure, and so is one beyond the file.
+/// A file in memory, as honest as a disk can be. It has its first bytes, and records each write and sync that
+/// succeeded, so that it can give an image that a crash at any of them may have left. A call that finds no memory
+/// changes nothing and is a failure, and so is one beyond the file.
 #[derive(Drop)]
 pub struct MemoryDisk {
     alloc: Global,
@@ -62,21 +63,21 @@ impl MemoryDisk {
 
     /// The bytes that a read gives.
     pub fn bytes(&self) -> &[u8]
-        ensures { result.now ≡ memory_bytes self.now }
+        ensures bytes { result.now ≡ memory_bytes self.now }
     {
         self.bytes.as_slice()
     }
 
     /// How many writes and syncs have succeeded, which is the disk's time.
     pub fn calls(&self) -> usize
-        ensures { result ≡ memory_clock self.now }
+        ensures clock { result ≡ memory_clock self.now }
     {
         self.calls.len()
     }
 
     /// An image that a crash after so many writes and syncs may leave.
     pub fn crash_image(&self, calls: usize, survives: Survives) -> Result<Vec<u8>, AllocError>
-        requires { calls ≤ memory_clock self.now }
+        requires past { calls ≤ memory_clock self.now }
         ensures allowed { IfOk result (λ image. MemoryLeaves self.now calls image.items) }
         ensures nothing { survives ≡ Survives.Nothing
             → IfOk result (λ image. image.items ≡ bytes_synced self.now calls) }
@@ -92,8 +93,8 @@ impl MemoryDisk {
     }
 }
 
-// Writes, and keeps the call.
-fn keep_write(
+// Writes, and records the call.
+fn record_write(
     alloc: Global,
     calls: &mut Vec<Call>,
     file: &mut Vec<u8>,
@@ -101,10 +102,10 @@ fn keep_write(
     bytes: &[u8],
 ) -> Result<(), AllocError>
     ensures written { OnOk result (file.new.items ≡ after_write file.old.items at bytes.now) }
-    ensures kept { OnOk result ((v : _) × (v.items ≡ bytes.now)
+    ensures recorded { OnOk result ((v : _) × (v.items ≡ bytes.now)
         × (calls.new.items ≡ calls.old.items ++ Call.Write at v ∷ [])) }
     ensures err { OnErr result (file.new.items ≡ file.old.items) }
-    ensures none_kept { OnErr result (calls.new.items ≡ calls.old.items) }
+    ensures none_recorded { OnErr result (calls.new.items ≡ calls.old.items) }
 {
     let call = Call::Write {
         at,
@@ -145,14 +146,14 @@ impl Disk for MemoryDisk {
             ≡ bytes_at (memory_bytes self.old) at (length into.old)) }
         ensures same { OnOk result (self.new ≡ self.old) }
         ensures unchanged { memory_bytes self.new ≡ memory_bytes self.old }
-        ensures moments { During (memory_clock self.old) (memory_clock self.new)
+        ensures moments { HoldsDuring (memory_clock self.old) (memory_clock self.new)
             (MemoryLeaves self.old) (MemoryLeaves self.new)
             (MemoryLeaves self.old (memory_clock self.old)) }
         ensures cause { CountsFailure result (memory_failures self.old) (memory_failures self.new) }
     {
         let at = at as usize;
         if at > self.bytes.len() || into.len() > self.bytes.len() - at {
-            return counted(Err(DeviceFailed), &mut self.failures);
+            return count_failure(Err(DeviceFailed), &mut self.failures);
         }
         into.copy_from_slice(&self.bytes[at..at + into.len()]);
         Ok(())
@@ -167,7 +168,7 @@ impl Disk for MemoryDisk {
             (memory_bytes self.old) (memory_bytes self.new) }
         ensures one_more { memory_clock self.new
             ≡ memory_clock self.old + (if is_ok result then 1 else 0) }
-        ensures moments { During (memory_clock self.old) (memory_clock self.new)
+        ensures moments { HoldsDuring (memory_clock self.old) (memory_clock self.new)
             (MemoryLeaves self.old) (MemoryLeaves self.new)
             (TornFrom at (length bytes.now) (MemoryLeaves self.old (memory_clock self.old))) }
 
@@ -179,23 +180,23 @@ impl Disk for MemoryDisk {
     {
         let at = at as usize;
         if at > self.bytes.len() {
-            return counted(Err(DeviceFailed), &mut self.failures);
+            return count_failure(Err(DeviceFailed), &mut self.failures);
         }
-        let outcome = keep_write(self.alloc, &mut self.calls, &mut self.bytes, at, bytes);
-        counted(outcome, &mut self.failures)
+        let outcome = record_write(self.alloc, &mut self.calls, &mut self.bytes, at, bytes);
+        count_failure(outcome, &mut self.failures)
     }
 
     fn sync(&mut self) -> Result<(), DeviceFailed>
-        ensures durable { OnOk result (Only (memory_bytes self.new)
+        ensures durable { OnOk result (LeavesOnly (memory_bytes self.new)
             (MemoryLeaves self.new (memory_clock self.new))) }
         ensures unchanged { memory_bytes self.new ≡ memory_bytes self.old }
         ensures one_more { memory_clock self.new
             ≡ memory_clock self.old + (if is_ok result then 1 else 0) }
-        ensures moments { During (memory_clock self.old) (memory_clock self.new)
+        ensures moments { HoldsDuring (memory_clock self.old) (memory_clock self.new)
             (MemoryLeaves self.old) (MemoryLeaves self.new)
             (MemoryLeaves self.old (memory_clock self.old)) }
         ensures cause { CountsFailure result (memory_failures self.old) (memory_failures self.new) }
     {
-        counted(self.calls.push(Call::Sync), &mut self.failures)
+        count_failure(self.calls.push(Call::Sync), &mut self.failures)
     }
 }

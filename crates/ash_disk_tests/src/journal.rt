@@ -7,7 +7,7 @@
 use crate::compare::{check_number, check_true};
 use crate::disks::check_disk;
 use ash_disk::{Disk, MemoryDisk};
-use ash_journal::{AppendError, InstallError, Journal, OpenFault, Opened, Record};
+use ash_journal::{AppendError, InstallError, Journal, OpenFault, OpenedJournal, Record};
 use std::alloc::{AllocError, Global};
 use std::process::Abort;
 use std::test::Fail;
@@ -97,7 +97,7 @@ fn has_records(found: &[Record], wanted: &[PlacedRecord]) -> bool {
 }
 
 // Whether two disks that were opened hold this image and these records.
-fn has_contents(found: &Opened<MemoryDisk>, image: &[u8], records: &[PlacedRecord]) -> bool {
+fn has_contents(found: &OpenedJournal<MemoryDisk>, image: &[u8], records: &[PlacedRecord]) -> bool {
     found.image.as_slice() == image && has_records(found.records.as_slice(), records)
 }
 
@@ -139,7 +139,7 @@ fn open(
     alloc: Global,
     first: MemoryDisk,
     second: MemoryDisk,
-) -> Result<Opened<MemoryDisk>, OpenFault> {
+) -> Result<OpenedJournal<MemoryDisk>, OpenFault> {
     match Journal::open(alloc, first, second) {
         Ok(found) => Ok(found),
         Err(refused) => Err(refused.fault),
@@ -147,7 +147,11 @@ fn open(
 }
 
 // Opens two files in memory.
-fn open_bytes(alloc: Global, first: &[u8], second: &[u8]) -> Result<Opened<MemoryDisk>, OpenFault> {
+fn open_bytes(
+    alloc: Global,
+    first: &[u8],
+    second: &[u8],
+) -> Result<OpenedJournal<MemoryDisk>, OpenFault> {
     let first = disk_of(alloc, first)?;
     let second = disk_of(alloc, second)?;
     open(alloc, first, second)

@@ -3,10 +3,10 @@ use Rattle.std.proofs.Common.{◌≡◌, ◌∙◌, ℕ, ◌+◌, List, [], ◌�
 use Rattle.ash_disk.specs.Device.{Device}
 use Rattle.ash_image.specs.Image.{body_of}
 use Rattle.ash_journal.specs.declared.journal.Journal.{Journal}
-use Rattle.ash_journal.specs.Current.{Is, Either}
+use Rattle.ash_journal.specs.Current.{IsContents, HoldsOneOf}
 use Rattle.ash_journal.specs.Failures.{CountsFailures}
 use Rattle.ash_journal.specs.Journal.{first_disk, second_disk, generation, record_bytes, HasFailed, IsReady, Holds}
-use Rattle.ash_journal.specs.Runs.{Run, Extends}
+use Rattle.ash_journal.specs.Runs.{HoldsSince, Extends}
 use Rattle.ash_meaning.specs.State.{State}
 use Rattle.ash_meaning.specs.declared.refusal.Refusal.TheVariants as the
 use Rattle.ash_durable.specs.Saving.{Adds, Installs, last_generation}
@@ -34,7 +34,7 @@ module _ {D : Type 0} (device : Device D) (state : State) (old new : Journal D) 
   added_moments : (body : List ℕ) → Leads body state state
       → ((image : List ℕ) (bodies : List (List ℕ)) → Holds device old image bodies
       → Extends device (first_disk old) (second_disk old) (first_disk new) (second_disk new)
-      (Is (image, bodies ++ body ∷ []))) → (before : State) → before.registered ≡ state.registered
+      (IsContents (image, bodies ++ body ∷ []))) → (before : State) → before.registered ≡ state.registered
       → HoldsState device before old → GoesOn device before state old new
   added_moments body leads extends before same holds =
       record_goes_on device before state holds.contents.0 body holds.contents.1 old new holds.is_state
@@ -43,7 +43,7 @@ module _ {D : Type 0} (device : Device D) (state : State) (old new : Journal D) 
   pub adds : (body : List ℕ) → Leads body state state → body ≡ body_of (snapshot_of state)
       → ((image : List ℕ) (bodies : List (List ℕ)) → Holds device old image bodies
       → Extends device (first_disk old) (second_disk old) (first_disk new) (second_disk new)
-      (Is (image, bodies ++ body ∷ []))) → ((image : List ℕ) (bodies : List (List ℕ)) → Holds device old image bodies
+      (IsContents (image, bodies ++ body ∷ []))) → ((image : List ℕ) (bodies : List (List ℕ)) → Holds device old image bodies
       → Holds device new image (bodies ++ body ∷ [])) → IsReady new → generation new ≡ generation old
       → record_bytes new ≡ record_bytes old + 5 + length body → Disks ⊥ → Adds device state old (Ok tt) new
   adds body leads body_is extends acknowledged ready number longer disks = record {
@@ -63,7 +63,7 @@ module _ {D : Type 0} (device : Device D) (state : State) (old new : Journal D) 
   pub adds_not : (body : List ℕ) → Leads body state state
       → ((image : List ℕ) (bodies : List (List ℕ)) → Holds device old image bodies
       → Extends device (first_disk old) (second_disk old) (first_disk new) (second_disk new)
-      (Is (image, bodies ++ body ∷ []))) → HasFailed new → Disks (Unit {0})
+      (IsContents (image, bodies ++ body ∷ []))) → HasFailed new → Disks (Unit {0})
       → Adds device state old (Err the.DeviceFailed) new
   adds_not body leads extends failed disks = record {
     outcome = failed;
@@ -76,8 +76,8 @@ module _ {D : Type 0} (device : Device D) (state : State) (old new : Journal D) 
 
   installed_moments : (image : List ℕ) → IsImageOf image state
       → ((was : List ℕ) (bodies : List (List ℕ)) → Holds device old was bodies
-      → Run device (device.clock (first_disk old)) (device.clock (second_disk old)) (first_disk new) (second_disk new)
-      (Either (Is (image, [])) (Is (was, bodies)))) → HoldsState device state old
+      → HoldsSince device (device.clock (first_disk old)) (device.clock (second_disk old)) (first_disk new) (second_disk new)
+      (HoldsOneOf (IsContents (image, [])) (IsContents (was, bodies)))) → HoldsState device state old
       → BeginsAnew device state state old new
   installed_moments image depicts run holds =
       image_begins_anew device state image holds.contents.0 holds.contents.1 old new holds.is_state depicts
@@ -85,8 +85,8 @@ module _ {D : Type 0} (device : Device D) (state : State) (old new : Journal D) 
 
   pub installs : (image : List ℕ) → IsImageOf image state
       → ((was : List ℕ) (bodies : List (List ℕ)) → Holds device old was bodies
-      → Run device (device.clock (first_disk old)) (device.clock (second_disk old)) (first_disk new) (second_disk new)
-      (Either (Is (image, [])) (Is (was, bodies))))
+      → HoldsSince device (device.clock (first_disk old)) (device.clock (second_disk old)) (first_disk new) (second_disk new)
+      (HoldsOneOf (IsContents (image, [])) (IsContents (was, bodies))))
       → ((was : List ℕ) (bodies : List (List ℕ)) → Holds device old was bodies → Holds device new image [])
       → IsReady new → generation new ≡ generation old + 1 → record_bytes new ≡ 0 → Disks ⊥
       → Installs device state old (Ok tt) new
@@ -105,8 +105,8 @@ module _ {D : Type 0} (device : Device D) (state : State) (old new : Journal D) 
 
   pub installs_not : (image : List ℕ) → IsImageOf image state
       → ((was : List ℕ) (bodies : List (List ℕ)) → Holds device old was bodies
-      → Run device (device.clock (first_disk old)) (device.clock (second_disk old)) (first_disk new) (second_disk new)
-      (Either (Is (image, [])) (Is (was, bodies)))) → (generation old ≡ last_generation → ⊥) → HasFailed new
+      → HoldsSince device (device.clock (first_disk old)) (device.clock (second_disk old)) (first_disk new) (second_disk new)
+      (HoldsOneOf (IsContents (image, [])) (IsContents (was, bodies)))) → (generation old ≡ last_generation → ⊥) → HasFailed new
       → Disks (Unit {0}) → Installs device state old (Err the.DeviceFailed) new
   installs_not image depicts run more failed disks = record {
     outcome = (more, failed);

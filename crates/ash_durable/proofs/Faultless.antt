@@ -2,7 +2,7 @@
 use Rattle.std.proofs.Common.{◌≡◌, ◌≢◌, ◌⊎◌, inl, inr, ℕ, ◌<◌, ◌^◌, List, [], ◌∷◌, ◌++◌, length, sym, ◌∙◌, ap, arith}
 use Rattle.std.proofs.Common.{append_assoc, length-append}
 use Rattle.ash_journal.specs.Current.{Contents, IsOlder, IsCurrent, Represent}
-use Rattle.ash_journal.specs.Layout.{four_bytes, mark, block, records, solid, AreShort, IsFile, IsClosed, IsCut}
+use Rattle.ash_journal.specs.Layout.{four_bytes, mark, block, records, committed_bytes, AreShort, IsFile, IsClosed, IsCut}
 use Rattle.ash_journal.specs.Layout.{LacksMark, IsCutAt}
 use Rattle.ash_journal.specs.Opening.{IsUnsound, IsCutCurrent, HasCurrent}
 use Rattle.ash_journal.proofs.LayoutLaws.{length-four, four_read, same_parts, length-mark, block_same, records-nil}
@@ -26,8 +26,8 @@ records_split body bodies rest =
     ∙ ap (λ (l : List ℕ). 1 ∷ l) (append_assoc (block body) (records bodies) rest)
 
 solid_split : (generation : ℕ) (image : List ℕ) (bodies : List (List ℕ)) (rest : List ℕ)
-    → solid generation image bodies ++ rest ≡ 1 ∷ (mark generation ++ (block image ++ (records bodies ++ rest)))
-unfolding solid
+    → committed_bytes generation image bodies ++ rest ≡ 1 ∷ (mark generation ++ (block image ++ (records bodies ++ rest)))
+unfolding committed_bytes
 solid_split generation image bodies rest =
     ap (λ (l : List ℕ). 1 ∷ l) (append_assoc (mark generation) (block image ++ records bodies) rest
     ∙ ap (λ (l : List ℕ). mark generation ++ l) (append_assoc (block image) (records bodies) rest))

@@ -4,14 +4,14 @@ use Rattle.ash_disk.specs.Device.{Device, IsOnlyRead}
 use Rattle.ash_journal.specs.declared.error.OpenFault.{OpenFault}
 use Rattle.ash_journal.specs.declared.error.OpenFault.TheVariants as opening
 use Rattle.ash_journal.specs.declared.journal.Journal.{Journal}
-use Rattle.ash_journal.specs.declared.journal.Opened.{Opened}
+use Rattle.ash_journal.specs.declared.journal.OpenedJournal.{OpenedJournal}
 use Rattle.ash_journal.specs.declared.record.Record.{Record}
 use Rattle.ash_journal.specs.Current.{Contents, Represent}
 use Rattle.ash_journal.specs.Failures.{CountsFailures}
 use Rattle.ash_journal.specs.Journal.{first_disk, second_disk, HasFailed, IsReady, Holds}
 use Rattle.ash_journal.specs.Opening.{FaultIs}
 use Rattle.ash_journal.specs.Reading.{AreAt, bodies_of}
-use Rattle.ash_journal.specs.Runs.{Extends, Nothing}
+use Rattle.ash_journal.specs.Runs.{Extends, NoContents}
 use Rattle.ash_journal.proofs.RunLaws.{same_extends}
 use Rattle.ash_meaning.specs.State.{State}
 use Rattle.ash_registry.specs.Calls.{Registration}
@@ -111,7 +111,7 @@ failed_is faults.DeviceFailed failed = refl
 failed_is _ failed = absurd failed
 
 -- what an image and records are read as, what the journal holds is read as
-pub read_as : {D : Type 0} (opened : Opened D) (registered : List Registration) (result : Result State StoreFault)
+pub read_as : {D : Type 0} (opened : OpenedJournal D) (registered : List Registration) (result : Result State StoreFault)
     (image : List ℕ) (records : List Record) → image ≡ opened.image.items → records ≡ opened.records.items
     → (AreAt (after_image image) records → ReadsAs registered (image, bodies_of records) result) → AreInPlace opened
     → ReadsAs registered (contents_of opened) result
@@ -135,7 +135,7 @@ module _ {D : Type 0} (device : Device D) where
   -- ---- what an opened journal holds is read
 
   -- as no state
-  pub not_read : (registered : List Registration) (opened : Opened D) (fault : StoreFault) (refused : OpenRefused D)
+  pub not_read : (registered : List Registration) (opened : OpenedJournal D) (fault : StoreFault) (refused : OpenRefused D)
       → refused.fault ≡ fault → refused.a ≡ first_disk opened.journal → refused.b ≡ second_disk opened.journal
       → (fault ≡ faults.DeviceFailed → ⊥) → (AreInPlace opened → ReadsAs registered (contents_of opened) (Err fault))
       → WasNotSettled device registered opened refused
@@ -147,8 +147,8 @@ module _ {D : Type 0} (device : Device D) where
             (sym fault_is) (reads placed));
         read = λ never. (a_is, b_is);
         extends = λ holds.
-            subst (λ (x : D). Extends device a b x refused.b Nothing) (sym a_is)
-            (subst (λ (y : D). Extends device a b a y Nothing) (sym b_is) (same_extends device a b Nothing));
+            subst (λ (x : D). Extends device a b x refused.b NoContents) (sym a_is)
+            (subst (λ (y : D). Extends device a b a y NoContents) (sym b_is) (same_extends device a b NoContents));
         only = λ failed. absurd (not (sym fault_is ∙ failed_is refused.fault failed));
         disks =
             subst (λ (x : D). HandsBack device (IsFailed refused.fault) a b x refused.b) (sym a_is)
@@ -162,13 +162,13 @@ module _ {D : Type 0} (device : Device D) where
       }
 
   -- as a state, and the gates are written over
-  pub settled_on : (registered : List Registration) (opened : Opened D) (state : State) (journal : Journal D) (failed : Type 0)
+  pub settled_on : (registered : List Registration) (opened : OpenedJournal D) (state : State) (journal : Journal D) (failed : Type 0)
       → (failed → ⊥) → state.registered ≡ registered
       → (AreInPlace opened → ReadsAs registered (contents_of opened) (Ok state))
       → ((HasFailed opened.journal → ⊥) → IsReady journal) → OnlySettled device opened.journal journal
       → (HoldsRead device opened → Holds device journal opened.image.items (bodies_of opened.records.items))
       → (HoldsRead device opened → Extends device (first_disk opened.journal) (second_disk opened.journal)
-      (first_disk journal) (second_disk journal) Nothing)
+      (first_disk journal) (second_disk journal) NoContents)
       → CountsFailures failed (device.failures (first_disk opened.journal))
       (device.failures (second_disk opened.journal)) (device.failures (first_disk journal))
       (device.failures (second_disk journal)) → device.honest (first_disk journal)
@@ -193,11 +193,11 @@ module _ {D : Type 0} (device : Device D) where
       }
 
   -- as a state, and a device failed then
-  pub not_settled : (registered : List Registration) (opened : Opened D) (journal : Journal D) (refused : OpenRefused D)
+  pub not_settled : (registered : List Registration) (opened : OpenedJournal D) (journal : Journal D) (refused : OpenRefused D)
       (failed : Type 0) → failed → refused.fault ≡ faults.DeviceFailed → refused.a ≡ first_disk journal
       → refused.b ≡ second_disk journal → OnlySettled device opened.journal journal
       → (HoldsRead device opened → Extends device (first_disk opened.journal) (second_disk opened.journal)
-      (first_disk journal) (second_disk journal) Nothing)
+      (first_disk journal) (second_disk journal) NoContents)
       → CountsFailures failed (device.failures (first_disk opened.journal))
       (device.failures (second_disk opened.journal)) (device.failures (first_disk journal))
       (device.failures (second_disk journal)) → device.honest (first_disk journal)
@@ -213,8 +213,8 @@ module _ {D : Type 0} (device : Device D) where
         cause = λ placed. inl is_failed;
         read = λ not. absurd (not is_failed);
         extends = λ holds.
-            subst (λ (x : D). Extends device a b x refused.b Nothing) (sym a_is)
-            (subst (λ (y : D). Extends device a b (first_disk journal) y Nothing) (sym b_is) (extends holds));
+            subst (λ (x : D). Extends device a b x refused.b NoContents) (sym a_is)
+            (subst (λ (y : D). Extends device a b (first_disk journal) y NoContents) (sym b_is) (extends holds));
         only = λ failed. (journal, only, a_is, b_is);
         disks =
             subst (λ (x : D). HandsBack device (IsFailed refused.fault) a b x refused.b) (sym a_is)
@@ -234,19 +234,19 @@ module _ {D : Type 0} (device : Device D) where
   -- ---- two disks whose journal was opened
 
   -- what a journal's opening says of two disks
-  pub record IsOpened (a b : D) (opened : Opened D) : Type 0 where
+  pub record IsOpened (a b : D) (opened : OpenedJournal D) : Type 0 where
     pub holds : AreHonest device a b → HoldsRead device opened
     pub placed : AreHonest device a b → AreInPlace opened
     pub represents : AreHonest device a b → Represent (contents_of opened) (device.seen a) (device.seen b)
     pub extends : AreHonest device a b → Extends device a b (first_disk opened.journal) (second_disk opened.journal)
-        Nothing
+        NoContents
     pub sound : HasFailed opened.journal → ⊥
     pub read : WereOnlyRead device a b (first_disk opened.journal) (second_disk opened.journal)
     pub counts : CountsFailures ⊥ (device.failures a) (device.failures b) (device.failures (first_disk opened.journal))
         (device.failures (second_disk opened.journal))
 
   -- it hands them on as they are
-  opened_back : (a b : D) (opened : Opened D) → IsOpened a b opened
+  opened_back : (a b : D) (opened : OpenedJournal D) → IsOpened a b opened
       → HandsBack device ⊥ a b (first_disk opened.journal) (second_disk opened.journal)
   opened_back a b opened is = record {
     failures = is.counts;
@@ -254,7 +254,7 @@ module _ {D : Type 0} (device : Device D) where
     honesty_second = is.read.read_second.honesty;
   }
 
-  found : (registered : List Registration) (a b : D) (opened : Opened D) (state : State) (journal : Journal D)
+  found : (registered : List Registration) (a b : D) (opened : OpenedJournal D) (state : State) (journal : Journal D)
       → IsOpened a b opened → WasSettled device registered opened state journal
       → WasFound device registered a b state journal
   found registered a b opened state journal is settled = record {
@@ -278,7 +278,7 @@ module _ {D : Type 0} (device : Device D) where
         (second_disk journal) (opened_back a b opened is) settled.disks;
   }
 
-  not_found : (registered : List Registration) (a b : D) (opened : Opened D) (refused : OpenRefused D) → IsOpened a b opened
+  not_found : (registered : List Registration) (a b : D) (opened : OpenedJournal D) (refused : OpenRefused D) → IsOpened a b opened
       → WasNotSettled device registered opened refused → WasNotFound device registered a b refused
   not_found registered a b opened refused is settled = record {
     cause = λ honest. reading_cause registered refused.fault (contents_of opened) (device.seen a) (device.seen b)
@@ -308,7 +308,7 @@ module _ {D : Type 0} (device : Device D) where
         refused.a refused.b (opened_back a b opened is) settled.disks;
   }
 
-  pub finds : (registered : List Registration) (a b : D) (opened : Opened D) (result : Result (Found D) (OpenRefused D))
+  pub finds : (registered : List Registration) (a b : D) (opened : OpenedJournal D) (result : Result (Found D) (OpenRefused D))
       → IsOpened a b opened → Settled device registered opened result → Finds device registered a b result
   finds registered a b opened (Ok one) is settled = found registered a b opened one.state one.journal is settled
   finds registered a b opened (Err refused) is settled = not_found registered a b opened refused is settled
@@ -317,7 +317,7 @@ module _ {D : Type 0} (device : Device D) where
 
   pub not_opened : (registered : List Registration) (a b a' b' : D) (fault : OpenFault) (reported : StoreFault)
       → reported ≡ opening_fault fault → (AreHonest device a b → FaultIs fault (device.seen a) (device.seen b))
-      → (AreHonest device a b → Extends device a b a' b' Nothing) → IsOnlyRead device a a' → IsOnlyRead device b b'
+      → (AreHonest device a b → Extends device a b a' b' NoContents) → IsOnlyRead device a a' → IsOnlyRead device b b'
       → CountsFailures (fault ≡ opening.DeviceFailed) (device.failures a) (device.failures b) (device.failures a')
       (device.failures b') → WasNotFound device registered a b (record { fault = reported; a = a'; b = b' })
   not_opened registered a b a' b' fault reported is cause extends read_first read_second counts =

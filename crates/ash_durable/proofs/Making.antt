@@ -8,12 +8,12 @@ use Rattle.ash_disk.proofs.DeviceLaws.{read_on}
 use Rattle.ash_journal.specs.declared.error.CreateFault.{CreateFault}
 use Rattle.ash_journal.specs.declared.error.CreateFault.TheVariants as creating
 use Rattle.ash_journal.specs.declared.journal.Journal.{Journal}
-use Rattle.ash_journal.specs.Current.{Is}
+use Rattle.ash_journal.specs.Current.{IsContents}
 use Rattle.ash_journal.specs.Failures.{CountsFailures}
 use Rattle.ash_journal.specs.Journal.{current_disk, first_disk, second_disk, generation, record_bytes, IsReady, Holds}
 use Rattle.ash_journal.specs.Layout.{IsClosed, IsShut}
 use Rattle.ash_journal.specs.Opening.{CreateFaultIs, IsCreatedOrClosed}
-use Rattle.ash_journal.specs.Writes.{AreIdle, HasRested}
+use Rattle.ash_journal.specs.Writes.{AreUnused, WasUnused}
 use Rattle.ash_journal.proofs.LayoutLaws.{open_closed}
 use Rattle.ash_journal.proofs.ReadLaws.{rested_read}
 use Rattle.ash_journal.proofs.SettleLaws.{settle_more}
@@ -51,7 +51,7 @@ shut_closed [] shut = tt
 shut_closed (gate ∷ []) shut = tt
 shut_closed (gate ∷ second ∷ rest) shut = λ is_open. omega (arith, is_open, shut)
 
-idle_closed : (images : List ℕ → Type 0) → AreIdle images → (image : List ℕ) → images image → IsClosed image
+idle_closed : (images : List ℕ → Type 0) → AreUnused images → (image : List ℕ) → images image → IsClosed image
 idle_closed images (inl tiny) image left = tiny_closed image (tiny image left)
 idle_closed images (inr shut) image left = shut_closed image (shut image left)
 
@@ -101,7 +101,7 @@ module _ {D : Type 0} (device : Device D) where
       (read : WereOnlyRead device a b one two) (back : HandsBack device ⊥ a b one two)
       (closed : AreHonest device a b → AreClosed device a b) where
     creates : (a' b' : D) → ((p q : ℕ) → IsTrue (device.honest one) → IsTrue (device.honest two)
-        → HasRested device p one → HasRested device q two → EveryMomentSince device p q a' b' (IsCreatedOrClosed image))
+        → WasUnused device p one → WasUnused device q two → EveryMomentSince device p q a' b' (IsCreatedOrClosed image))
         → MakesOrNot device state a b a' b'
     creates a' b' moments p q honest rested_a rested_b s t x y from_p to_a from_q to_b left_x left_y =
         let is = honest_read a b one two read honest in
@@ -111,7 +111,7 @@ module _ {D : Type 0} (device : Device D) where
         s t x y from_p to_a from_q to_b left_x left_y in
         elim made [
           | inl none ↦ inl none
-          | inr settle ↦ inr (settle_more (Is (image, [])) (HaveState (IsOne state))
+          | inr settle ↦ inr (settle_more (IsContents (image, [])) (HaveState (IsOne state))
               (λ contents same. (state, refl, subst (IsStateOf state) (sym same) (state_of_alone state image depicts)))
               x y settle)
         ]
@@ -119,8 +119,8 @@ module _ {D : Type 0} (device : Device D) where
     pub made : (journal : Journal D) → IsReady journal → current_disk journal ≡ first_disk journal
         → generation journal ≡ 1 → record_bytes journal ≡ 0
         → (IsTrue (device.honest one) → IsTrue (device.honest two) → Holds device journal image [])
-        → ((p q : ℕ) → IsTrue (device.honest one) → IsTrue (device.honest two) → HasRested device p one
-        → HasRested device q two → EveryMomentSince device p q (first_disk journal) (second_disk journal)
+        → ((p q : ℕ) → IsTrue (device.honest one) → IsTrue (device.honest two) → WasUnused device p one
+        → WasUnused device q two → EveryMomentSince device p q (first_disk journal) (second_disk journal)
         (IsCreatedOrClosed image)) → HandsBack device ⊥ one two (first_disk journal) (second_disk journal)
         → WasMade device state a b journal
     made journal ready in_first number emptied holds moments disks = record {
@@ -173,8 +173,8 @@ module _ {D : Type 0} (device : Device D) where
     pub not_made : (fault : CreateFault) (reported : StoreFault) (a' b' : D) → reported ≡ creating_fault fault
         → (IsTrue (device.honest one) → IsTrue (device.honest two)
         → CreateFaultIs fault (device.seen one) (device.seen two) (IsOnlyRead device one a' × IsOnlyRead device two b'))
-        → ((p q : ℕ) → IsTrue (device.honest one) → IsTrue (device.honest two) → HasRested device p one
-        → HasRested device q two → EveryMomentSince device p q a' b' (IsCreatedOrClosed image))
+        → ((p q : ℕ) → IsTrue (device.honest one) → IsTrue (device.honest two) → WasUnused device p one
+        → WasUnused device q two → EveryMomentSince device p q a' b' (IsCreatedOrClosed image))
         → device.honest a' ≡ device.honest one → device.honest b' ≡ device.honest two
         → CountsFailures (fault ≡ creating.DeviceFailed) (device.failures one) (device.failures two)
         (device.failures a') (device.failures b')

@@ -3,9 +3,9 @@ use Rattle.std.specs.Prelude.{min}
 use Rattle.std.proofs.Common.{◌≡◌, inl, inr, ℕ, ◌≤◌, List, [], ◌∷◌, ◌++◌, refl, sym, subst, arith}
 use Rattle.ash_disk.specs.Device.{Device}
 use Rattle.ash_journal.specs.declared.journal.Journal.{Journal}
-use Rattle.ash_journal.specs.Current.{Contents, Is, Either, Represent, MaySettleOn, SettleFurther}
+use Rattle.ash_journal.specs.Current.{Contents, IsContents, HoldsOneOf, Represent, MaySettleOn, SettleFurther}
 use Rattle.ash_journal.specs.Journal.{first_disk, second_disk}
-use Rattle.ash_journal.specs.Runs.{Run, Extends, Nothing}
+use Rattle.ash_journal.specs.Runs.{HoldsSince, Extends, NoContents}
 use Rattle.ash_journal.proofs.RunLaws.{run_extends, represented}
 use Rattle.ash_journal.proofs.SettleLaws.{Property, Implies, settle_more, further}
 use Rattle.ash_meaning.specs.State.{State}
@@ -14,17 +14,17 @@ use Rattle.ash_durable.specs.States.{HoldsState, GoesOn, BeginsAnew}
 use Rattle.ash_durable.proofs.ContentsStates.{state_of_one, state_of_alone, state_of_push}
 
 -- files that come to nothing new, after files that come to nothing new
-further_on : (u v x y p q : List ℕ) → SettleFurther Nothing u v x y → SettleFurther Nothing x y p q
-    → SettleFurther Nothing u v p q
+further_on : (u v x y p q : List ℕ) → SettleFurther NoContents u v x y → SettleFurther NoContents x y p q
+    → SettleFurther NoContents u v p q
 further_on u v x y p q one two settle =
     let may = MaySettleOn u v in
-    further may Nothing x y p q two (settle_more (Either Nothing may) may
+    further may NoContents x y p q two (settle_more (HoldsOneOf NoContents may) may
     (λ contents is. elim is [ inl new ↦ absurd new | inr was ↦ was ]) x y (one settle))
 
 module _ {D : Type 0} (device : Device D) where
   -- what a run says of contents may be said in a weaker way
-  pub run_more : (a b : ℕ) (first second : D) (P Q : Property) → Run device a b first second P → Implies P Q
-      → Run device a b first second Q
+  pub run_more : (a b : ℕ) (first second : D) (P Q : Property) → HoldsSince device a b first second P → Implies P Q
+      → HoldsSince device a b first second Q
   run_more a b first second P Q run more = record {
     first_began = run.first_began;
     second_began = run.second_began;
@@ -57,16 +57,16 @@ module _ {D : Type 0} (device : Device D) where
 
   -- what files settle on, they settle on after calls that add no new contents
   pub settle_still : (a b : ℕ) (first second first' second' : D) (P : State → Type 0)
-      → Extends device first second first' second' Nothing → SettleSince device a b first second P
+      → Extends device first second first' second' NoContents → SettleSince device a b first second P
       → SettleSince device a b first' second' P
   settle_still a b first second first' second' P call run =
-      run_more a b first' second' (Either Nothing (HaveState P)) (HaveState P)
-      (run_extends device a b first second first' second' (HaveState P) Nothing run call)
+      run_more a b first' second' (HoldsOneOf NoContents (HaveState P)) (HaveState P)
+      (run_extends device a b first second first' second' (HaveState P) NoContents run call)
       (λ contents one. elim one [ inl new ↦ absurd new | inr was ↦ was ])
 
   -- calls that add no new contents, after calls that add none
-  pub extends_on : (a b a' b' a'' b'' : D) → Extends device a b a' b' Nothing → Extends device a' b' a'' b'' Nothing
-      → Extends device a b a'' b'' Nothing
+  pub extends_on : (a b a' b' a'' b'' : D) → Extends device a b a' b' NoContents → Extends device a' b' a'' b'' NoContents
+      → Extends device a b a'' b'' NoContents
   extends_on a b a' b' a'' b'' one two = record {
     first_later = omega (arith, one.first_later, two.first_later);
     second_later = omega (arith, one.second_later, two.second_later);
@@ -102,7 +102,7 @@ module _ {D : Type 0} (device : Device D) where
       → SettleNow device (first_disk journal) (second_disk journal) (IsOne state)
   holds_now state journal holds =
       run_more (device.clock (first_disk journal)) (device.clock (second_disk journal)) (first_disk journal)
-      (second_disk journal) (Is holds.contents) (HaveState (IsOne state)) holds.holds.run
+      (second_disk journal) (IsContents holds.contents) (HaveState (IsOne state)) holds.holds.run
       (λ contents is. (state, refl, subst (IsStateOf state) (sym is) holds.is_state))
 
   -- a journal that was not touched goes on
@@ -115,12 +115,12 @@ module _ {D : Type 0} (device : Device D) where
   pub record_goes_on : (before after : State) (image body : List ℕ) (bodies : List (List ℕ)) (old new : Journal D)
       → IsStateOf before (image, bodies) → Leads body before after
       → Extends device (first_disk old) (second_disk old) (first_disk new) (second_disk new)
-      (Is (image, bodies ++ body ∷ [])) → GoesOn device before after old new
+      (IsContents (image, bodies ++ body ∷ [])) → GoesOn device before after old new
   record_goes_on before after image body bodies old new is_state leads call a b run =
       run_more a b (first_disk new) (second_disk new)
-      (Either (Is (image, bodies ++ body ∷ [])) (HaveState (IsOne before))) (HaveState (IsEither before after))
+      (HoldsOneOf (IsContents (image, bodies ++ body ∷ [])) (HaveState (IsOne before))) (HaveState (IsEither before after))
       (run_extends device a b (first_disk old) (second_disk old) (first_disk new) (second_disk new)
-      (HaveState (IsOne before)) (Is (image, bodies ++ body ∷ [])) run call)
+      (HaveState (IsOne before)) (IsContents (image, bodies ++ body ∷ [])) run call)
       (λ contents one. elim one [
         | inl is ↦ (
           after,
@@ -146,11 +146,11 @@ module _ {D : Type 0} (device : Device D) where
   -- an image of the state that the journal holds, in place of what it holds
   pub image_begins_anew : (state : State) (image was : List ℕ) (bodies : List (List ℕ)) (old new : Journal D)
       → IsStateOf state (was, bodies) → IsImageOf image state
-      → Run device (device.clock (first_disk old)) (device.clock (second_disk old)) (first_disk new) (second_disk new)
-      (Either (Is (image, [])) (Is (was, bodies))) → BeginsAnew device state state old new
+      → HoldsSince device (device.clock (first_disk old)) (device.clock (second_disk old)) (first_disk new) (second_disk new)
+      (HoldsOneOf (IsContents (image, [])) (IsContents (was, bodies))) → BeginsAnew device state state old new
   image_begins_anew state image was bodies old new is_state depicts run =
       run_more (device.clock (first_disk old)) (device.clock (second_disk old)) (first_disk new) (second_disk new)
-      (Either (Is (image, [])) (Is (was, bodies))) (HaveState (IsEither state state)) run
+      (HoldsOneOf (IsContents (image, [])) (IsContents (was, bodies))) (HaveState (IsEither state state)) run
       (λ contents one. elim one [
         | inl is ↦ (state, inl refl, subst (IsStateOf state) (sym is) (state_of_alone state image depicts))
         | inr is ↦ (state, inl refl, subst (IsStateOf state) (sym is) is_state)

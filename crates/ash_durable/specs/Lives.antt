@@ -1,10 +1,10 @@
 -- The life of a store: everything that can happen to it, and what is left of the requests.
 use Rattle.std.specs.Prelude.{◌≡◌, ◌⊎◌, ℕ, List, [], ◌∷◌, ◌++◌, Some, None, Result, Ok, Err}
 use Rattle.ash_disk.specs.Device.{Device}
-use Rattle.ash_disk.specs.Image.{Only}
+use Rattle.ash_disk.specs.Image.{LeavesOnly}
 use Rattle.ash_disk.specs.Moments.{LeftSince}
 use Rattle.ash_journal.specs.Layout.{IsOpen}
-use Rattle.ash_journal.specs.Writes.{HasRested}
+use Rattle.ash_journal.specs.Writes.{WasUnused}
 use Rattle.ash_subset.specs.Meaning.{End}
 use Rattle.ash_meaning.specs.State.{State, Request, Reply, Answered, empty}
 use Rattle.ash_meaning.specs.Step.{Steps}
@@ -71,14 +71,14 @@ pub record AreLeft {D : Type 0} (device : Device D) (a b : ℕ) (one other : D) 
 -- two honest disks that begin with these images
 pub record BeginWith {D : Type 0} (device : Device D) (one other : D) (x y : List ℕ) : Type 0 where
   pub honest : AreHonest device one other
-  pub only_first : Only x (device.leaves one (device.clock one))
-  pub only_second : Only y (device.leaves other (device.clock other))
+  pub only_first : LeavesOnly x (device.leaves one (device.clock one))
+  pub only_second : LeavesOnly y (device.leaves other (device.clock other))
 
 -- two honest disks on which nothing was ever stored, or whose files are out of use
 pub record AreFresh {D : Type 0} (device : Device D) (one other : D) : Type 0 where
   pub honest : AreHonest device one other
-  pub rested_first : HasRested device (device.clock one) one
-  pub rested_second : HasRested device (device.clock other) other
+  pub rested_first : WasUnused device (device.clock one) one
+  pub rested_second : WasUnused device (device.clock other) other
 
 -- whatever a crash now leaves of two disks, a file is open
 abbrev pub IsOneOpen : {D : Type 0} → Device D → D → D → Type 0

@@ -6,7 +6,7 @@ use Rattle.ash_image.specs.Image.{Snapshot, Depicts, IsBody}
 use Rattle.ash_journal.specs.declared.journal.Journal.{Journal}
 use Rattle.ash_journal.specs.Current.{Contents}
 use Rattle.ash_journal.specs.Journal.{first_disk, second_disk, Holds}
-use Rattle.ash_journal.specs.Runs.{Run}
+use Rattle.ash_journal.specs.Runs.{HoldsSince}
 use Rattle.ash_meaning.specs.StoredModules.{Admits}
 use Rattle.ash_meaning.specs.State.{State}
 use Rattle.ash_registry.specs.Text.{text_of}
@@ -58,7 +58,7 @@ pub record AreHonest {D : Type 0} (device : Device D) (first second : D) : Type 
 
 -- At every two moments of two disks, from two earlier times up to now, what a crash may leave settles on states with P.
 abbrev pub SettleSince : {D : Type 0} → Device D → ℕ → ℕ → D → D → (State → Type 0) → Type 0
-SettleSince device a b first second P = Run device a b first second (HaveState P)
+SettleSince device a b first second P = HoldsSince device a b first second (HaveState P)
 
 -- what a crash now may leave of two disks settles on states with P
 abbrev pub SettleNow : {D : Type 0} → Device D → D → D → (State → Type 0) → Type 0

@@ -3,7 +3,7 @@ use Rattle.std.specs.Prelude.{◌≡◌, ◌⊎◌, ℕ, ◌<◌, ◌^◌, List,
 use Rattle.std.specs.declared.alloc.Global.{Global}
 use Rattle.ash_disk.specs.Device.{Device, EveryMomentSince, IsOnlyRead}
 use Rattle.ash_journal.specs.declared.journal.Journal.{Journal}
-use Rattle.ash_journal.specs.declared.journal.Opened.{Opened}
+use Rattle.ash_journal.specs.declared.journal.OpenedJournal.{OpenedJournal}
 use Rattle.ash_journal.specs.Current.{Contents, Represent, SettleOn}
 use Rattle.ash_journal.specs.Failures.{CountsFailures}
 use Rattle.ash_journal.specs.Journal.{first_disk, second_disk, current_disk, generation, record_bytes, HasFailed}
@@ -11,8 +11,8 @@ use Rattle.ash_journal.specs.Journal.{IsReady, Holds, LeavesRepaired, WritesGate
 use Rattle.ash_journal.specs.Layout.{IsClosed}
 use Rattle.ash_journal.specs.Opening.{IsUnsound, IsCutCurrent, HasCurrent}
 use Rattle.ash_journal.specs.Reading.{AreAt, bodies_of}
-use Rattle.ash_journal.specs.Runs.{Extends, Nothing}
-use Rattle.ash_journal.specs.Writes.{HasRested}
+use Rattle.ash_journal.specs.Runs.{Extends, NoContents}
+use Rattle.ash_journal.specs.Writes.{WasUnused}
 use Rattle.ash_meaning.specs.State.{State, empty}
 use Rattle.ash_registry.specs.Calls.{Registration}
 use Rattle.ash_durable.specs.Contents.{after_image, ReadsAs, IsMisshapen, IsNotAdmitted, AreOfOthers}
@@ -61,7 +61,7 @@ IsClosedOrHasState state x y = (IsClosed x × IsClosed y) ⊎ SettleOn (HaveStat
 -- file open, or the store of this state.
 abbrev pub MakesOrNot : {D : Type 0} → Device D → State → D → D → D → D → Type 0
 MakesOrNot device state a b a' b' =
-    (p q : ℕ) → AreHonest device a b → HasRested device p a → HasRested device q b
+    (p q : ℕ) → AreHonest device a b → WasUnused device p a → WasUnused device q b
     → EveryMomentSince device p q a' b' (IsClosedOrHasState state)
 
 -- A store was made on two disks whose files were closed: its first generation is on the first of them.
@@ -145,7 +145,7 @@ StoreFaultIs registered faults.AlreadyThere x y = ⊥
 -- Calls add nothing to two files: at every moment of them a crash leaves the contents that it might have left before
 -- they began, and no others.
 abbrev pub AddNothing : {D : Type 0} → Device D → D → D → D → D → Type 0
-AddNothing device a b a' b' = AreHonest device a b → Extends device a b a' b' Nothing
+AddNothing device a b a' b' = AreHonest device a b → Extends device a b a' b' NoContents
 
 -- A journal holds the image and the records that two files, as they read, held before, no record more and none less,
 -- and they are those of this state.
@@ -206,19 +206,19 @@ Finds device registered a b (Ok found) = WasFound device registered a b found.st
 Finds device registered a b (Err refused) = WasNotFound device registered a b refused
 
 -- what a journal that was opened holds
-abbrev pub contents_of : {D : Type 0} → Opened D → Contents
+abbrev pub contents_of : {D : Type 0} → OpenedJournal D → Contents
 contents_of opened = (opened.image.items, bodies_of opened.records.items)
 
 -- the gates before its records are where the records say
-abbrev pub AreInPlace : {D : Type 0} → Opened D → Type 0
+abbrev pub AreInPlace : {D : Type 0} → OpenedJournal D → Type 0
 AreInPlace opened = AreAt (after_image opened.image.items) opened.records.items
 
 -- the files hold what was read of them
-abbrev pub HoldsRead : {D : Type 0} → Device D → Opened D → Type 0
+abbrev pub HoldsRead : {D : Type 0} → Device D → OpenedJournal D → Type 0
 HoldsRead device opened = FindsIn device opened.journal opened.image.items (bodies_of opened.records.items)
 
 -- The state of a journal that was opened was read, and the gates are written over that a crash left.
-pub record WasSettled {D : Type 0} (device : Device D) (registered : List Registration) (opened : Opened D)
+pub record WasSettled {D : Type 0} (device : Device D) (registered : List Registration) (opened : OpenedJournal D)
     (state : State) (journal : Journal D) : Type 0 where
   pub registered_is : state.registered ≡ registered
   pub reads : AreInPlace opened → IsStateOf state (contents_of opened)
@@ -226,25 +226,25 @@ pub record WasSettled {D : Type 0} (device : Device D) (registered : List Regist
   pub only : OnlySettled device opened.journal journal
   pub holds : HoldsRead device opened → Holds device journal opened.image.items (bodies_of opened.records.items)
   pub extends : HoldsRead device opened → Extends device (first_disk opened.journal) (second_disk opened.journal)
-      (first_disk journal) (second_disk journal) Nothing
+      (first_disk journal) (second_disk journal) NoContents
   pub disks : HandsBack device ⊥ (first_disk opened.journal) (second_disk opened.journal) (first_disk journal)
       (second_disk journal)
 
 -- No state was read, and nothing is written; or a device failed once it was.
-pub record WasNotSettled {D : Type 0} (device : Device D) (registered : List Registration) (opened : Opened D)
+pub record WasNotSettled {D : Type 0} (device : Device D) (registered : List Registration) (opened : OpenedJournal D)
     (refused : OpenRefused D) : Type 0 where
   pub cause : AreInPlace opened → IsFailed refused.fault ⊎ ReadsAs registered (contents_of opened) (Err refused.fault)
   pub read : (IsFailed refused.fault → ⊥) → (refused.a ≡ first_disk opened.journal)
       × (refused.b ≡ second_disk opened.journal)
   pub extends : HoldsRead device opened → Extends device (first_disk opened.journal) (second_disk opened.journal)
-      refused.a refused.b Nothing
+      refused.a refused.b NoContents
   pub only : IsFailed refused.fault → (journal : Journal D) × OnlySettled device opened.journal journal
       × (refused.a ≡ first_disk journal) × (refused.b ≡ second_disk journal)
   pub disks : HandsBack device (IsFailed refused.fault) (first_disk opened.journal) (second_disk opened.journal)
       refused.a refused.b
 
 -- A journal that was opened holds a state, or its disks are handed back.
-abbrev pub Settled : {D : Type 0} → Device D → List Registration → Opened D → Result (Found D) (OpenRefused D) → Type 0
+abbrev pub Settled : {D : Type 0} → Device D → List Registration → OpenedJournal D → Result (Found D) (OpenRefused D) → Type 0
 Settled device registered opened (Ok found) = WasSettled device registered opened found.state found.journal
 Settled device registered opened (Err refused) = WasNotSettled device registered opened refused
 

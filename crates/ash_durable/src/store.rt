@@ -10,7 +10,7 @@ use crate::fault::{OpenRefused, StoreFault};
 use crate::header::read_header;
 use crate::saving::image_of;
 use ash_disk::Disk;
-use ash_journal::{Journal, Opened};
+use ash_journal::{Journal, OpenedJournal};
 use ash_meaning::plain::PlainState;
 use ash_registry::Registry;
 use std::alloc::Global;
@@ -80,11 +80,11 @@ fn refused<D: Disk>(journal: Journal<D>, fault: StoreFault) -> OpenRefused<D>
 fn settled<D: Disk>(
     alloc: Global,
     registry: Registry,
-    opened: Opened<D>,
+    opened: OpenedJournal<D>,
 ) -> Result<Found<D>, OpenRefused<D>>
     ensures { Settled D.Disk (registered registry) opened result }
 {
-    let Opened {
+    let OpenedJournal {
         mut journal,
         image,
         records,

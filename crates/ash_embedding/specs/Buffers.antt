@@ -5,7 +5,8 @@ use Rattle.std.specs.Int.{w32, cast_unsigned}
 use Rattle.ash_host.specs.declared.word.Word.TheVariants.{Int, Null}
 use Rattle.ash_host.specs.declared.answer.HostAnswer.{HostAnswer}
 use Rattle.ash_host.specs.declared.answer.HostAnswer.TheVariants.{Value, Nothing, Raise, NoMemory}
-use Rattle.ash_host.specs.Calls.{HostCall, Start, Invoke, Get, max_state}
+use Rattle.ash_host.specs.Calls.{HostCall, Start, Invoke, Get}
+use Rattle.ash_host.specs.Limits.{max_state_bytes}
 
 -- an answer, and the bytes after it
 pub record Outcome : Type 0 where
@@ -18,7 +19,7 @@ leaves answer bytes = record { answer = answer; bytes = bytes }
 -- putting a byte at the end; a full buffer raises 1
 abbrev pub puts : ℕ → List ℕ → Outcome
 puts byte bytes =
-    if nat_lt (length bytes) max_state then leaves Nothing (bytes ++ byte ∷ []) else leaves (Raise 1) bytes
+    if nat_lt (length bytes) max_state_bytes then leaves Nothing (bytes ++ byte ∷ []) else leaves (Raise 1) bytes
 
 -- taking the byte at the end; an empty buffer raises 2
 abbrev pub takes : List ℕ → Outcome

@@ -1,15 +1,14 @@
 //! A kind whose state grows: bytes that scripts append and take from the end.
-ghost use Rattle.std.specs.Prelude.{◌≡◌, ◌<◌, ◌≤◌, ◌↔◌, ℕ, List, [], ◌∷◌, length, vec_len, OnOk, IsErrOf};
-ghost use Rattle.ash_host.specs.Calls.{Invoke, SameRelation, max_state};
+ghost use Rattle.std.specs.Prelude.{◌≡◌, ◌<◌, ◌≤◌, ◌↔◌, [], ◌∷◌};
+ghost use Rattle.std.specs.Prelude.{ℕ, List, length, vec_len, OnOk, IsErrOf};
+ghost use Rattle.ash_host.specs.Calls.{Invoke, SameRelation};
+ghost use Rattle.ash_host.specs.Limits.{max_state_bytes};
 ghost use Rattle.ash_host.specs.Saved.{RestoresSaved};
 ghost use Rattle.ash_host.specs.declared.word.Word.{Word};
 ghost use Rattle.ash_embedding.specs.Buffers.{AllowsBuffer};
 
-use ash_host::{HostAnswer, HostObject, NoMemory, RestoreFault, Word};
+use ash_host::{HostAnswer, HostObject, MAX_STATE_BYTES, NoMemory, RestoreFault, Word};
 use std::alloc::Global;
-
-/// How many bytes a buffer holds at most: as many as a state may have.
-pub const MAX_BYTES: usize = 1024;
 
 /// Bytes that scripts append and take from the end. Method 1 `void put(int)` puts the low 8 bits of its
 /// argument, and raises 1 where the buffer is full. Method 2 `int take()` takes the last byte, and raises 2 where
@@ -18,7 +17,7 @@ pub const MAX_BYTES: usize = 1024;
 #[derive(Drop)]
 pub struct Buffer {
     bytes: Vec<u8>,
-    ghost bounded: { vec_len bytes ≤ max_state },
+    ghost bounded: { vec_len bytes ≤ max_state_bytes },
 }
 
 impl Buffer {
@@ -30,7 +29,7 @@ impl Buffer {
         ensures kind { ⟦<Buffer as HostObject>⟧.kind_of result ≡ 3 }
         ensures empty { ⟦<Buffer as HostObject>⟧.state result ≡ [] }
         ensures refuses { (bytes : List ℕ)
-            → ⟦<Buffer as HostObject>⟧.refuses result bytes ↔ (max_state < length bytes) }
+            → ⟦<Buffer as HostObject>⟧.refuses result bytes ↔ (max_state_bytes < length bytes) }
         ensures restores { RestoresSaved ⟦<Buffer as HostObject>⟧ result }
         ensures exact { SameRelation (⟦<Buffer as HostObject>⟧.allows result) AllowsBuffer }
     {
@@ -44,7 +43,7 @@ impl Buffer {
         ensures { AllowsBuffer (Invoke 1 (Word.Int number ∷ [])) self.old.bytes.items result
             self.new.bytes.items }
     {
-        if self.bytes.len() == MAX_BYTES {
+        if self.bytes.len() == MAX_STATE_BYTES {
             return HostAnswer::Raise(1);
         }
         match self.bytes.push((number.cast_unsigned() % 256) as u8) {
@@ -71,7 +70,7 @@ impl HostObject for Buffer {
 
     ghost allows = { λ _. AllowsBuffer };
 
-    ghost refuses = { λ _ bytes. max_state < length bytes };
+    ghost refuses = { λ _ bytes. max_state_bytes < length bytes };
 
     fn kind(&self) -> u16 {
         Buffer::KIND
@@ -108,10 +107,12 @@ impl HostObject for Buffer {
 
     fn restore(&mut self, bytes: &[u8]) -> Result<(), RestoreFault>
         ensures restored { OnOk result (self.new.bytes.items ≡ bytes.now) }
-        ensures refused { IsErrOf result RestoreFault.Refused ↔ (max_state < length bytes.now) }
-        ensures memory { IsErrOf result RestoreFault.NoMemory → max_state < length bytes.now → ⊥ }
+        ensures refused { IsErrOf result RestoreFault.Refused
+            ↔ (max_state_bytes < length bytes.now) }
+        ensures memory { IsErrOf result RestoreFault.NoMemory
+            → max_state_bytes < length bytes.now → ⊥ }
     {
-        if bytes.len() > MAX_BYTES {
+        if bytes.len() > MAX_STATE_BYTES {
             return Err(RestoreFault::Refused);
         }
         self.bytes.clear();

@@ -1,4 +1,4 @@
-//! A kind of host object as an embedding program writes one. It stands on `ash_host` only. It promises that `Buffer`
+//! A kind of host object as an embedding program writes one. It uses `ash_host` alone. It promises that `Buffer`
 //! meets the contract of `HostObject` by its own relation.
 //!
 //! `buffer` has the kind; the words of its relation are in `specs/Buffers`.

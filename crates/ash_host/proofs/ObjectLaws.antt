@@ -1,5 +1,5 @@
 -- The laws, as the contracts state them.
-use Rattle.ash_host.specs.Laws.{ReachIsDecided, SweepIsExact, SweepIsOne, SweepSettles, CascadeIsSweep, CountIsReferences, PutIsExact, NumbersRise, SweepKeepsLast, RecordIsExact}
+use Rattle.ash_host.specs.Laws.{ReachIsDecided, SweepIsExact, SweepIsOne, SweepSettles, CascadeIsSweep, CountIsReferences, InsertIsExact, NumbersRise, SweepKeepsLast, RecordIsExact}
 use Rattle.ash_host.proofs.ReachLaws as reach
 use Rattle.ash_host.proofs.SweepLaws as sweep
 use Rattle.ash_host.proofs.CountLaws as counts
@@ -29,8 +29,8 @@ cascade_is_sweep M held rank top old new c closed ranks = sweep.cascade_is_sweep
 pub count_is_references : (M : Type 0) → CountIsReferences M
 count_is_references M globals objects number o = (counts.counted_held globals objects number o, counts.held_counted globals objects number)
 
-pub put_is_exact : (M : Type 0) → PutIsExact M
-put_is_exact M number object objects o = record {
+pub insert_is_exact : (M : Type 0) → InsertIsExact M
+insert_is_exact M number object objects o = record {
   places = λ place. order.object_at-with_at number object place objects;
   in_order = order.in_order-with_at number object objects o;
   counts = λ other. counts.fields_to-with_at other number object objects o;

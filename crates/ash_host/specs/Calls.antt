@@ -3,10 +3,6 @@ use Rattle.std.specs.Prelude.{ℕ, List}
 use Rattle.ash_host.specs.declared.word.Word.{Word}
 use Rattle.ash_host.specs.declared.answer.HostAnswer.{HostAnswer}
 
--- how many bytes a state has at most
-abbrev pub max_state : ℕ
-max_state = 1024
-
 -- a call of a host object or a service, with what it is handed
 pub data HostCall : Type 0 where
   Start : (args : List Word) → HostCall

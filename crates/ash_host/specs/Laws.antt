@@ -47,17 +47,17 @@ CountIsReferences M = (globals : List Word) (objects : Objects M) (number : ℕ)
     → (0 < count_of number globals objects)
     ↔ (Contains (handles globals) number ⊎ ((one : ℕ) × Refers objects one number))
 
--- what is put at a number is there, all else stays where it was, and the order stays
-pub record IsPut {M : Type 0} (number : ℕ) (object : Plain M) (old new : Objects M) : Type 0 where
+-- what is inserted at a number is there, all else stays where it was, and the order stays
+pub record IsInserted {M : Type 0} (number : ℕ) (object : Plain M) (old new : Objects M) : Type 0 where
   pub places : (place : ℕ) → object_at place new ≡ (if nat_eq place number then Some object else object_at place old)
   pub in_order : IsInOrder new
   pub counts : (other : ℕ)
       → fields_to other new + option_map_or (λ before. handles_to other (fields_of before)) (object_at number old) 0
       ≡ fields_to other old + handles_to other (fields_of object)
 
-abbrev pub PutIsExact : Type 0 → Type 0
-PutIsExact M = (number : ℕ) (object : Plain M) (objects : Objects M) → IsInOrder objects
-    → IsPut number object objects (with_at number object objects)
+abbrev pub InsertIsExact : Type 0 → Type 0
+InsertIsExact M = (number : ℕ) (object : Plain M) (objects : Objects M) → IsInOrder objects
+    → IsInserted number object objects (with_at number object objects)
 
 -- an object that is made gets the number after the last, which is then the last
 abbrev pub NumbersRise : Type 0 → Type 0

@@ -1,5 +1,6 @@
 pub mod Words
 pub mod Calls
+pub mod Limits
 pub mod Ints
 pub mod Kinds
 pub mod Objects

@@ -10,7 +10,8 @@ use Rattle.ash_host.specs.declared.answer.HostAnswer.{HostAnswer}
 use Rattle.ash_host.specs.declared.event.Target.{Target}
 use Rattle.ash_host.specs.declared.event.Target.TheVariants as targets
 use Rattle.ash_host.specs.declared.host_object.HostObject.{Ghosts}
-use Rattle.ash_host.specs.Calls.{HostCall, Start, Invoke, Get, Set, max_state}
+use Rattle.ash_host.specs.Calls.{HostCall, Start, Invoke, Get, Set}
+use Rattle.ash_host.specs.Limits.{max_state_bytes}
 
 -- one call: what it went to, what it was, the state before it, the answer, and the state after it
 pub record HostRecord : Type 0 where
@@ -24,8 +25,8 @@ pub record HostRecord : Type 0 where
 -- before, and where neither state is longer than a state may be.
 pub record IsValidRecord {B : Type 0} (host : Ghosts B) (object : B) (r : HostRecord) : Type 0 where
   pub allowed : host.allows object r.call r.before r.answer r.after
-  pub before_fits : length r.before ≤ max_state
-  pub after_fits : length r.after ≤ max_state
+  pub before_fits : length r.before ≤ max_state_bytes
+  pub after_fits : length r.after ≤ max_state_bytes
 
 -- The next record is of this call, made at this state, and these are left after it.
 pub record Takes (target : Target) (call : HostCall) (before : List ℕ) (records : List HostRecord) (next : HostRecord)

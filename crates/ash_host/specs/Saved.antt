@@ -1,12 +1,12 @@
 -- What is taken as true of a kind of host object, beyond what its code is proved to do.
 use Rattle.std.specs.Prelude.{◌≡◌, ◌≤◌, ℕ, List, length}
 use Rattle.ash_host.specs.declared.host_object.HostObject.{Ghosts}
-use Rattle.ash_host.specs.Calls.{max_state}
+use Rattle.ash_host.specs.Limits.{max_state_bytes}
 
 -- An object saves these bytes: they are its state, and no longer than a state may be.
 pub record Saves {B : Type 0} (host : Ghosts B) (object : B) (bytes : List ℕ) : Type 0 where
   pub state_is : bytes ≡ host.state object
-  pub fits : length bytes ≤ max_state
+  pub fits : length bytes ≤ max_state_bytes
 
 -- A fresh object refuses nothing that an object of its kind saves. It is a premise of whatever promises that a store
 -- opens again: a kind whose `restore` refuses everything meets the trait, and nothing that it saved comes back.

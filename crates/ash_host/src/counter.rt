@@ -1,6 +1,8 @@
 //! The kind Counter.
-ghost use Rattle.std.specs.Prelude.{◌≡◌, ◌≢◌, ◌≤◌, ◌↔◌, ℕ, List, pos, [], ◌∷◌, length, OnOk, IsErrOf};
-ghost use Rattle.ash_host.specs.Calls.{Invoke, SameRelation, max_state};
+ghost use Rattle.std.specs.Prelude.{◌≡◌, ◌≢◌, ◌≤◌, ◌↔◌, [], ◌∷◌};
+ghost use Rattle.std.specs.Prelude.{ℕ, List, pos, length, OnOk, IsErrOf};
+ghost use Rattle.ash_host.specs.Calls.{Invoke, SameRelation};
+ghost use Rattle.ash_host.specs.Limits.{max_state_bytes};
 ghost use Rattle.ash_host.specs.Saved.{RestoresSaved};
 ghost use Rattle.ash_host.specs.declared.word.Word.{Word};
 ghost use Rattle.ash_host.specs.Ints.{int_bytes};

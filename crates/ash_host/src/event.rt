@@ -1,4 +1,4 @@
-//! What a request does to host objects, as its answer reports it.
+//! What happens to host objects during a request.
 
 /// What a call goes to.
 #[derive(Clone, Copy, Debug, PartialEq, Eq)]

@@ -2,7 +2,8 @@
 ghost use Rattle.std.specs.Prelude.{◌≡◌, ◌≤◌, ◌++◌, ℕ, List, length, OnOk, OnErr, IsErrOf};
 ghost use Rattle.ash_host.specs.declared.answer.HostAnswer.{HostAnswer};
 ghost use Rattle.ash_host.specs.declared.fault.RestoreFault.{RestoreFault};
-ghost use Rattle.ash_host.specs.Calls.{HostCall, Start, Invoke, Get, Set, Relation, SameRelation, max_state};
+ghost use Rattle.ash_host.specs.Calls.{HostCall, Start, Invoke, Get, Set, Relation, SameRelation};
+ghost use Rattle.ash_host.specs.Limits.{max_state_bytes};
 
 use crate::{HostAnswer, NoMemory, RestoreFault, Word};
 
@@ -29,7 +30,7 @@ pub trait HostObject: Drop {
 
     /// The number of its kind. It takes no memory.
     fn kind(&self) -> u16
-        ensures { result ≡ kind_of self.now };
+        ensures kind { result ≡ kind_of self.now };
 
     /// Begins its life with the arguments of a factory. `Nothing` is success.
     fn start(&mut self, args: &[Word]) -> HostAnswer
@@ -37,7 +38,7 @@ pub trait HostObject: Drop {
             (state self.new) }
         ensures same_kind { kind_of self.new ≡ kind_of self.old }
         ensures same_relation { SameRelation (allows self.old) (allows self.new) }
-        ensures bounded { length (state self.new) ≤ max_state };
+        ensures bounded { length (state self.new) ≤ max_state_bytes };
 
     /// Runs a method, or a function of a service, by its registered number.
     fn invoke(&mut self, method: u16, args: &[Word]) -> HostAnswer
@@ -45,11 +46,11 @@ pub trait HostObject: Drop {
             (state self.new) }
         ensures same_kind { kind_of self.new ≡ kind_of self.old }
         ensures same_relation { SameRelation (allows self.old) (allows self.new) }
-        ensures bounded { length (state self.new) ≤ max_state };
+        ensures bounded { length (state self.new) ≤ max_state_bytes };
 
     /// The value of a property, by its registered number. It takes no memory.
     fn get(&self, prop: u16) -> Word
-        ensures { allows self.now (Get prop) (state self.now) (HostAnswer.Value result)
+        ensures allowed { allows self.now (Get prop) (state self.now) (HostAnswer.Value result)
             (state self.now) };
 
     /// Writes a property, by its registered number. It takes no memory.
@@ -58,13 +59,13 @@ pub trait HostObject: Drop {
             (state self.new) }
         ensures same_kind { kind_of self.new ≡ kind_of self.old }
         ensures same_relation { SameRelation (allows self.old) (allows self.new) }
-        ensures bounded { length (state self.new) ≤ max_state };
+        ensures bounded { length (state self.new) ≤ max_state_bytes };
 
     /// Appends the state. Where memory runs out nothing is appended.
     fn save(&self, out: &mut Vec<u8>) -> Result<(), NoMemory>
         ensures saved { OnOk result (out.new.items ≡ out.old.items ++ state self.now) }
         ensures unchanged { OnErr result (out.new.items ≡ out.old.items) }
-        ensures bounded { length (state self.now) ≤ max_state };
+        ensures bounded { length (state self.now) ≤ max_state_bytes };
 
     /// Takes these bytes as its state. It refuses bytes that are no state of its kind. Where it is refused, or memory
     /// runs out, its state may be another one afterwards. Where it may refuse the bytes it may answer either error,
@@ -74,7 +75,7 @@ pub trait HostObject: Drop {
         ensures refused { IsErrOf result RestoreFault.Refused → refuses self.old bytes.now }
         ensures same_kind { kind_of self.new ≡ kind_of self.old }
         ensures same_relation { SameRelation (allows self.old) (allows self.new) }
-        ensures bounded { length (state self.new) ≤ max_state };
+        ensures bounded { length (state self.new) ≤ max_state_bytes };
 }
 
 /// A boxed object is the object in the box.

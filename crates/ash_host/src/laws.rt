@@ -2,9 +2,10 @@
 //! body does nothing: its contract is the law. `M` is what a module is known by.
 ghost use Rattle.std.specs.Prelude.{◌≤◌, length};
 ghost use Rattle.ash_host.specs.declared.event.Target.{Target};
-ghost use Rattle.ash_host.specs.Calls.{Invoke, max_state};
+ghost use Rattle.ash_host.specs.Calls.{Invoke};
+ghost use Rattle.ash_host.specs.Limits.{max_state_bytes};
 ghost use Rattle.ash_host.specs.Laws.{ReachIsDecided, SweepIsExact, SweepIsOne, SweepSettles, CascadeIsSweep};
-ghost use Rattle.ash_host.specs.Laws.{CountIsReferences, PutIsExact, NumbersRise, SweepKeepsLast, RecordIsExact};
+ghost use Rattle.ash_host.specs.Laws.{CountIsReferences, InsertIsExact, NumbersRise, SweepKeepsLast, RecordIsExact};
 ghost use Rattle.ash_host.specs.Records.{IsValidRecord};
 
 use crate::{HostAnswer, HostObject, Word};
@@ -12,7 +13,7 @@ use crate::{HostAnswer, HostObject, Word};
 /// What is reachable can be computed.
 #[tactic(auto, using(crate::proofs::ObjectLaws::reach_is_decided))]
 pub fn reach_is_decided<M>()
-    ensures { ReachIsDecided M }
+    ensures decided { ReachIsDecided M }
 {}
 
 /// There is one sweep, it can be computed, and it leaves nothing to sweep.
@@ -25,17 +26,17 @@ pub fn sweep_is_exact<M>()
 /// Counts that fall to zero find what the sweep takes away, where ranks fall along every reference.
 #[tactic(auto, using(crate::proofs::ObjectLaws::cascade_is_sweep))]
 pub fn cascade_is_sweep<M>()
-    ensures { CascadeIsSweep M }
+    ensures swept { CascadeIsSweep M }
 {}
 
 /// A count is above zero exactly where a global is a handle to the object, or an object refers to it.
 pub fn count_is_references<M>()
-    ensures { CountIsReferences M }
+    ensures counted { CountIsReferences M }
 {}
 
-/// An object that is put at a number changes that number only, and the counts by what it holds.
-pub fn put_is_exact<M>()
-    ensures { PutIsExact M }
+/// An object that is inserted at a number changes that number only, and the counts by what it holds.
+pub fn insert_is_exact<M>()
+    ensures inserted { InsertIsExact M }
 {}
 
 /// The number of an object that is made is the last from then on, and a sweep leaves the last number as it is.
@@ -46,13 +47,13 @@ pub fn numbers_rise<M>()
 
 /// A call takes the next record exactly where it is of that call.
 pub fn record_is_exact()
-    ensures { RecordIsExact }
+    ensures taken { RecordIsExact }
 {}
 
 /// Runs a method of an object. What it answers makes a valid record, whichever number the object has.
 pub fn invoke_is_valid<B: HostObject>(object: &mut B, method: u16, args: &[Word]) -> HostAnswer
-    requires { length (B.state object.old) ≤ max_state }
-    ensures { (target : Target) → IsValidRecord B.HostObject object.old (record {
+    requires bounded { length (B.state object.old) ≤ max_state_bytes }
+    ensures valid { (target : Target) → IsValidRecord B.HostObject object.old (record {
       target = target;
       call = Invoke method args.now;
       before = B.state object.old;

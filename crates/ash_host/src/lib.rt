@@ -1,13 +1,13 @@
 //! What scripts and the program that embeds them hand to each other: words, the values of the script language, and
 //! host objects, the objects of the embedding program that handles refer to, with the two kinds that come with the
-//! product. It stands on no other crate, so that all others can use it. It promises that the integer operators are
+//! product. It uses no other crate, so that all others can use it. It promises that the integer operators are
 //! those of whole numbers, reduced to the width of their type, and of every host object that each answer lies
 //! within the relation of its kind.
 //!
 //! In reading order: `word` (values), `answer` (what a call of a host object answers), `fault` (why one isn't saved
 //! or restored), `host_object` (the trait), `counter` and `tally` (the kinds that come with the product, with `int`,
-//! the number that each has), `event` (what a request does to host objects), `laws` (of objects, and of what host
-//! objects answer).
+//! the number that each has), `event` (what happens to host objects during a request), `limits` (of the live objects),
+//! `laws` (of objects, and of what host objects answer).
 #![tactic(auto)]
 
 mod answer;
@@ -17,6 +17,7 @@ mod fault;
 mod host_object;
 mod int;
 pub mod laws;
+mod limits;
 mod tally;
 pub mod word;
 
@@ -25,5 +26,6 @@ pub use counter::Counter;
 pub use event::{Event, Target};
 pub use fault::{NoMemory, RestoreFault};
 pub use host_object::HostObject;
+pub use limits::{MAX_ELEMENTS, MAX_OBJECTS, MAX_STATE_BYTES};
 pub use tally::Tally;
 pub use word::Word;

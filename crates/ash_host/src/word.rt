@@ -22,7 +22,7 @@ impl Word {
 
     /// The number of an `int`. Typed code asks it of nothing else; any other word reads as 0.
     pub fn int(self) -> i32
-        ensures { result ≡ int_of self }
+        ensures number { result ≡ int_of self }
     {
         match self {
             Word::Int(number) => number,
@@ -33,7 +33,7 @@ impl Word {
     /// The sum of two words of type `int`, which wraps at 32 bits.
     #[tactic(auto, using(std::proofs::lemmas::Int::wraps))]
     pub fn int_sum(self, right: Word) -> Word
-        ensures { result ≡ int_sum self right }
+        ensures sum { result ≡ int_sum self right }
     {
         Word::Int(self.int().wrapping_add(right.int()))
     }
@@ -41,14 +41,14 @@ impl Word {
     /// The difference of two words of type `int`, which wraps at 32 bits.
     #[tactic(auto, using(std::proofs::lemmas::Int::wraps))]
     pub fn int_difference(self, right: Word) -> Word
-        ensures { result ≡ int_difference self right }
+        ensures difference { result ≡ int_difference self right }
     {
         Word::Int(self.int().wrapping_sub(right.int()))
     }
 
     /// The product of two words of type `int`, which wraps at 32 bits.
     pub fn int_product(self, right: Word) -> Word
-        ensures { result ≡ int_product self right }
+        ensures product { result ≡ int_product self right }
     {
         Word::Int(self.int().wrapping_mul(right.int()))
     }

@@ -16,8 +16,8 @@ struct Refusal<'a> {
     given_up: &'a [(u16, Option<i32>)],
 }
 
-// Apart from memory, a pool that is too short comes first, then the services in order, then the objects by number. Those
-// before the one that refuses have their states.
+// Apart from memory, a pool that is too short comes first, then the services in order, then the objects by number.
+// Those before the one that refuses have their states.
 static REFUSALS: [Refusal<'static>; 6] = [
     Refusal {
         input: RestoreInput {

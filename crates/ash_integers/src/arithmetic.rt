@@ -43,7 +43,7 @@ pub fn calculate(
     left: Word,
     right: Word,
 ) -> Result<Word, DivisionFault>
-    ensures { result ≡ calculated operator of left right }
+    ensures calculated { result ≡ calculated operator of left right }
 {
     match of {
         IntType::Int => calculate_int(operator, int(left), int(right)),

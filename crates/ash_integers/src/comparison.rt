@@ -25,7 +25,7 @@ pub enum Comparison {
 
 /// Whether a comparison holds between the numbers of two words.
 pub fn compare(comparison: Comparison, left: Word, right: Word) -> bool
-    ensures { result ≡ compared comparison (number_of left) (number_of right) }
+    ensures compared { result ≡ compared comparison (number_of left) (number_of right) }
 {
     let (left, right) = (number(left), number(right));
     match comparison {

@@ -9,7 +9,7 @@ use ash_host::Word;
 
 /// The word of this type that a whole number leaves: its low 32 or 64 bits, read as the type reads them.
 pub fn word_from(of: IntType, number: i128) -> Word
-    ensures { result ≡ word_of of number }
+    ensures low_bits { result ≡ word_of of number }
 {
     match of {
         IntType::Int => Word::Int(low_32_bits(number).cast_signed()),
@@ -33,21 +33,21 @@ fn low_64_bits(number: i128) -> u64
 
 /// An integer converted to this type, as `uint(x)` and assignment do: the low bits stay.
 pub fn convert(to: IntType, word: Word) -> Word
-    ensures { result ≡ word_of to (number_of word) }
+    ensures converted { result ≡ word_of to (number_of word) }
 {
     word_from(to, number(word))
 }
 
 /// `-x` at this type, which wraps.
 pub fn negate(of: IntType, word: Word) -> Word
-    ensures { result ≡ word_of of (pos 0 -ℤ number_of word) }
+    ensures negated { result ≡ word_of of (pos 0 -ℤ number_of word) }
 {
     word_from(of, 0 - number(word))
 }
 
 /// `~x` at this type: each bit is the other one.
 pub fn complement(of: IntType, word: Word) -> Word
-    ensures { result ≡ word_of of (complement_of (number_of word)) }
+    ensures complemented { result ≡ word_of of (complement_of (number_of word)) }
 {
     word_from(of, -1 - number(word))
 }

@@ -1,7 +1,7 @@
 //! The integers of scripts (AngelScript manual, "Primitives", "Math operators", "Bitwise operators").
 //!
 //! Four types, eleven operators and the conversions among the types, each defined once over whole numbers in
-//! `specs/Integers.antt` and computed here on machine words. It stands on `ash_host`, whose words hold the
+//! `specs/Integers.antt` and computed here on machine words. It uses `ash_host`, whose words hold the
 //! integers. It promises that every operator and conversion gives the word that the definition gives, and that
 //! a quotient or a remainder is refused exactly where the definition refuses it.
 //!

@@ -21,7 +21,7 @@ pub enum Shift {
 
 /// What a shift gives on a word of this type; a word of another type reads as 0.
 pub fn shift_by(operator: Shift, of: IntType, left: Word, count: Word) -> Word
-    ensures { result ≡ shifted operator of left count }
+    ensures shifted { result ≡ shifted operator of left count }
 {
     match of {
         IntType::Int => shift_int(operator, int(left), count_32(count)),

@@ -2,17 +2,17 @@
 use Rattle.std.proofs.Common.{◌≡◌, ◌≢◌, ◌⊎◌, inl, inr, ℕ, ◌+◌, ◌<◌, ◌^◌, Bool, true, false, IsTrue, List, [], ◌∷◌, ◌++◌}
 use Rattle.std.proofs.Common.{length, drop, refl, sym, ◌∙◌, ap, subst, arith, append_assoc, length-append}
 use Rattle.std.proofs.lemmas.Bool.{false≢true, true≢false}
-use Rattle.ash_disk.specs.Device.{Device, IsDurable, Throughout}
+use Rattle.ash_disk.specs.Device.{Device, IsDurable, HoldsThroughout}
 use Rattle.ash_disk.proofs.MomentLaws.{at_start}
 use Rattle.ash_journal.specs.declared.other_state.OtherState.{OtherState}
 use Rattle.ash_journal.specs.declared.other_state.OtherState.TheVariants.{Shut, Older, Stray}
-use Rattle.ash_journal.specs.Layout.{mark, block, records, solid, FieldsFit, IsShut, HasMark}
-use Rattle.ash_journal.specs.Current.{Is, Either, IsOlder, Represent, reopened, SettleOn, MaySettleOn, SettleFurther}
-use Rattle.ash_journal.specs.Runs.{Run, Extends, Nothing}
+use Rattle.ash_journal.specs.Layout.{mark, block, records, committed_bytes, FieldsFit, IsShut, HasMark}
+use Rattle.ash_journal.specs.Current.{IsContents, HoldsOneOf, IsOlder, Represent, reopened, SettleOn, MaySettleOn, SettleFurther}
+use Rattle.ash_journal.specs.Runs.{HoldsSince, Extends, NoContents}
 use Rattle.ash_journal.specs.Writes.{IsOn, WhileCommitted, WhileRepaired, WhileReplaced, repaired}
 use Rattle.ash_journal.specs.OtherState.{is_older, is_stray, repaired as state_repaired, first_of, second_of, OtherIs}
 use Rattle.ash_journal.specs.Journal.{EndIs, NeedsNoRepair, FilesAre}
-use Rattle.ash_journal.proofs.LayoutLaws.{length-block, length-mark, length-solid, records-nil, records-push}
+use Rattle.ash_journal.proofs.LayoutLaws.{length-block, length-mark, length-committed_bytes, records-nil, records-push}
 use Rattle.ash_journal.proofs.LayoutLaws.{solid_no_records, solid_mark, mark_open}
 use Rattle.ash_journal.proofs.SettleLaws.{Property, open_reopened, settle_more, further_same}
 use Rattle.ash_journal.proofs.InstallLaws.{IsAside, IsComing, IsGrowing, install_settles, repaired_settles}
@@ -122,9 +122,9 @@ other_settled Stray g x file y P is (inr torn) settle =
 
 -- what stays as it was settles on nothing new
 nothing_new : (u v x y : List ℕ) → (SettleOn (MaySettleOn u v) u v → SettleOn (MaySettleOn u v) x y)
-    → SettleFurther Nothing u v x y
+    → SettleFurther NoContents u v x y
 nothing_new u v x y stays settle =
-    settle_more (MaySettleOn u v) (Either Nothing (MaySettleOn u v)) (λ contents old. inr old) x y (stays settle)
+    settle_more (MaySettleOn u v) (HoldsOneOf NoContents (MaySettleOn u v)) (λ contents old. inr old) x y (stays settle)
 
 module _ {D : Type 0} (device : Device D) where
   -- the files represent what they hold
@@ -150,13 +150,13 @@ module _ {D : Type 0} (device : Device D) where
   pub ready_run : (number end size : ℕ) (stray : Bool) (other_state : OtherState) (swapped : Bool) (c o : D)
       (image : List ℕ) (bodies : List (List ℕ)) → FilesAre device number end size stray other_state c o image bodies
       → NeedsNoRepair stray other_state
-      → Run device (device.clock (first_of swapped c o)) (device.clock (second_of swapped c o)) (first_of swapped c o)
-      (second_of swapped c o) (Is (image, bodies))
+      → HoldsSince device (device.clock (first_of swapped c o)) (device.clock (second_of swapped c o)) (first_of swapped c o)
+      (second_of swapped c o) (IsContents (image, bodies))
   ready_run number end size stray other_state swapped c o image bodies files ready =
-      run_now device swapped c o (Is (image, bodies)) files.current_durable files.other_durable
+      run_now device swapped c o (IsContents (image, bodies)) files.current_durable files.other_durable
       (repaired_settles number image bodies (device.seen c) files.after (device.seen o)
       (files.bytes
-      ∙ ap (λ (g : ℕ). solid number image bodies ++ g ∷ files.after)
+      ∙ ap (λ (g : ℕ). committed_bytes number image bodies ++ g ∷ files.after)
       (end_shut stray other_state files.gate ready files.gate_is)) files.fits
       (other_aside stray other_state number (device.seen o) ready files.other_is))
 
@@ -165,15 +165,15 @@ module _ {D : Type 0} (device : Device D) where
       (files : FilesAre device number end size stray other_state c o image bodies)
       (ready : NeedsNoRepair stray other_state) (short : length body < 2 ^ 32) where
     -- the current file, at rest
-    pub at_rest : device.seen c ≡ solid number image bodies ++ 0 ∷ files.after
+    pub at_rest : device.seen c ≡ committed_bytes number image bodies ++ 0 ∷ files.after
     at_rest = files.bytes
-        ∙ ap (λ (g : ℕ). solid number image bodies ++ g ∷ files.after)
+        ∙ ap (λ (g : ℕ). committed_bytes number image bodies ++ g ∷ files.after)
         (end_shut stray other_state files.gate ready files.gate_is)
 
     -- one record more
     pub append_files : (added : ℕ) → added ≡ 5 + length body → device.honest c' ≡ device.honest c
         → IsOn device c'
-        (solid number image bodies ++ 1 ∷ ((block body ++ 0 ∷ []) ++ drop (length (block body ++ 0 ∷ [])) files.after))
+        (committed_bytes number image bodies ++ 1 ∷ ((block body ++ 0 ∷ []) ++ drop (length (block body ++ 0 ∷ [])) files.after))
         → FilesAre device number (end + added) (size + added) stray other_state c' o image (bodies ++ body ∷ [])
     append_files added added_is honest_is on = record {
       current_honest = subst IsTrue (sym honest_is) files.current_honest;
@@ -182,15 +182,15 @@ module _ {D : Type 0} (device : Device D) where
       after = rest;
       shut = λ e. omega (arith, e);
       bytes = on.bytes
-          ∙ ap (λ (l : List ℕ). solid number image bodies ++ 1 ∷ l) (append_assoc (block body) (0 ∷ []) rest)
+          ∙ ap (λ (l : List ℕ). committed_bytes number image bodies ++ 1 ∷ l) (append_assoc (block body) (0 ∷ []) rest)
           ∙ grown number image bodies body (0 ∷ rest);
       fits = fits_push number image bodies body files.fits short;
       end_is = omega (
         arith,
         files.end_is,
         added_is,
-        length-solid number image bodies,
-        length-solid number image (bodies ++ body ∷ []),
+        length-committed_bytes number image bodies,
+        length-committed_bytes number image (bodies ++ body ∷ []),
         longer,
       );
       size_is = omega (arith, files.size_is, added_is, longer);
@@ -218,13 +218,13 @@ module _ {D : Type 0} (device : Device D) where
     -- at every moment the records before, or these and the new one
     pub append_extends : (swapped : Bool) → device.leaves c (device.clock c) (device.seen c)
         → device.leaves o (device.clock o) (device.seen o)
-        → Throughout device c c' (WhileCommitted (solid number image bodies) (block body ++ 0 ∷ []) files.after)
+        → HoldsThroughout device c c' (WhileCommitted (committed_bytes number image bodies) (block body ++ 0 ∷ []) files.after)
         → Extends device (first_of swapped c o) (second_of swapped c o) (first_of swapped c' o) (second_of swapped c' o)
-        (Is (image, bodies ++ body ∷ []))
+        (IsContents (image, bodies ++ body ∷ []))
     append_extends swapped left_c left_o call =
         extends_placed device swapped c o c' o new
         (extends_by device c o c' o (device.seen c) (device.seen o)
-        (WhileCommitted (solid number image bodies) (block body ++ 0 ∷ []) files.after)
+        (WhileCommitted (committed_bytes number image bodies) (block body ++ 0 ∷ []) files.after)
         (λ (v : List ℕ). v ≡ device.seen o) new left_c left_o call
         (at_start (device.clock o) (device.leaves o) (λ (v : List ℕ). v ≡ device.seen o) files.other_durable)
         (λ x y p. settles x y p)
@@ -235,13 +235,13 @@ module _ {D : Type 0} (device : Device D) where
         (settles x (device.seen o) p)))
       where
         new : Property
-        new = Is (image, bodies ++ body ∷ [])
+        new = IsContents (image, bodies ++ body ∷ [])
 
-        settles : (x y : List ℕ) → WhileCommitted (solid number image bodies) (block body ++ 0 ∷ []) files.after x
-            → SettleFurther (Is (image, bodies ++ body ∷ [])) (device.seen c) y x y
+        settles : (x y : List ℕ) → WhileCommitted (committed_bytes number image bodies) (block body ++ 0 ∷ []) files.after x
+            → SettleFurther (IsContents (image, bodies ++ body ∷ [])) (device.seen c) y x y
         settles x y p settle =
             append_settles (MaySettleOn (device.seen c) y) number image bodies body (device.seen c) files.after x y
-            at_rest files.fits short (block_growing (solid number image bodies) body files.after x p) settle
+            at_rest files.fits short (block_growing (committed_bytes number image bodies) body files.after x p) settle
 
   -- ---- a new generation
 
@@ -266,7 +266,7 @@ module _ {D : Type 0} (device : Device D) where
       bytes = on.bytes ∙ ap (λ (l : List ℕ). 1 ∷ l) (generation_append (number + 1) image rest)
           ∙ sym (solid_no_records (number + 1) image (0 ∷ rest));
       fits = new_fits;
-      end_is = omega (arith, added_is, length-solid (number + 1) image [], ap length records-nil);
+      end_is = omega (arith, added_is, length-committed_bytes (number + 1) image [], ap length records-nil);
       size_is = omega (arith, ap length records-nil);
       gate_is = refl;
       other_is = (
@@ -283,20 +283,20 @@ module _ {D : Type 0} (device : Device D) where
 
     -- at every moment the old generation or the new
     pub install_run : (swapped : Bool)
-        → Throughout device o o'
+        → HoldsThroughout device o o'
         (WhileReplaced (is_older other_state) (mark (number + 1) ++ (block image ++ 0 ∷ [])) (device.seen o))
-        → Run device (device.clock (first_of swapped c o)) (device.clock (second_of swapped c o))
-        (first_of swapped c o') (second_of swapped c o') (Either (Is (image, [])) (Is (was, bodies)))
+        → HoldsSince device (device.clock (first_of swapped c o)) (device.clock (second_of swapped c o))
+        (first_of swapped c o') (second_of swapped c o') (HoldsOneOf (IsContents (image, [])) (IsContents (was, bodies)))
     install_run swapped call =
         run_begins device swapped c o c o'
         (λ (u : List ℕ). u ≡ device.seen c)
         (WhileReplaced (is_older other_state) (mark (number + 1) ++ (block image ++ 0 ∷ [])) (device.seen o))
-        (Either (Is (image, [])) (Is (was, bodies)))
+        (HoldsOneOf (IsContents (image, [])) (IsContents (was, bodies)))
         (at_start (device.clock c) (device.leaves c) (λ (u : List ℕ). u ≡ device.seen c) files.current_durable) call
-        (λ x y p q. subst (λ (l : List ℕ). SettleOn (Either (Is (image, [])) (Is (was, bodies))) l y) (sym p) (
+        (λ x y p q. subst (λ (l : List ℕ). SettleOn (HoldsOneOf (IsContents (image, [])) (IsContents (was, bodies))) l y) (sym p) (
         install_settles number (number + 1) was image bodies (device.seen c) files.after y
         (files.bytes
-        ∙ ap (λ (g : ℕ). solid number was bodies ++ g ∷ files.after)
+        ∙ ap (λ (g : ℕ). committed_bytes number was bodies ++ g ∷ files.after)
         (end_shut stray other_state files.gate ready files.gate_is))
         files.fits new_fits (omega arith)
         (replaced_leaves stray other_state number (number + 1) image (device.seen o) y ready files.other_is q)
@@ -307,7 +307,7 @@ module _ {D : Type 0} (device : Device D) where
   module _ (number end size : ℕ) (stray : Bool) (other_state : OtherState) (c c' o o' : D) (image : List ℕ)
       (bodies : List (List ℕ)) (files : FilesAre device number end size stray other_state c o image bodies) where
     pub settle_files : device.honest c' ≡ device.honest c → device.honest o' ≡ device.honest o
-        → IsOn device c' (solid number image bodies ++ repaired stray (files.gate ∷ files.after))
+        → IsOn device c' (committed_bytes number image bodies ++ repaired stray (files.gate ∷ files.after))
         → IsOn device o' (repaired (is_stray other_state) (device.seen o))
         → FilesAre device number end size false (state_repaired other_state) c' o' image bodies
     settle_files honest_c honest_o on_c on_o = record {
@@ -317,7 +317,7 @@ module _ {D : Type 0} (device : Device D) where
       after = files.after;
       shut = λ e. omega (arith, e);
       bytes = on_c.bytes
-          ∙ ap (λ (l : List ℕ). solid number image bodies ++ l)
+          ∙ ap (λ (l : List ℕ). committed_bytes number image bodies ++ l)
           (end_repaired stray files.gate files.after files.gate_is);
       fits = files.fits;
       end_is = files.end_is;
@@ -331,15 +331,15 @@ module _ {D : Type 0} (device : Device D) where
     -- at every moment the same
     pub settle_extends : (swapped : Bool) → device.leaves c (device.clock c) (device.seen c)
         → device.leaves o (device.clock o) (device.seen o)
-        → Throughout device c c' (WhileRepaired stray (solid number image bodies) (files.gate ∷ files.after))
-        → Throughout device o o' (WhileRepaired (is_stray other_state) [] (device.seen o))
+        → HoldsThroughout device c c' (WhileRepaired stray (committed_bytes number image bodies) (files.gate ∷ files.after))
+        → HoldsThroughout device o o' (WhileRepaired (is_stray other_state) [] (device.seen o))
         → Extends device (first_of swapped c o) (second_of swapped c o) (first_of swapped c' o')
-        (second_of swapped c' o') Nothing
+        (second_of swapped c' o') NoContents
     settle_extends swapped left_c left_o one two =
-        extends_placed device swapped c o c' o' Nothing
+        extends_placed device swapped c o c' o' NoContents
         (extends_by device c o c' o' (device.seen c) (device.seen o)
-        (WhileRepaired stray (solid number image bodies) (files.gate ∷ files.after))
-        (WhileRepaired (is_stray other_state) [] (device.seen o)) Nothing left_c left_o one two
+        (WhileRepaired stray (committed_bytes number image bodies) (files.gate ∷ files.after))
+        (WhileRepaired (is_stray other_state) [] (device.seen o)) NoContents left_c left_o one two
         (λ x y p. nothing_new (device.seen c) y x y (λ settle.
         end_settled (MaySettleOn (device.seen c) y) x y p settle))
         (λ x y q. nothing_new x (device.seen o) x y (λ settle.
@@ -354,7 +354,7 @@ module _ {D : Type 0} (device : Device D) where
         not_shut false same is = absurd (false≢true same)
 
         end_settled : (P : Property) (x y : List ℕ)
-            → WhileRepaired stray (solid number image bodies) (files.gate ∷ files.after) x
+            → WhileRepaired stray (committed_bytes number image bodies) (files.gate ∷ files.after) x
             → SettleOn P (device.seen c) y → SettleOn P x y
         end_settled P x y (inl same) settle = subst (λ (l : List ℕ). SettleOn P l y) (files.bytes ∙ sym same) settle
         end_settled P x y (inr torn) settle =
@@ -377,7 +377,7 @@ module _ {D : Type 0} (device : Device D) where
     bytes = on.bytes ∙ ap (λ (l : List ℕ). 1 ∷ l) (generation_append 1 image rest)
         ∙ sym (solid_no_records 1 image (0 ∷ rest));
     fits = record { numbered = omega arith; image_short = short; bodies_short = tt };
-    end_is = omega (arith, end_is, length-solid 1 image [], ap length records-nil);
+    end_is = omega (arith, end_is, length-committed_bytes 1 image [], ap length records-nil);
     size_is = omega (arith, ap length records-nil);
     gate_is = refl;
     other_is = shut;

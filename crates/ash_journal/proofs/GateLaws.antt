@@ -1,13 +1,13 @@
 -- What a file holds before, while and after a gate is written.
 use Rattle.std.proofs.Common.{◌≡◌, inl, inr, ℕ, ◌+◌, ◌≤◌, List, [], ◌∷◌, ◌++◌, length, drop, refl, sym, ◌∙◌, ap, subst}
 use Rattle.std.proofs.Common.{arith, append_assoc, length-append, length-drop, Result, Ok, Err, OnOk, Bool, true, false}
-use Rattle.ash_disk.specs.Device.{Device, IsDurable, Throughout}
-use Rattle.ash_disk.specs.Image.{after_write, Torn, TornFrom, Only, torn_not}
-use Rattle.ash_disk.specs.Moments.{During}
+use Rattle.ash_disk.specs.Device.{Device, IsDurable, HoldsThroughout}
+use Rattle.ash_disk.specs.Image.{after_write, Torn, TornFrom, LeavesOnly, torn_not}
+use Rattle.ash_disk.specs.Moments.{HoldsDuring}
 use Rattle.ash_disk.proofs.MomentLaws.{at_start, weaker}
 use Rattle.ash_disk.proofs.TornLaws.{prefix_stays, byte_torn, written_after, torn_from_only}
 use Rattle.ash_journal.specs.OtherState.{first_of, second_of}
-use Rattle.ash_journal.specs.Writes.{IsSplit, WritesByte, WhileShut, WhileCommitted, IsIdle, AreIdle, repaired}
+use Rattle.ash_journal.specs.Writes.{IsSplit, WritesByte, WhileShut, WhileCommitted, IsUnused, AreUnused, repaired}
 use Rattle.ash_journal.specs.Layout.{IsShut}
 
 pub within : (prefix suffix : List ℕ) (at : ℕ) (file : List ℕ) → length prefix ≡ at → file ≡ prefix ++ suffix
@@ -67,8 +67,8 @@ gate_torn prefix bytes suffix gate long new torn =
 
 -- a write to a file that is all on the device
 pub while_written : (start end : ℕ) (before after : ℕ → List ℕ → Type 0) (file split : List ℕ) (at n : ℕ)
-    (P : List ℕ → Type 0) → Only file (before start) → file ≡ split → ((new : List ℕ) → Torn at n split new → P new)
-    → During start end before after (TornFrom at n (before start)) → During start end before after P
+    (P : List ℕ → Type 0) → LeavesOnly file (before start) → file ≡ split → ((new : List ℕ) → Torn at n split new → P new)
+    → HoldsDuring start end before after (TornFrom at n (before start)) → HoldsDuring start end before after P
 while_written start end before after file split at n P only is so call =
     weaker start end before after (TornFrom at n (before start)) P
     (λ image from.
@@ -88,8 +88,8 @@ repaired_shut false [] shut = absurd (shut refl)
 repaired_shut false (gate ∷ rest) shut = ap (λ (g : ℕ). g ∷ rest) (shut refl)
 
 -- A write over the first byte of a file that is not shut leaves at most one byte, where there was no more.
-pub torn_idle : (images : List ℕ → Type 0) (seen : List ℕ) → images seen → (IsShut seen → ⊥) → AreIdle images
-    → (image : List ℕ) → TornFrom 0 1 images image → IsIdle image
+pub torn_idle : (images : List ℕ → Type 0) (seen : List ℕ) → images seen → (IsShut seen → ⊥) → AreUnused images
+    → (image : List ℕ) → TornFrom 0 1 images image → IsUnused image
 torn_idle images seen left not_shut (inl tiny) image (old, old_left, torn) = let was : length old ≤ 1 =
     tiny old old_left in inl (omega (arith, was, torn.no_longer))
 torn_idle images seen left not_shut (inr shut) image torn = absurd (not_shut (shut seen left))
@@ -114,7 +114,7 @@ unwritten device at disk prefix suffix split = none_written device at disk split
 -- where one byte is
 pub one_written : {D : Type 0} (device : Device D) (at : ℕ) (old new : D) → IsDurable device old
     → Torn at 1 (device.seen old) (device.seen new)
-    → Throughout device old new (TornFrom at 1 (device.leaves old (device.clock old))) → WritesByte device at old new
+    → HoldsThroughout device old new (TornFrom at 1 (device.leaves old (device.clock old))) → WritesByte device at old new
 one_written device at old new durable seen moments = record {
   seen = seen;
   moments = weaker (device.clock old) (device.clock new) (device.leaves old) (device.leaves new)

@@ -2,12 +2,12 @@
 use Rattle.std.proofs.Common.{◌≡◌, ◌⊎◌, inl, inr, ℕ, ◌<◌, ◌^◌, List, [], ◌∷◌, ◌++◌, length, refl, sym, ◌∙◌, ap, subst}
 use Rattle.std.proofs.Common.{arith, append_assoc}
 use Rattle.std.proofs.lemmas.Bool.{cases_eq}
-use Rattle.ash_journal.specs.Layout.{mark, block, solid, AreShort, FieldsFit, IsFile, IsOpen, IsClosed, IsShut, HasMark}
-use Rattle.ash_journal.specs.Current.{Is, Either, IsOlder, RepresentOne, reopened, Reopens, SettleOn}
+use Rattle.ash_journal.specs.Layout.{mark, block, committed_bytes, AreShort, FieldsFit, IsFile, IsOpen, IsClosed, IsShut, HasMark}
+use Rattle.ash_journal.specs.Current.{IsContents, HoldsOneOf, IsOlder, RepresentOne, reopened, Reopens, SettleOn}
 use Rattle.ash_journal.specs.Opening.{IsCreatedOrClosed}
-use Rattle.ash_journal.specs.Writes.{IsIdle, WhileCreated}
+use Rattle.ash_journal.specs.Writes.{IsUnused, WhileCreated}
 use Rattle.ash_journal.proofs.LayoutLaws.{same_file, solid_mark, file_mark, mark_closed, mark_open, solid_no_records}
-use Rattle.ash_journal.proofs.LayoutLaws.{solid-push}
+use Rattle.ash_journal.proofs.LayoutLaws.{committed_bytes-push}
 use Rattle.ash_journal.proofs.SettleLaws.{Property, by_invariant, mark_less, older_by_mark, open_or_closed}
 use Rattle.ash_journal.proofs.SettleLaws.{open_reopened, open_shut, reopened_twice}
 use Rattle.ash_journal.proofs.ReopenLaws.{end_settles, rest_settles}
@@ -55,13 +55,13 @@ Installs g n image x a b = (a ≡ x) × (IsAside g b ⊎ IsComing n image b)
 
 -- A current file at rest, and the other, on its way to a new generation: they settle on the new and the old.
 pub install_settles : (g n : ℕ) (image image' : List ℕ) (bodies : List (List ℕ)) (x rest y : List ℕ)
-    → x ≡ solid g image bodies ++ 0 ∷ rest → FieldsFit g image bodies → FieldsFit n image' [] → g < n
-    → IsAside g y ⊎ IsComing n image' y → SettleOn (Either (Is (image', [])) (Is (image, bodies))) x y
+    → x ≡ committed_bytes g image bodies ++ 0 ∷ rest → FieldsFit g image bodies → FieldsFit n image' [] → g < n
+    → IsAside g y ⊎ IsComing n image' y → SettleOn (HoldsOneOf (IsContents (image', [])) (IsContents (image, bodies))) x y
 install_settles g n image image' bodies x rest y is fits fits_new less coming =
     by_invariant both (Installs g n image' x) represents preserved x y (refl, coming)
   where
     both : Property
-    both = Either (Is (image', [])) (Is (image, bodies))
+    both = HoldsOneOf (IsContents (image', [])) (IsContents (image, bodies))
 
     file : IsFile g image bodies x
     file = record { gate = 0; after = rest; shut = λ e. omega (arith, e); bytes = is; fits = fits }
@@ -69,7 +69,7 @@ install_settles g n image image' bodies x rest y is fits fits_new less coming =
     marked : HasMark g x
     marked = file_mark g image bodies x file
 
-    old : (b : List ℕ) → IsOlder g b → RepresentOne (Either (Is (image', [])) (Is (image, bodies))) x b
+    old : (b : List ℕ) → IsOlder g b → RepresentOne (HoldsOneOf (IsContents (image', [])) (IsContents (image, bodies))) x b
     old b older = ((image, bodies), inr refl, inl (g, record { file = file; older = older }))
 
     new_file : (b more : List ℕ) → b ≡ 1 ∷ (mark n ++ (block image' ++ 0 ∷ more)) → IsFile n image' [] b
@@ -82,12 +82,12 @@ install_settles g n image image' bodies x rest y is fits fits_new less coming =
     }
 
     represents : (a b : List ℕ) → Installs g n image' x a b
-        → RepresentOne (Either (Is (image', [])) (Is (image, bodies))) a b
+        → RepresentOne (HoldsOneOf (IsContents (image', [])) (IsContents (image, bodies))) a b
     represents a b holds =
-        subst (λ (l : List ℕ). RepresentOne (Either (Is (image', [])) (Is (image, bodies))) l b) (sym holds.0)
+        subst (λ (l : List ℕ). RepresentOne (HoldsOneOf (IsContents (image', [])) (IsContents (image, bodies))) l b) (sym holds.0)
         (from holds.1)
       where
-        from : IsAside g b ⊎ IsComing n image' b → RepresentOne (Either (Is (image', [])) (Is (image, bodies))) x b
+        from : IsAside g b ⊎ IsComing n image' b → RepresentOne (HoldsOneOf (IsContents (image', [])) (IsContents (image, bodies))) x b
         from (inl aside) = old b (aside_closed_or_older g b aside)
         from (inr whole) = elim (open_or_closed b) [
           | inl is_open ↦
@@ -165,49 +165,49 @@ fits_push g image bodies body fits short =
 
 -- with 1 for its gate the record counts
 pub grown : (g : ℕ) (image : List ℕ) (bodies : List (List ℕ)) (body rest : List ℕ)
-    → solid g image bodies ++ 1 ∷ (block body ++ rest) ≡ solid g image (bodies ++ body ∷ []) ++ rest
+    → committed_bytes g image bodies ++ 1 ∷ (block body ++ rest) ≡ committed_bytes g image (bodies ++ body ∷ []) ++ rest
 grown g image bodies body rest =
-    sym (append_assoc (solid g image bodies) (1 ∷ block body) rest)
-    ∙ ap (λ (l : List ℕ). l ++ rest) (sym (solid-push g image bodies body))
+    sym (append_assoc (committed_bytes g image bodies) (1 ∷ block body) rest)
+    ∙ ap (λ (l : List ℕ). l ++ rest) (sym (committed_bytes-push g image bodies body))
 
 -- A file at rest settles, with any other, on what it did or on one record more, while that record is written.
 pub append_settles : (P : Property) (g : ℕ) (image : List ℕ) (bodies : List (List ℕ)) (body x rest u y : List ℕ)
-    → x ≡ solid g image bodies ++ 0 ∷ rest → FieldsFit g image bodies → length body < 2 ^ 32
-    → IsGrowing (solid g image bodies) body u → SettleOn P x y
-    → SettleOn (Either (Is (image, bodies ++ body ∷ [])) P) u y
+    → x ≡ committed_bytes g image bodies ++ 0 ∷ rest → FieldsFit g image bodies → length body < 2 ^ 32
+    → IsGrowing (committed_bytes g image bodies) body u → SettleOn P x y
+    → SettleOn (HoldsOneOf (IsContents (image, bodies ++ body ∷ [])) P) u y
 append_settles P g image bodies body x rest u y is fits short growing settle = from growing
   where
     file : IsFile g image bodies x
     file = record { gate = 0; after = rest; shut = λ e. omega (arith, e); bytes = is; fits = fits }
 
-    grown_settles : (w more v : List ℕ) → w ≡ solid g image bodies ++ 1 ∷ (block body ++ 0 ∷ more) → SettleOn P x v
-        → SettleOn (Either (Is (image, bodies ++ body ∷ [])) P) w v
+    grown_settles : (w more v : List ℕ) → w ≡ committed_bytes g image bodies ++ 1 ∷ (block body ++ 0 ∷ more) → SettleOn P x v
+        → SettleOn (HoldsOneOf (IsContents (image, bodies ++ body ∷ [])) P) w v
     grown_settles w more v w_is settles =
-        rest_settles P (Either (Is (image, bodies ++ body ∷ [])) P) g image image bodies (bodies ++ body ∷ []) x w more
+        rest_settles P (HoldsOneOf (IsContents (image, bodies ++ body ∷ [])) P) g image image bodies (bodies ++ body ∷ []) x w more
         v file (w_is ∙ grown g image bodies body (0 ∷ more)) (fits_push g image bodies body fits short)
         (λ was. inl refl) (λ contents one. inr one) settles
 
-    from : IsGrowing (solid g image bodies) body u → SettleOn (Either (Is (image, bodies ++ body ∷ [])) P) u y
+    from : IsGrowing (committed_bytes g image bodies) body u → SettleOn (HoldsOneOf (IsContents (image, bodies ++ body ∷ [])) P) u y
     from (inl rests) =
-        rest_settles P (Either (Is (image, bodies ++ body ∷ [])) P) g image image bodies bodies x u rests.0 y file
+        rest_settles P (HoldsOneOf (IsContents (image, bodies ++ body ∷ [])) P) g image image bodies bodies x u rests.0 y file
         rests.1 fits (λ was. inr was) (λ contents one. inr one) settle
     from (inr whole) = elim (cases_eq whole.0 1) [
       | inl open_now ↦
           grown_settles u whole.1 y
-          (whole.2 ∙ ap (λ (c : ℕ). solid g image bodies ++ c ∷ (block body ++ 0 ∷ whole.1)) open_now) settle
+          (whole.2 ∙ ap (λ (c : ℕ). committed_bytes g image bodies ++ c ∷ (block body ++ 0 ∷ whole.1)) open_now) settle
       | inr shut ↦
-          subst (λ (l : List ℕ). SettleOn (Either (Is (image, bodies ++ body ∷ [])) P) l y) (sym whole.2)
-          (end_settles P (Either (Is (image, bodies ++ body ∷ [])) P) g image bodies x whole.0
+          subst (λ (l : List ℕ). SettleOn (HoldsOneOf (IsContents (image, bodies ++ body ∷ [])) P) l y) (sym whole.2)
+          (end_settles P (HoldsOneOf (IsContents (image, bodies ++ body ∷ [])) P) g image bodies x whole.0
           (block body ++ 0 ∷ whole.1) y file shut (λ contents one. inr one)
           (λ v settles older.
-          grown_settles (solid g image bodies ++ 1 ∷ (block body ++ 0 ∷ whole.1)) whole.1 v refl settles) settle)
+          grown_settles (committed_bytes g image bodies ++ 1 ∷ (block body ++ 0 ∷ whole.1)) whole.1 v refl settles) settle)
     ]
 
 -- A current file at rest and one that is shut or older: they settle on what the first represents alone.
 pub repaired_settles : (g : ℕ) (image : List ℕ) (bodies : List (List ℕ)) (x rest y : List ℕ)
-    → x ≡ solid g image bodies ++ 0 ∷ rest → FieldsFit g image bodies → IsAside g y → SettleOn (Is (image, bodies)) x y
+    → x ≡ committed_bytes g image bodies ++ 0 ∷ rest → FieldsFit g image bodies → IsAside g y → SettleOn (IsContents (image, bodies)) x y
 repaired_settles g image bodies x rest y is fits aside =
-    by_invariant (Is (image, bodies)) (λ (a b : List ℕ). (a ≡ x) × IsAside g b) represents preserved x y (refl, aside)
+    by_invariant (IsContents (image, bodies)) (λ (a b : List ℕ). (a ≡ x) × IsAside g b) represents preserved x y (refl, aside)
   where
     file : IsFile g image bodies x
     file = record { gate = 0; after = rest; shut = λ e. omega (arith, e); bytes = is; fits = fits }
@@ -215,9 +215,9 @@ repaired_settles g image bodies x rest y is fits aside =
     marked : HasMark g x
     marked = file_mark g image bodies x file
 
-    represents : (a b : List ℕ) → (a ≡ x) × IsAside g b → RepresentOne (Is (image, bodies)) a b
+    represents : (a b : List ℕ) → (a ≡ x) × IsAside g b → RepresentOne (IsContents (image, bodies)) a b
     represents a b holds =
-        subst (λ (l : List ℕ). RepresentOne (Is (image, bodies)) l b) (sym holds.0)
+        subst (λ (l : List ℕ). RepresentOne (IsContents (image, bodies)) l b) (sym holds.0)
         ((image, bodies), refl, inl (g, record { file = file; older = aside_closed_or_older g b holds.1 }))
 
     preserved : (a b s t : List ℕ) → (a ≡ x) × IsAside g b → Reopens a b s t → (s ≡ x) × IsAside g t
@@ -242,22 +242,22 @@ repaired_settles g image bodies x rest y is fits aside =
 
 -- ---- a first generation
 
-idle_closed : (file : List ℕ) → IsIdle file → IsClosed file
+idle_closed : (file : List ℕ) → IsUnused file → IsClosed file
 idle_closed [] idle = tt
 idle_closed (gate ∷ []) idle = tt
 idle_closed (gate ∷ second ∷ rest) (inl tiny) = absurd (omega arith)
 idle_closed (gate ∷ second ∷ rest) (inr shut) = λ is_open. omega (arith, is_open, shut)
 
-idle_reopened : (file : List ℕ) → IsIdle file → (IsShut file → ⊥) → IsIdle (reopened file)
+idle_reopened : (file : List ℕ) → IsUnused file → (IsShut file → ⊥) → IsUnused (reopened file)
 idle_reopened [] idle not_shut = inl (omega arith)
 idle_reopened (gate ∷ rest) (inl tiny) not_shut = inl (omega (arith, tiny))
 idle_reopened (gate ∷ rest) (inr shut) not_shut = absurd (not_shut shut)
 
 -- A file at rest and one that was never in use: they settle on what the first represents.
-created_settles : (g : ℕ) (image x rest y : List ℕ) → x ≡ solid g image [] ++ 0 ∷ rest → FieldsFit g image [] → IsIdle y
-    → SettleOn (Is (image, [])) x y
+created_settles : (g : ℕ) (image x rest y : List ℕ) → x ≡ committed_bytes g image [] ++ 0 ∷ rest → FieldsFit g image [] → IsUnused y
+    → SettleOn (IsContents (image, [])) x y
 created_settles g image x rest y is fits idle =
-    by_invariant (Is (image, [])) (λ (a b : List ℕ). (a ≡ x) × IsIdle b) represents preserved x y (refl, idle)
+    by_invariant (IsContents (image, [])) (λ (a b : List ℕ). (a ≡ x) × IsUnused b) represents preserved x y (refl, idle)
   where
     file : IsFile g image [] x
     file = record { gate = 0; after = rest; shut = λ e. omega (arith, e); bytes = is; fits = fits }
@@ -265,18 +265,18 @@ created_settles g image x rest y is fits idle =
     marked : HasMark g x
     marked = file_mark g image [] x file
 
-    represents : (a b : List ℕ) → (a ≡ x) × IsIdle b → RepresentOne (Is (image, [])) a b
+    represents : (a b : List ℕ) → (a ≡ x) × IsUnused b → RepresentOne (IsContents (image, [])) a b
     represents a b holds =
-        subst (λ (l : List ℕ). RepresentOne (Is (image, [])) l b) (sym holds.0)
+        subst (λ (l : List ℕ). RepresentOne (IsContents (image, [])) l b) (sym holds.0)
         ((image, []), refl, inl (g, record { file = file; older = inl (idle_closed b holds.1) }))
 
-    preserved : (a b s t : List ℕ) → (a ≡ x) × IsIdle b → Reopens a b s t → (s ≡ x) × IsIdle t
+    preserved : (a b s t : List ℕ) → (a ≡ x) × IsUnused b → Reopens a b s t → (s ≡ x) × IsUnused t
     preserved a b s t holds (inl (inl one)) =
         let same = same_file one.0.generation g one.0.image image one.0.bodies [] one.0.gate 0 one.0.after rest
         one.0.fits fits one.0.not_open (λ e. omega (arith, e)) (sym one.0.bytes ∙ holds.0 ∙ is) in
         absurd (one.0.not_shut same.gates)
     preserved a b s t holds (inl (inr one)) =
-        (one.1 ∙ holds.0, subst IsIdle (sym one.0.opened) (idle_reopened b holds.1 one.0.not_shut))
+        (one.1 ∙ holds.0, subst IsUnused (sym one.0.opened) (idle_reopened b holds.1 one.0.not_shut))
     preserved a b s t holds (inr (inl one)) =
         absurd (mark_closed one.0.generation b
         (solid_mark one.0.generation one.0.image one.0.bodies (one.0.gate ∷ one.0.after) b one.0.fits.numbered
@@ -284,7 +284,7 @@ created_settles g image x rest y is fits idle =
     preserved a b s t holds (inr (inr one)) = absurd (mark_closed g x marked (subst IsClosed holds.0 one.0.closed))
 
 -- while a first generation is written, no file is open or they settle on it
-pub create_settles : (image x y : List ℕ) → length image < 2 ^ 32 → WhileCreated image x → IsIdle y
+pub create_settles : (image x y : List ℕ) → length image < 2 ^ 32 → WhileCreated image x → IsUnused y
     → IsCreatedOrClosed image x y
 create_settles image x y short (inl idle) idle_y = inl (idle_closed x idle, idle_closed y idle_y)
 create_settles image x y short (inr whole) idle_y = elim (open_or_closed x) [

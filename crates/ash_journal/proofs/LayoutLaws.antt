@@ -6,7 +6,7 @@ use Rattle.std.proofs.lemmas.List.{take_at, drop_at, append_cancel_left, append-
 use Rattle.std.specs.Int.{byte_at, bytes_low_first}
 use Rattle.byteorder.specs.Endian.{little_from, little_number}
 use Rattle.byteorder.specs.Numbers.{little_from-cons, little_number-reads_back}
-use Rattle.ash_journal.specs.Layout.{magic, four_bytes, eight_bytes, mark, block, records, solid, AreShort, FieldsFit}
+use Rattle.ash_journal.specs.Layout.{magic, four_bytes, eight_bytes, mark, block, records, committed_bytes, AreShort, FieldsFit}
 use Rattle.ash_journal.specs.Layout.{IsFile, IsOpen, IsClosed, HasMark}
 
 -- ---- numbers
@@ -181,17 +181,17 @@ records-push (first ∷ bodies) body =
 -- ---- files
 
 pub solid_split : (generation : ℕ) (image : List ℕ) (bodies : List (List ℕ)) (rest : List ℕ)
-    → solid generation image bodies ++ rest ≡ 1 ∷ (mark generation ++ (block image ++ (records bodies ++ rest)))
-unfolding solid
+    → committed_bytes generation image bodies ++ rest ≡ 1 ∷ (mark generation ++ (block image ++ (records bodies ++ rest)))
+unfolding committed_bytes
 solid_split generation image bodies rest =
     ap (λ (l : List ℕ). 1 ∷ l)
     (append_assoc (mark generation) (block image ++ records bodies) rest
     ∙ ap (λ (l : List ℕ). mark generation ++ l) (append_assoc (block image) (records bodies) rest))
 
-pub length-solid : (generation : ℕ) (image : List ℕ) (bodies : List (List ℕ))
-    → length (solid generation image bodies) ≡ 21 + length image + length (records bodies)
-unfolding solid
-length-solid generation image bodies =
+pub length-committed_bytes : (generation : ℕ) (image : List ℕ) (bodies : List (List ℕ))
+    → length (committed_bytes generation image bodies) ≡ 21 + length image + length (records bodies)
+unfolding committed_bytes
+length-committed_bytes generation image bodies =
     omega (
       arith,
       length-append (mark generation) (block image ++ records bodies),
@@ -200,10 +200,10 @@ length-solid generation image bodies =
       length-block image,
     )
 
-pub solid-push : (generation : ℕ) (image : List ℕ) (bodies : List (List ℕ)) (body : List ℕ)
-    → solid generation image (bodies ++ body ∷ []) ≡ solid generation image bodies ++ 1 ∷ block body
-unfolding solid
-solid-push generation image bodies body =
+pub committed_bytes-push : (generation : ℕ) (image : List ℕ) (bodies : List (List ℕ)) (body : List ℕ)
+    → committed_bytes generation image (bodies ++ body ∷ []) ≡ committed_bytes generation image bodies ++ 1 ∷ block body
+unfolding committed_bytes
+committed_bytes-push generation image bodies body =
     ap (λ (r : List ℕ). 1 ∷ (mark generation ++ (block image ++ r))) (records-push bodies body)
     ∙ sym (solid_split generation image bodies (1 ∷ block body))
 
@@ -217,7 +217,7 @@ pub record SameFile (g h : ℕ) (image other : List ℕ) (bodies others : List (
 
 pub same_file : (g h : ℕ) (image other : List ℕ) (bodies others : List (List ℕ)) (k l : ℕ) (s t : List ℕ)
     → FieldsFit g image bodies → FieldsFit h other others → k ≢ 1 → l ≢ 1
-    → solid g image bodies ++ k ∷ s ≡ solid h other others ++ l ∷ t → SameFile g h image other bodies others k l s t
+    → committed_bytes g image bodies ++ k ∷ s ≡ committed_bytes h other others ++ l ∷ t → SameFile g h image other bodies others k l s t
 same_file g h image other bodies others k l s t fits_g fits_h shut_k shut_l is =
     let plain : 1 ∷ (mark g ++ (block image ++ (records bodies ++ k ∷ s)))
     ≡ 1 ∷ (mark h ++ (block other ++ (records others ++ l ∷ t))) =
@@ -237,7 +237,7 @@ same_mark g h file one other =
     (mark_same g h one.rest other.rest one.numbered other.numbered (ap tail_of (sym one.bytes ∙ other.bytes))).0
 
 pub solid_mark : (generation : ℕ) (image : List ℕ) (bodies : List (List ℕ)) (rest file : List ℕ) → generation < 2 ^ 64
-    → file ≡ solid generation image bodies ++ rest → HasMark generation file
+    → file ≡ committed_bytes generation image bodies ++ rest → HasMark generation file
 solid_mark generation image bodies rest file fits is =
     record {
       rest = block image ++ (records bodies ++ rest);
@@ -270,7 +270,7 @@ mark_closed generation file marked closed = open_closed file (mark_open generati
 
 -- a generation without records
 pub solid_no_records : (generation : ℕ) (image rest : List ℕ)
-    → solid generation image [] ++ rest ≡ 1 ∷ (mark generation ++ (block image ++ rest))
+    → committed_bytes generation image [] ++ rest ≡ 1 ∷ (mark generation ++ (block image ++ rest))
 solid_no_records generation image rest =
     solid_split generation image [] rest
     ∙ ap (λ (r : List ℕ). 1 ∷ (mark generation ++ (block image ++ (r ++ rest)))) records-nil

@@ -17,7 +17,7 @@ use Rattle.ash_journal.specs.Journal.{EndIs, FilesAre}
 use Rattle.ash_journal.specs.Layout.{HasMark}
 use Rattle.ash_journal.specs.Opening.{ChoiceIs, ContentsAre, FaultIs}
 use Rattle.ash_journal.specs.Reading.{IsRead, IsCutFault, bodies_of}
-use Rattle.ash_journal.proofs.LayoutLaws.{length-solid}
+use Rattle.ash_journal.proofs.LayoutLaws.{length-committed_bytes}
 use Rattle.ash_journal.proofs.InstallLaws.{aside_closed_or_older}
 use Rattle.ash_journal.proofs.SettleLaws.{represent_turned}
 use Rattle.ash_journal.proofs.FilesLaws.{found_represented}
@@ -112,7 +112,7 @@ module _ {D : Type 0} (device : Device D) where
         bytes = seen_c ∙ read.0.bytes;
         fits = read.0.fits;
         end_is = read.0.end_is;
-        size_is = omega (arith, size_is, read.0.end_is, length-solid g image (bodies_of found));
+        size_is = omega (arith, size_is, read.0.end_is, length-committed_bytes g image (bodies_of found));
         gate_is = stray_is gate;
         other_is = subst (λ (l : List ℕ). OtherIs other_state g l) (sym seen_o) other;
         current_durable = only_c;

@@ -7,16 +7,16 @@ use Rattle.std.proofs.lemmas.List.{take_at, drop_at, take_all, get_or-drop, drop
 use Rattle.std.proofs.lemmas.Slice.Eq.{bytes_eq-Decides}
 use Rattle.std.specs.Str.{bytes_eq}
 use Rattle.byteorder.specs.Endian.{little_number}
-use Rattle.ash_journal.specs.Layout.{magic, eight_bytes, four_bytes, mark, block, records, solid, FieldsFit, IsOpen}
+use Rattle.ash_journal.specs.Layout.{prefix_size, magic, eight_bytes, four_bytes, mark, block, records, committed_bytes, FieldsFit, IsOpen}
 use Rattle.ash_journal.specs.Layout.{IsShut, IsCut, IsCutAt, HasMark, LacksMark}
 use Rattle.ash_disk.specs.Image.{bytes_at}
-use Rattle.ash_disk.specs.Device.{Device, IsOnlyRead, Throughout}
-use Rattle.ash_journal.specs.Writes.{IsIdle, AreIdle, HasRested, WhileStarted, WhileCreated}
+use Rattle.ash_disk.specs.Device.{Device, IsOnlyRead, HoldsThroughout}
+use Rattle.ash_journal.specs.Writes.{IsUnused, AreUnused, WasUnused, WhileStarted, WhileCreated}
 use Rattle.ash_disk.proofs.MomentLaws.{at_end, goes_on, weaker}
 use Rattle.ash_journal.specs.declared.record.Record.{Record}
 use Rattle.ash_journal.specs.Reading.{IsBlock, IsReadTo, AreAt, bodies_of}
-use Rattle.ash_journal.proofs.LayoutLaws.{AreBytes, eight_round_trip, length-mark, length-block, length-solid}
-use Rattle.ash_journal.proofs.LayoutLaws.{records-nil, records-cons, solid-push, solid_no_records}
+use Rattle.ash_journal.proofs.LayoutLaws.{AreBytes, eight_round_trip, length-mark, length-block, length-committed_bytes}
+use Rattle.ash_journal.proofs.LayoutLaws.{records-nil, records-cons, committed_bytes-push, solid_no_records}
 use Rattle.ash_journal.proofs.InstallLaws.{fits_push, grown}
 
 -- ---- tests of bytes
@@ -53,24 +53,24 @@ mark_read bytes n long fits is_magic is_number =
 
 -- ---- the first bytes of a file
 
-pub marked_prefix : (file prefix : List ℕ) (g : ℕ) → prefix ≡ take 17 file → get_or prefix 0 0 ≡ 1 → 2 ≤ length prefix
+pub marked_prefix : (file prefix : List ℕ) (g : ℕ) → prefix ≡ take prefix_size file → get_or prefix 0 0 ≡ 1 → 2 ≤ length prefix
     → take (length prefix - 1) (drop 1 prefix) ≡ mark g → g < 2 ^ 64 → HasMark g file
 marked_prefix file [] g is gate long marked fits = absurd (omega arith)
 marked_prefix file (first ∷ rest) g is gate long marked fits = record {
-  rest = drop 17 file;
-  bytes = sym (take-append-drop 17 file)
-      ∙ ap (λ (l : List ℕ). l ++ drop 17 file)
+  rest = drop prefix_size file;
+  bytes = sym (take-append-drop prefix_size file)
+      ∙ ap (λ (l : List ℕ). l ++ drop prefix_size file)
       (sym is ∙ ap (λ (b : ℕ). b ∷ rest) gate
       ∙ ap (λ (l : List ℕ). 1 ∷ l) (sym (take_all (length (first ∷ rest) - 1) rest (omega arith)) ∙ marked));
   numbered = fits;
 }
 
-open_prefix : (file prefix : List ℕ) → prefix ≡ take 17 file → get_or prefix 0 0 ≡ 1 → 2 ≤ length prefix → IsOpen file
+open_prefix : (file prefix : List ℕ) → prefix ≡ take prefix_size file → get_or prefix 0 0 ≡ 1 → 2 ≤ length prefix → IsOpen file
 open_prefix [] prefix is gate long = absurd (omega (arith, ap length is, long))
 open_prefix (x ∷ []) prefix is gate long = absurd (omega (arith, ap length is, long))
 open_prefix (x ∷ y ∷ rest) prefix is gate long = sym (ap (λ (l : List ℕ). get_or l 0 0) is) ∙ gate
 
-pub unmarked_prefix : (file prefix : List ℕ) → prefix ≡ take 17 file → get_or prefix 0 0 ≡ 1 → 2 ≤ length prefix
+pub unmarked_prefix : (file prefix : List ℕ) → prefix ≡ take prefix_size file → get_or prefix 0 0 ≡ 1 → 2 ≤ length prefix
     → ((g : ℕ) → g < 2 ^ 64 → take (length prefix - 1) (drop 1 prefix) ≡ mark g → ⊥) → LacksMark file
 unmarked_prefix file prefix is gate long none =
     (open_prefix file prefix is gate long, λ g marked. none g marked.numbered (prefix_is g marked))
@@ -78,7 +78,7 @@ unmarked_prefix file prefix is gate long none =
     prefix_is : (g : ℕ) → HasMark g file → take (length prefix - 1) (drop 1 prefix) ≡ mark g
     prefix_is g marked =
         let whole : prefix ≡ 1 ∷ mark g =
-        is ∙ ap (λ (l : List ℕ). take 17 l) marked.bytes
+        is ∙ ap (λ (l : List ℕ). take prefix_size l) marked.bytes
         ∙ ap (λ (l : List ℕ). 1 ∷ l) (take_at (mark g) marked.rest 16 (length-mark g)) in
         ap (λ (l : List ℕ). take (length l - 1) (drop 1 l)) whole
         ∙ take_all (length (1 ∷ mark g) - 1) (mark g) (omega (arith, length-mark g))
@@ -138,7 +138,7 @@ placed_push at (first ∷ found) r placed gate = (
 
 pub read_start : (g : ℕ) (image rest file : List ℕ) (found : List Record) (at gate : ℕ) → found ≡ []
     → FieldsFit g image []
-    → file ≡ solid g image [] ++ gate ∷ rest → at ≡ length (solid g image []) → IsReadTo g image found at gate file
+    → file ≡ committed_bytes g image [] ++ gate ∷ rest → at ≡ length (committed_bytes g image []) → IsReadTo g image found at gate file
 read_start g image rest file found at gate none fits is at_is =
     subst (λ (f : List Record). IsReadTo g image f at gate file) (sym none)
     (record { after = rest; bytes = is; fits = fits; end_is = at_is; placed = tt })
@@ -159,8 +159,8 @@ read_cut g image file found at gate is_open so_far cut =
       bodies_of found,
       so_far.after,
       so_far.fits,
-      so_far.bytes ∙ ap (λ (b : ℕ). solid g image (bodies_of found) ++ b ∷ so_far.after) is_open,
-      subst IsCut (after_gate (solid g image (bodies_of found)) so_far.after file at gate so_far.bytes so_far.end_is)
+      so_far.bytes ∙ ap (λ (b : ℕ). committed_bytes g image (bodies_of found) ++ b ∷ so_far.after) is_open,
+      subst IsCut (after_gate (committed_bytes g image (bodies_of found)) so_far.after file at gate so_far.bytes so_far.end_is)
           cut,
       so_far.end_is,
     )
@@ -175,7 +175,7 @@ read_more g image file found r at gate next end is_open so_far is_block gate_is 
       ∙ ap (λ (l : List ℕ). prefix ++ 1 ∷ l)
       (sym (after_gate prefix so_far.after file at gate so_far.bytes so_far.end_is) ∙ is_block.2)
       ∙ grown g image (bodies_of found) r.body.items (next ∷ is_block.1)
-      ∙ ap (λ (bs : List (List ℕ)). solid g image bs ++ next ∷ is_block.1) (sym pushed);
+      ∙ ap (λ (bs : List (List ℕ)). committed_bytes g image bs ++ next ∷ is_block.1) (sym pushed);
   fits = subst
       (λ (bs : List (List ℕ)). FieldsFit g image bs) (sym pushed)
       (fits_push g image (bodies_of found) r.body.items so_far.fits is_block.0);
@@ -183,32 +183,32 @@ read_more g image file found r at gate next end is_open so_far is_block gate_is 
     arith,
     end_is,
     so_far.end_is,
-    ap length (ap (solid g image) pushed ∙ solid-push g image (bodies_of found) r.body.items),
+    ap length (ap (committed_bytes g image) pushed ∙ committed_bytes-push g image (bodies_of found) r.body.items),
     length-append prefix (1 ∷ block r.body.items),
     length-block r.body.items,
   );
   placed = placed_push (21 + length image) found r so_far.placed
-      (omega (arith, gate_is, so_far.end_is, length-solid g image (bodies_of found)));
+      (omega (arith, gate_is, so_far.end_is, length-committed_bytes g image (bodies_of found)));
 }
   where
     prefix : List ℕ
-    prefix = solid g image (bodies_of found)
+    prefix = committed_bytes g image (bodies_of found)
 
     pushed : bodies_of (found ++ r ∷ []) ≡ bodies_of found ++ r.body.items ∷ []
     pushed = map_push (λ (q : Record). q.body.items) found r
 
 -- ---- a generation
 
-after_mark : (g : ℕ) (file : List ℕ) (marked : HasMark g file) → drop 17 file ≡ marked.rest
+after_mark : (g : ℕ) (file : List ℕ) (marked : HasMark g file) → drop prefix_size file ≡ marked.rest
 after_mark g file marked =
-    ap (λ (l : List ℕ). drop 17 l) marked.bytes ∙ drop_at (1 ∷ mark g) marked.rest 17 (omega (arith, length-mark g))
+    ap (λ (l : List ℕ). drop prefix_size l) marked.bytes ∙ drop_at (1 ∷ mark g) marked.rest prefix_size (omega (arith, length-mark g))
 
-pub image_cut : (g : ℕ) (file : List ℕ) → HasMark g file → IsCut (drop 17 file) → IsCutAt 0 file
+pub image_cut : (g : ℕ) (file : List ℕ) → HasMark g file → IsCut (drop prefix_size file) → IsCutAt 0 file
 image_cut g file marked cut = inl (g, marked.rest, marked.bytes, subst IsCut (after_mark g file marked) cut, refl)
 
 -- the image after a mark, and the first gate after it
-pub image_read : (g : ℕ) (file image : List ℕ) (gate : ℕ) → HasMark g file → IsBlock image gate (drop 17 file)
-    → FieldsFit g image [] × (rest : List ℕ) × (file ≡ solid g image [] ++ gate ∷ rest)
+pub image_read : (g : ℕ) (file image : List ℕ) (gate : ℕ) → HasMark g file → IsBlock image gate (drop prefix_size file)
+    → FieldsFit g image [] × (rest : List ℕ) × (file ≡ committed_bytes g image [] ++ gate ∷ rest)
 image_read g file image gate marked is_block = (
   record { numbered = marked.numbered; image_short = is_block.0; bodies_short = tt },
   is_block.1,
@@ -216,19 +216,19 @@ image_read g file image gate marked is_block = (
       ∙ sym (solid_no_records g image (gate ∷ is_block.1)),
 )
 
-pub length-no_records : (g : ℕ) (image : List ℕ) → length (solid g image []) ≡ 21 + length image
-length-no_records g image = omega (arith, length-solid g image [], ap length records-nil)
+pub length-no_records : (g : ℕ) (image : List ℕ) → length (committed_bytes g image []) ≡ 21 + length image
+length-no_records g image = omega (arith, length-committed_bytes g image [], ap length records-nil)
 
 -- ---- files that were idle before
 
-fewer_idle : (more images : List ℕ → Type 0) → AreIdle more → ((image : List ℕ) → images image → more image)
-    → AreIdle images
+fewer_idle : (more images : List ℕ → Type 0) → AreUnused more → ((image : List ℕ) → images image → more image)
+    → AreUnused images
 fewer_idle more images (inl tiny) all = inl (λ image left. tiny image (all image left))
 fewer_idle more images (inr shut) all = inr (λ image left. shut image (all image left))
 
 -- disks that were only read are as idle as they were
 pub read_idle : {D : Type 0} (device : Device D) (a b : D) → IsTrue (device.honest a) → IsOnlyRead device a b
-    → AreIdle (device.leaves a (device.clock a)) → AreIdle (device.leaves b (device.clock b))
+    → AreUnused (device.leaves a (device.clock a)) → AreUnused (device.leaves b (device.clock b))
 read_idle device a b is read idle =
     fewer_idle (device.leaves a (device.clock a)) (device.leaves b (device.clock b)) idle
     (at_end (device.clock a) (device.clock b) (device.leaves a) (device.leaves b) (device.leaves a (device.clock a))
@@ -236,7 +236,7 @@ read_idle device a b is read idle =
 
 -- and a disk that has rested has done so still when it was looked at
 pub rested_read : {D : Type 0} (device : Device D) (since : ℕ) (a b : D) → IsTrue (device.honest a)
-    → IsOnlyRead device a b → HasRested device since a → HasRested device since b
+    → IsOnlyRead device a b → WasUnused device since a → WasUnused device since b
 rested_read device since a b is read rested = record {
   began = omega (arith, rested.began, (read.moments is).later);
   idle = λ time from to. elim (cases_lt (device.clock a) time) [
@@ -250,13 +250,13 @@ rested_read device since a b is read rested = record {
   ];
 }
 
-one_idle : (images : List ℕ → Type 0) → AreIdle images → (image : List ℕ) → images image → IsIdle image
+one_idle : (images : List ℕ → Type 0) → AreUnused images → (image : List ℕ) → images image → IsUnused image
 one_idle images (inl tiny) image left = inl (tiny image left)
 one_idle images (inr shut) image left = inr (shut image left)
 
 -- what is left since a disk began to rest, through calls that leave images with P
 pub since_rested : {D : Type 0} (device : Device D) (since : ℕ) (a b : D) (P : List ℕ → Type 0)
-    → HasRested device since a → ((image : List ℕ) → IsIdle image → P image) → Throughout device a b P
+    → WasUnused device since a → ((image : List ℕ) → IsUnused image → P image) → HoldsThroughout device a b P
     → (time : ℕ) (image : List ℕ) → since ≤ time → time ≤ device.clock b → device.leaves b time image → P image
 since_rested device since a b P rested so call time image from to left = elim (cases_lt (device.clock a) time) [
   | inl late ↦ call.each time image (omega (arith, late)) to left
@@ -267,8 +267,8 @@ since_rested device since a b P rested so call time image from to left = elim (c
 
 -- reading, and then what leaves images with P
 pub idle_throughout : {D : Type 0} (device : Device D) (a b c : D) (P : List ℕ → Type 0) → IsTrue (device.honest a)
-    → IsOnlyRead device a b → AreIdle (device.leaves a (device.clock a)) → ((image : List ℕ) → IsIdle image → P image)
-    → Throughout device b c P → Throughout device a c P
+    → IsOnlyRead device a b → AreUnused (device.leaves a (device.clock a)) → ((image : List ℕ) → IsUnused image → P image)
+    → HoldsThroughout device b c P → HoldsThroughout device a c P
 idle_throughout device a b c P is read idle so call =
     goes_on (device.clock a) (device.clock b) (device.clock c) (device.leaves a) (device.leaves b) (device.leaves c) P
     (weaker (device.clock a) (device.clock b) (device.leaves a) (device.leaves b) (device.leaves a (device.clock a)) P

@@ -1,7 +1,7 @@
 -- A repair that a crash cuts short leaves files that settle on what they settled on.
 use Rattle.std.proofs.Common.{◌≡◌, ◌≢◌, ◌⊎◌, inl, inr, ℕ, ◌<◌, List, ◌∷◌, ◌++◌, refl, sym, ◌∙◌, ap, subst, arith}
 use Rattle.std.proofs.lemmas.Bool.{cases_eq}
-use Rattle.ash_journal.specs.Layout.{solid, FieldsFit, IsFile, IsClosed, IsShut, HasMark}
+use Rattle.ash_journal.specs.Layout.{committed_bytes, FieldsFit, IsFile, IsClosed, IsShut, HasMark}
 use Rattle.ash_journal.specs.Current.{IsOlder, RepresentOne, reopened, EndReopens, OtherReopens, Reopens, SettleOn}
 use Rattle.ash_journal.proofs.LayoutLaws.{same_file, same_mark, solid_mark, file_mark, mark_closed}
 use Rattle.ash_journal.proofs.SettleLaws.{Implies, Property, by_invariant, current_or_ahead, mark_less, older_by_mark}
@@ -16,7 +16,7 @@ Rests P x w a b = (a ≡ w) × SettleOn P x b
 -- A file of the same generation at rest in place of the first: they settle on what they did, and what the new file
 -- represents.
 pub rest_settles : (P Q : Property) (g : ℕ) (image image' : List ℕ) (bodies bodies' : List (List ℕ))
-    (x w rest y : List ℕ) → IsFile g image bodies x → w ≡ solid g image' bodies' ++ 0 ∷ rest
+    (x w rest y : List ℕ) → IsFile g image bodies x → w ≡ committed_bytes g image' bodies' ++ 0 ∷ rest
     → FieldsFit g image' bodies'
     → (P (image, bodies) → Q (image', bodies')) → Implies P Q → SettleOn P x y → SettleOn Q w y
 rest_settles P Q g image image' bodies bodies' x w rest y file is fits among more settle =
@@ -133,13 +133,13 @@ Turns P Q x u a b = Rests P x u a b ⊎ SettleOn Q a b
 -- they settle so, where they do with 1 there.
 pub end_settles : (P Q : Property) (g : ℕ) (image : List ℕ) (bodies : List (List ℕ)) (x : List ℕ) (c : ℕ)
     (rest y : List ℕ) → IsFile g image bodies x → c ≢ 1 → Implies P Q
-    → ((v : List ℕ) → SettleOn P x v → IsOlder g v → SettleOn Q (solid g image bodies ++ 1 ∷ rest) v) → SettleOn P x y
-    → SettleOn Q (solid g image bodies ++ c ∷ rest) y
+    → ((v : List ℕ) → SettleOn P x v → IsOlder g v → SettleOn Q (committed_bytes g image bodies ++ 1 ∷ rest) v) → SettleOn P x y
+    → SettleOn Q (committed_bytes g image bodies ++ c ∷ rest) y
 end_settles P Q g image bodies x c rest y file shut more good settle =
     by_invariant Q (Turns P Q x u) represents preserved u y (inl (refl, settle))
   where
     u : List ℕ
-    u = solid g image bodies ++ c ∷ rest
+    u = committed_bytes g image bodies ++ c ∷ rest
 
     is_file : IsFile g image bodies u
     is_file = record { gate = c; after = rest; shut = shut; bytes = refl; fits = file.fits }
@@ -172,14 +172,14 @@ end_settles P Q g image bodies x c rest y file shut more good settle =
     preserved a b s t (inl holds) (inl (inl one)) =
         let same = same_file one.0.generation g one.0.image image one.0.bodies bodies one.0.gate c one.0.after rest
         one.0.fits file.fits one.0.not_open shut (sym one.0.bytes ∙ holds.0) in
-        let opened : s ≡ solid g image bodies ++ 1 ∷ rest =
-        one.0.opened ∙ ap (λ (n : ℕ). solid n one.0.image one.0.bodies ++ 1 ∷ one.0.after) same.generations
-        ∙ ap (λ (i : List ℕ). solid g i one.0.bodies ++ 1 ∷ one.0.after) same.images
-        ∙ ap (λ (bs : List (List ℕ)). solid g image bs ++ 1 ∷ one.0.after) same.bodies_same
-        ∙ ap (λ (r : List ℕ). solid g image bodies ++ 1 ∷ r) same.after in
+        let opened : s ≡ committed_bytes g image bodies ++ 1 ∷ rest =
+        one.0.opened ∙ ap (λ (n : ℕ). committed_bytes n one.0.image one.0.bodies ++ 1 ∷ one.0.after) same.generations
+        ∙ ap (λ (i : List ℕ). committed_bytes g i one.0.bodies ++ 1 ∷ one.0.after) same.images
+        ∙ ap (λ (bs : List (List ℕ)). committed_bytes g image bs ++ 1 ∷ one.0.after) same.bodies_same
+        ∙ ap (λ (r : List ℕ). committed_bytes g image bodies ++ 1 ∷ r) same.after in
         let older : IsOlder g b = subst (λ (n : ℕ). IsOlder n b) same.generations one.0.older in
         inr (subst (λ (l : List ℕ). SettleOn Q l t) (sym opened)
-        (subst (λ (l : List ℕ). SettleOn Q (solid g image bodies ++ 1 ∷ rest) l) (sym one.1)
+        (subst (λ (l : List ℕ). SettleOn Q (committed_bytes g image bodies ++ 1 ∷ rest) l) (sym one.1)
         (good b holds.1 older)))
     preserved a b s t (inl holds) (inl (inr one)) =
         inl (one.1 ∙ holds.0, settle_step P x b x t holds.1 (other_for g image bodies x a b t file one.0))
@@ -255,27 +255,27 @@ follower_settles P g h x u y x_marked marked y_marked less settle =
 -- Whatever byte is in place of a gate that a repair writes over, with any image of the other file with which the file
 -- as it was settled: they settle on the same.
 pub end_repair_settles : (P : Property) (g : ℕ) (image : List ℕ) (bodies : List (List ℕ)) (x : List ℕ) (k c : ℕ)
-    (rest y : List ℕ) → x ≡ solid g image bodies ++ k ∷ rest → FieldsFit g image bodies → k ≢ 1 → k ≢ 0 → SettleOn P x y
-    → SettleOn P (solid g image bodies ++ c ∷ rest) y
+    (rest y : List ℕ) → x ≡ committed_bytes g image bodies ++ k ∷ rest → FieldsFit g image bodies → k ≢ 1 → k ≢ 0 → SettleOn P x y
+    → SettleOn P (committed_bytes g image bodies ++ c ∷ rest) y
 end_repair_settles P g image bodies x k c rest y is fits not_open not_shut settle = elim (cases_eq c 1) [
   | inl open_now ↦
-      subst (λ (n : ℕ). SettleOn P (solid g image bodies ++ n ∷ rest) y) (sym open_now)
+      subst (λ (n : ℕ). SettleOn P (committed_bytes g image bodies ++ n ∷ rest) y) (sym open_now)
       (elim (current_or_ahead g image bodies P x y file (represent_now P x y settle)) [
-        | inl is_current ↦ settle_step P x y (solid g image bodies ++ 1 ∷ rest) y settle (reopens y is_current.0)
+        | inl is_current ↦ settle_step P x y (committed_bytes g image bodies ++ 1 ∷ rest) y settle (reopens y is_current.0)
         | inr ahead ↦
-            follower_settles P g ahead.0 x (solid g image bodies ++ 1 ∷ rest) y (file_mark g image bodies x file)
-            (solid_mark g image bodies (1 ∷ rest) (solid g image bodies ++ 1 ∷ rest) fits.numbered refl)
+            follower_settles P g ahead.0 x (committed_bytes g image bodies ++ 1 ∷ rest) y (file_mark g image bodies x file)
+            (solid_mark g image bodies (1 ∷ rest) (committed_bytes g image bodies ++ 1 ∷ rest) fits.numbered refl)
             (file_mark ahead.0 ahead.1 ahead.2 y ahead.3) ahead.4 settle
       ])
   | inr shut ↦
       end_settles P P g image bodies x c rest y file shut (λ contents is. is)
-      (λ v settles older. settle_step P x v (solid g image bodies ++ 1 ∷ rest) v settles (reopens v older)) settle
+      (λ v settles older. settle_step P x v (committed_bytes g image bodies ++ 1 ∷ rest) v settles (reopens v older)) settle
 ]
   where
     file : IsFile g image bodies x
     file = record { gate = k; after = rest; shut = not_open; bytes = is; fits = fits }
 
-    reopens : (v : List ℕ) → IsOlder g v → Reopens x v (solid g image bodies ++ 1 ∷ rest) v
+    reopens : (v : List ℕ) → IsOlder g v → Reopens x v (committed_bytes g image bodies ++ 1 ∷ rest) v
     reopens v older =
         inl (inl (
           record {

@@ -3,11 +3,11 @@ use Rattle.std.specs.Prelude.{min}
 use Rattle.std.proofs.Common.{◌≡◌, inl, inr, ℕ, zero, ◌≤◌, Bool, true, false, not, List, refl, sym, subst, arith}
 use Rattle.std.proofs.Common.{IsTrue}
 use Rattle.std.proofs.lemmas.Bool.{cases_lt}
-use Rattle.ash_disk.specs.Device.{Device, IsDurable, IsOnlyRead, Throughout}
-use Rattle.ash_disk.specs.Moments.{During}
+use Rattle.ash_disk.specs.Device.{Device, IsDurable, IsOnlyRead, HoldsThroughout}
+use Rattle.ash_disk.specs.Moments.{HoldsDuring}
 use Rattle.ash_disk.proofs.MomentLaws.{at_start, every_moment}
-use Rattle.ash_journal.specs.Current.{Contents, Either, Represent, SettleOn, SettleFurther}
-use Rattle.ash_journal.specs.Runs.{Run, Extends, Nothing}
+use Rattle.ash_journal.specs.Current.{Contents, HoldsOneOf, Represent, SettleOn, SettleFurther}
+use Rattle.ash_journal.specs.Runs.{HoldsSince, Extends, NoContents}
 use Rattle.ash_journal.specs.OtherState.{first_of, second_of}
 use Rattle.ash_journal.proofs.SettleLaws.{Property, settle_turned, further, further_same, further_turned}
 use Rattle.ash_journal.proofs.SettleLaws.{represent_once}
@@ -25,8 +25,8 @@ module _ {D : Type 0} (device : Device D) where
   -- Calls of both disks go on. What their new images settle on, with what the images settled on that were left when
   -- the calls began, is all that has to be shown.
   pub extends_by : (c o c' o' : D) (x0 y0 : List ℕ) (P Q : List ℕ → Type 0) (IsNew : Property)
-      → device.leaves c (device.clock c) x0 → device.leaves o (device.clock o) y0 → Throughout device c c' P
-      → Throughout device o o' Q → ((x y : List ℕ) → P x → SettleFurther IsNew x0 y x y)
+      → device.leaves c (device.clock c) x0 → device.leaves o (device.clock o) y0 → HoldsThroughout device c c' P
+      → HoldsThroughout device o o' Q → ((x y : List ℕ) → P x → SettleFurther IsNew x0 y x y)
       → ((x y : List ℕ) → Q y → SettleFurther IsNew x y0 x y)
       → ((x y : List ℕ) → P x → Q y → SettleFurther IsNew x0 y0 x y) → Extends device c o c' o' IsNew
   extends_by c o c' o' x0 y0 P Q IsNew left_x0 left_y0 one two first second both = record {
@@ -115,7 +115,7 @@ module _ {D : Type 0} (device : Device D) where
   -- disks that were only read settle on what they did
   pub read_extends : (first second first' second' : D) → IsTrue (device.honest first) → IsTrue (device.honest second)
       → IsOnlyRead device first first' → IsOnlyRead device second second'
-      → Extends device first second first' second' Nothing
+      → Extends device first second first' second' NoContents
   read_extends first second first' second' honest_first honest_second one two = record {
     first_later = (one.moments honest_first).later;
     second_later = (two.moments honest_second).later;
@@ -130,12 +130,12 @@ module _ {D : Type 0} (device : Device D) where
             was (device.clock second) (device.clock second') (device.leaves second) (device.leaves second')
             (two.moments honest_second) t y t_end left_y;
       },
-      further_same Nothing x y,
+      further_same NoContents x y,
     );
   }
     where
       -- what may be left at a moment of reading might have been left before
-      was : (now end : ℕ) (before after : ℕ → List ℕ → Type 0) → During now end before after (before now)
+      was : (now end : ℕ) (before after : ℕ → List ℕ → Type 0) → HoldsDuring now end before after (before now)
           → (s : ℕ) (x : List ℕ) → s ≤ end → after s x → before (min s now) x
       was now end before after call s x to left = elim (cases_lt now s) [
         | inl late ↦ left_now before now s x (omega (arith, late)) (call.each s x (omega (arith, late)) to left)
@@ -143,8 +143,8 @@ module _ {D : Type 0} (device : Device D) where
       ]
 
   -- What a run says of contents, it says after more calls of these and the new ones.
-  pub run_extends : (a b : ℕ) (first second first' second' : D) (P IsNew : Property) → Run device a b first second P
-      → Extends device first second first' second' IsNew → Run device a b first' second' (Either IsNew P)
+  pub run_extends : (a b : ℕ) (first second first' second' : D) (P IsNew : Property) → HoldsSince device a b first second P
+      → Extends device first second first' second' IsNew → HoldsSince device a b first' second' (HoldsOneOf IsNew P)
   run_extends a b first second first' second' P IsNew run call = record {
     first_began = omega (arith, run.first_began, call.first_later);
     second_began = omega (arith, run.second_began, call.second_later);
@@ -159,13 +159,13 @@ module _ {D : Type 0} (device : Device D) where
   -- A run says of what the files represent as they read now what it says of all contents.
   pub represented : (a b : ℕ) (first second : D) (P : Property) (contents : Contents) (x y : List ℕ)
       → device.leaves first (device.clock first) x → device.leaves second (device.clock second) y
-      → Run device a b first second P → Represent contents x y → P contents
+      → HoldsSince device a b first second P → Represent contents x y → P contents
   represented a b first second P contents x y left_x left_y run is =
       let one = run.moments (device.clock first) (device.clock second) x y run.first_began (omega arith)
       run.second_began (omega arith) left_x left_y zero x y (refl, refl) in
       subst P (sym (represent_once contents one.0 x y is one.2)) one.1
 
-  run_turned : (a b : ℕ) (c o : D) (P : Property) → Run device a b c o P → Run device b a o c P
+  run_turned : (a b : ℕ) (c o : D) (P : Property) → HoldsSince device a b c o P → HoldsSince device b a o c P
   run_turned a b c o P run = record {
     first_began = run.second_began;
     second_began = run.first_began;
@@ -173,8 +173,8 @@ module _ {D : Type 0} (device : Device D) where
         settle_turned P y x (run.moments t s y x from_a t_end from_b s_end left_y left_x);
   }
 
-  begins : (c o c' o' : D) (P Q : List ℕ → Type 0) (S : Property) → Throughout device c c' P → Throughout device o o' Q
-      → ((x y : List ℕ) → P x → Q y → SettleOn S x y) → Run device (device.clock c) (device.clock o) c' o' S
+  begins : (c o c' o' : D) (P Q : List ℕ → Type 0) (S : Property) → HoldsThroughout device c c' P → HoldsThroughout device o o' Q
+      → ((x y : List ℕ) → P x → Q y → SettleOn S x y) → HoldsSince device (device.clock c) (device.clock o) c' o' S
   begins c o c' o' P Q S one two both = record {
     first_began = one.later;
     second_began = two.later;
@@ -183,9 +183,9 @@ module _ {D : Type 0} (device : Device D) where
   }
 
   -- A run that begins with these calls.
-  pub run_begins : (swapped : Bool) (c o c' o' : D) (P Q : List ℕ → Type 0) (S : Property) → Throughout device c c' P
-      → Throughout device o o' Q → ((x y : List ℕ) → P x → Q y → SettleOn S x y)
-      → Run device (device.clock (first_of swapped c o)) (device.clock (second_of swapped c o)) (first_of swapped c' o')
+  pub run_begins : (swapped : Bool) (c o c' o' : D) (P Q : List ℕ → Type 0) (S : Property) → HoldsThroughout device c c' P
+      → HoldsThroughout device o o' Q → ((x y : List ℕ) → P x → Q y → SettleOn S x y)
+      → HoldsSince device (device.clock (first_of swapped c o)) (device.clock (second_of swapped c o)) (first_of swapped c' o')
       (second_of swapped c' o') S
   run_begins false c o c' o' P Q S one two both = begins c o c' o' P Q S one two both
   run_begins true c o c' o' P Q S one two both =
@@ -194,7 +194,7 @@ module _ {D : Type 0} (device : Device D) where
   -- Two disks that hold what they show, at one moment.
   pub run_now : (swapped : Bool) (c o : D) (S : Property) → IsDurable device c → IsDurable device o
       → SettleOn S (device.seen c) (device.seen o)
-      → Run device (device.clock (first_of swapped c o)) (device.clock (second_of swapped c o)) (first_of swapped c o)
+      → HoldsSince device (device.clock (first_of swapped c o)) (device.clock (second_of swapped c o)) (first_of swapped c o)
       (second_of swapped c o) S
   run_now swapped c o S only_c only_o settle =
       run_begins swapped c o c o (λ (u : List ℕ). u ≡ device.seen c)
@@ -207,7 +207,7 @@ module _ {D : Type 0} (device : Device D) where
 
   -- The other disk has become the current one.
   pub run_swapped : (swapped : Bool) (a b : ℕ) (c o : D) (S : Property)
-      → Run device a b (first_of swapped c o) (second_of swapped c o) S
-      → Run device a b (first_of (not swapped) o c) (second_of (not swapped) o c) S
+      → HoldsSince device a b (first_of swapped c o) (second_of swapped c o) S
+      → HoldsSince device a b (first_of (not swapped) o c) (second_of (not swapped) o c) S
   run_swapped false a b c o S run = run
   run_swapped true a b c o S run = run

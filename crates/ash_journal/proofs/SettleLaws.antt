@@ -2,7 +2,7 @@
 use Rattle.std.proofs.Common.{◌≡◌, ◌⊎◌, inl, inr, ℕ, zero, suc, ◌<◌, List, [], ◌∷◌, refl, sym, ◌∙◌, ap, subst, arith}
 use Rattle.std.proofs.lemmas.Bool.{cases_eq}
 use Rattle.ash_journal.specs.Layout.{IsFile, IsOpen, IsClosed, IsShut, HasMark}
-use Rattle.ash_journal.specs.Current.{Contents, Is, Either, IsOlder, IsCurrent, Represent, RepresentOne, reopened}
+use Rattle.ash_journal.specs.Current.{Contents, IsContents, HoldsOneOf, IsOlder, IsCurrent, Represent, RepresentOne, reopened}
 use Rattle.ash_journal.specs.Current.{Reopens, ReopensTimes, SettleOn, MaySettleOn, SettleFurther}
 use Rattle.ash_journal.proofs.LayoutLaws.{SameFile, same_file, same_mark, file_mark, mark_closed}
 
@@ -121,7 +121,7 @@ current_or_ahead g image bodies P x y file (pair, among, inr is_current) =
 one_current : (contents other : Contents) (x y : List ℕ) → (g : ℕ) × IsCurrent g contents.0 contents.1 x y
     → Represent other x y → contents ≡ other
 one_current contents other x y one two =
-    elim (current_or_ahead one.0 contents.0 contents.1 (Is other) x y one.1.file (other, refl, two)) [
+    elim (current_or_ahead one.0 contents.0 contents.1 (IsContents other) x y one.1.file (other, refl, two)) [
       | inl is_current ↦ is_current.1
       | inr ahead ↦ let under : ahead.0 < one.0 =
           mark_less ahead.0 one.0 y (file_mark ahead.0 ahead.1 ahead.2 y ahead.3) one.1.older in
@@ -146,23 +146,23 @@ settle_may P x y settle n s t times = let one = settle n s t times in (one.0, (n
 
 -- whatever is said of what the first settle on, and of new contents, is so of what the second settle on
 pub further : (P IsNew : Property) (u v x y : List ℕ) → SettleFurther IsNew u v x y → SettleOn P u v
-    → SettleOn (Either IsNew P) x y
+    → SettleOn (HoldsOneOf IsNew P) x y
 further P IsNew u v x y more settle =
-    settle_more (Either IsNew (MaySettleOn u v)) (Either IsNew P)
+    settle_more (HoldsOneOf IsNew (MaySettleOn u v)) (HoldsOneOf IsNew P)
     (λ contents one. elim one [ inl new ↦ inl new | inr old ↦ inr (may_settle P u v settle contents old) ]) x y
     (more (settle_may P u v settle))
 
 -- nothing has changed
 pub further_same : (IsNew : Property) (x y : List ℕ) → SettleFurther IsNew x y x y
 further_same IsNew x y settle =
-    settle_more (MaySettleOn x y) (Either IsNew (MaySettleOn x y)) (λ contents old. inr old) x y settle
+    settle_more (MaySettleOn x y) (HoldsOneOf IsNew (MaySettleOn x y)) (λ contents old. inr old) x y settle
 
 -- which file comes first makes no difference
 pub further_turned : (IsNew : Property) (u v x y : List ℕ) → SettleFurther IsNew u v x y → SettleFurther IsNew v u y x
 further_turned IsNew u v x y more settle =
-    settle_more (Either IsNew (MaySettleOn u v)) (Either IsNew (MaySettleOn v u))
+    settle_more (HoldsOneOf IsNew (MaySettleOn u v)) (HoldsOneOf IsNew (MaySettleOn v u))
     (λ contents one. elim one [ inl new ↦ inl new | inr old ↦ inr (may_turned u v contents old) ]) y x
-    (settle_turned (Either IsNew (MaySettleOn u v)) x y
+    (settle_turned (HoldsOneOf IsNew (MaySettleOn u v)) x y
     (more (settle_more (MaySettleOn v u) (MaySettleOn u v)
     (λ contents old. may_turned v u contents old) u v (settle_turned (MaySettleOn v u) v u settle))))
   where

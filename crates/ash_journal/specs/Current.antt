@@ -1,18 +1,18 @@
 -- These definitions say what two files represent, and what they settle on once a repair is done.
 use Rattle.std.specs.Prelude.{◌≡◌, ◌≢◌, ◌⊎◌, ℕ, zero, suc, ◌<◌, List, [], ◌∷◌, ◌++◌}
-use Rattle.ash_journal.specs.Layout.{solid, FieldsFit, IsFile, IsClosed, IsShut, HasMark}
+use Rattle.ash_journal.specs.Layout.{committed_bytes, FieldsFit, IsFile, IsClosed, IsShut, HasMark}
 
 -- `Contents` are the image of a generation and the bodies of the records that were added to it.
 abbrev pub Contents : Type 0
 Contents = List ℕ × List (List ℕ)
 
 -- The contents are these and no others.
-abbrev pub Is : Contents → Contents → Type 0
-Is contents other = other ≡ contents
+abbrev pub IsContents : Contents → Contents → Type 0
+IsContents contents other = other ≡ contents
 
 -- One or the other holds of the contents.
-abbrev pub Either : (Contents → Type 0) → (Contents → Type 0) → Contents → Type 0
-Either P Q contents = P contents ⊎ Q contents
+abbrev pub HoldsOneOf : (Contents → Type 0) → (Contents → Type 0) → Contents → Type 0
+HoldsOneOf P Q contents = P contents ⊎ Q contents
 
 -- The file is closed, or open with an older generation.
 abbrev pub IsOlder : ℕ → List ℕ → Type 0
@@ -38,8 +38,8 @@ abbrev pub reopened : List ℕ → List ℕ
 reopened [] = 1 ∷ []
 reopened (gate ∷ rest) = 1 ∷ rest
 
--- The first file is current, and 1 is put for the gate after its last open record, which a repair would write
--- over since it is neither 0 nor 1.
+-- The first file is current, and the gate after its last open record, which a repair would write over since it is
+-- neither 0 nor 1, is replaced by 1.
 pub record EndReopens (current other current_after : List ℕ) : Type 0 where
   pub generation : ℕ
   pub image : List ℕ
@@ -47,14 +47,14 @@ pub record EndReopens (current other current_after : List ℕ) : Type 0 where
   pub gate : ℕ
   pub after : List ℕ
   pub fits : FieldsFit generation image bodies
-  pub bytes : current ≡ solid generation image bodies ++ gate ∷ after
+  pub bytes : current ≡ committed_bytes generation image bodies ++ gate ∷ after
   pub not_open : gate ≢ 1
   pub not_shut : gate ≢ 0
   pub older : IsOlder generation other
-  pub opened : current_after ≡ solid generation image bodies ++ 1 ∷ after
+  pub opened : current_after ≡ committed_bytes generation image bodies ++ 1 ∷ after
 
--- The first file is current, and 1 is put for the first gate of the other, which a repair would write over since the
--- other is closed and this gate isn't 0.
+-- The first file is current, and the first gate of the other, which a repair would write over since the other is closed
+-- and this gate isn't 0, is replaced by 1.
 pub record OtherReopens (current other other_after : List ℕ) : Type 0 where
   pub generation : ℕ
   pub image : List ℕ
@@ -64,13 +64,13 @@ pub record OtherReopens (current other other_after : List ℕ) : Type 0 where
   pub not_shut : IsShut other → ⊥
   pub opened : other_after ≡ reopened other
 
--- With the first of two files current, 1 is put for a gate that a repair would write over.
+-- With the first of two files current, a gate that a repair would write over is replaced by 1.
 abbrev pub ReopensBy : List ℕ → List ℕ → List ℕ → List ℕ → Type 0
 ReopensBy current other current_after other_after =
     (EndReopens current other current_after × (other_after ≡ other))
     ⊎ (OtherReopens current other other_after × (current_after ≡ current))
 
--- Whichever file is current, 1 is put for a gate that a repair would write over.
+-- Whichever file is current, a gate that a repair would write over is replaced by 1.
 abbrev pub Reopens : List ℕ → List ℕ → List ℕ → List ℕ → Type 0
 Reopens first second first_after second_after =
     ReopensBy first second first_after second_after ⊎ ReopensBy second first second_after first_after
@@ -97,4 +97,4 @@ MaySettleOn first second contents =
 abbrev pub SettleFurther : (Contents → Type 0) → List ℕ → List ℕ → List ℕ → List ℕ → Type 0
 SettleFurther IsNew first second first_after second_after =
     SettleOn (MaySettleOn first second) first second
-    → SettleOn (Either IsNew (MaySettleOn first second)) first_after second_after
+    → SettleOn (HoldsOneOf IsNew (MaySettleOn first second)) first_after second_after

@@ -5,10 +5,10 @@ use Rattle.ash_journal.specs.declared.journal.Journal.{Journal}
 use Rattle.ash_journal.specs.declared.other_state.OtherState.{OtherState}
 use Rattle.ash_journal.specs.declared.other_state.OtherState.TheVariants.{Shut, Older}
 use Rattle.ash_journal.specs.Failures.{CountsFailuresOf}
-use Rattle.ash_journal.specs.Layout.{solid, records, FieldsFit}
-use Rattle.ash_journal.specs.Current.{Is}
+use Rattle.ash_journal.specs.Layout.{committed_bytes, records, FieldsFit}
+use Rattle.ash_journal.specs.Current.{IsContents}
 use Rattle.ash_journal.specs.OtherState.{first_of, second_of, is_stray, OtherIs}
-use Rattle.ash_journal.specs.Runs.{Run}
+use Rattle.ash_journal.specs.Runs.{HoldsSince}
 use Rattle.ash_journal.specs.Writes.{WritesByte}
 
 -- `first_disk j` is the disk that was handed over first.
@@ -61,9 +61,9 @@ pub record FilesAre {D : Type 0} (device : Device D) (number end size : ℕ) (st
   pub gate : ℕ
   pub after : List ℕ
   pub shut : gate ≢ 1
-  pub bytes : device.seen current ≡ solid number image bodies ++ gate ∷ after
+  pub bytes : device.seen current ≡ committed_bytes number image bodies ++ gate ∷ after
   pub fits : FieldsFit number image bodies
-  pub end_is : end ≡ length (solid number image bodies)
+  pub end_is : end ≡ length (committed_bytes number image bodies)
   pub size_is : size ≡ length (records bodies)
   pub gate_is : EndIs stray gate
   pub other_is : OtherIs other_state number (device.seen other)
@@ -94,8 +94,8 @@ pub record Holds {D : Type 0} (device : Device D) (j : Journal D) (image : List 
     (bodies : List (List ℕ)) : Type 0 where
   pub files : Finds device j image bodies
   pub repaired : IsRepaired j
-  pub run : Run device (device.clock (first_disk j)) (device.clock (second_disk j)) (first_disk j) (second_disk j)
-      (Is (image, bodies))
+  pub run : HoldsSince device (device.clock (first_disk j)) (device.clock (second_disk j)) (first_disk j) (second_disk j)
+      (IsContents (image, bodies))
 
 -- The disk that holds the current file stays as it was.
 abbrev pub LeavesCurrent : {D : Type 0} → Journal D → Journal D → Type 0

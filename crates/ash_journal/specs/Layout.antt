@@ -22,6 +22,14 @@ mark generation = magic ++ eight_bytes generation
 unfoldable pub block : List ℕ → List ℕ
 block body = four_bytes (length body) ++ body
 
+-- `mark_size` is how many bytes a mark has: the magic and the number of the generation.
+abbrev pub mark_size : ℕ
+mark_size = 16
+
+-- `prefix_size` is how many bytes a file has before the length of its image: a gate and the mark.
+abbrev pub prefix_size : ℕ
+prefix_size = 17
+
 -- `header_size` is how many bytes a file has before its image: a gate, the mark and the length of the image.
 abbrev pub header_size : ℕ
 header_size = 21
@@ -31,9 +39,9 @@ unfoldable pub records : List (List ℕ) → List ℕ
 records [] = []
 records (body ∷ bodies) = 1 ∷ (block body ++ records bodies)
 
--- `solid generation image bodies` is all of a file that counts, up to the gate after its last open record.
-unfoldable pub solid : ℕ → List ℕ → List (List ℕ) → List ℕ
-solid generation image bodies = 1 ∷ (mark generation ++ (block image ++ records bodies))
+-- `committed_bytes generation image bodies` is all of a file that counts, up to the gate after its last open record.
+unfoldable pub committed_bytes : ℕ → List ℕ → List (List ℕ) → List ℕ
+committed_bytes generation image bodies = 1 ∷ (mark generation ++ (block image ++ records bodies))
 
 -- The length of each body fits four bytes.
 abbrev pub AreShort : List (List ℕ) → Type 0
@@ -52,7 +60,7 @@ pub record IsFile (generation : ℕ) (image : List ℕ) (bodies : List (List ℕ
   pub gate : ℕ
   pub after : List ℕ
   pub shut : gate ≢ 1
-  pub bytes : file ≡ solid generation image bodies ++ gate ∷ after
+  pub bytes : file ≡ committed_bytes generation image bodies ++ gate ∷ after
   pub fits : FieldsFit generation image bodies
 
 -- The first gate is 1, and something follows it.
@@ -93,4 +101,4 @@ IsCutAt at file =
     ((generation : ℕ) × (rest : List ℕ) × (file ≡ 1 ∷ (mark generation ++ rest)) × IsCut rest × (at ≡ 0))
     ⊎ ((generation : ℕ) × (image : List ℕ) × (bodies : List (List ℕ)) × (rest : List ℕ)
     × FieldsFit generation image bodies
-    × (file ≡ solid generation image bodies ++ 1 ∷ rest) × IsCut rest × (at ≡ length (solid generation image bodies)))
+    × (file ≡ committed_bytes generation image bodies ++ 1 ∷ rest) × IsCut rest × (at ≡ length (committed_bytes generation image bodies)))

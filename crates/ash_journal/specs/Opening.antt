@@ -8,7 +8,7 @@ use Rattle.ash_journal.specs.declared.two_files.Choice.{Choice}
 use Rattle.ash_journal.specs.declared.two_files.Headers.{Headers}
 use Rattle.ash_journal.specs.declared.one_file.CurrentFile.{CurrentFile}
 use Rattle.ash_journal.specs.OtherState.{first_of, second_of, OtherIs}
-use Rattle.ash_journal.specs.Current.{Is, IsOlder, SettleOn}
+use Rattle.ash_journal.specs.Current.{IsContents, IsOlder, SettleOn}
 use Rattle.ash_journal.specs.Layout.{IsOpen, IsClosed, IsCutAt, HasMark, LacksMark}
 use Rattle.ash_journal.specs.Reading.{HeaderIs, IsRead}
 
@@ -28,7 +28,7 @@ HasCurrent first second =
     ((generation : ℕ) × HasMark generation first × IsOlder generation second)
     ⊎ ((generation : ℕ) × HasMark generation second × IsOlder generation first)
 
--- `FaultIs fault first second` says what two files are like of which a fault is reported.
+-- `FaultIs fault first second` says that two files have this fault.
 abbrev pub FaultIs : OpenFault → List ℕ → List ℕ → Type 0
 FaultIs DeviceFailed first second = Unit {0}
 FaultIs NoMemory first second = HasCurrent first second
@@ -65,4 +65,4 @@ CreateFaultIs reasons.NoMemory first second unchanged = (IsClosed first × IsClo
 
 -- No file is open, or the two settle on this image with no records.
 abbrev pub IsCreatedOrClosed : List ℕ → List ℕ → List ℕ → Type 0
-IsCreatedOrClosed image first second = (IsClosed first × IsClosed second) ⊎ SettleOn (Is (image, [])) first second
+IsCreatedOrClosed image first second = (IsClosed first × IsClosed second) ⊎ SettleOn (IsContents (image, [])) first second

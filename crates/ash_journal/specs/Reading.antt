@@ -7,7 +7,7 @@ use Rattle.ash_journal.specs.declared.one_file.FileHeader.TheVariants.{Closed, U
 use Rattle.ash_journal.specs.declared.record.Record.{Record}
 use Rattle.ash_journal.specs.declared.error.OpenFault.{OpenFault}
 use Rattle.ash_journal.specs.declared.error.OpenFault.TheVariants.{DeviceFailed, NoGeneration, Damaged, NoMemory}
-use Rattle.ash_journal.specs.Layout.{block, header_size, solid, FieldsFit, IsClosed, IsShut, IsCutAt, HasMark}
+use Rattle.ash_journal.specs.Layout.{block, header_size, committed_bytes, FieldsFit, IsClosed, IsShut, IsCutAt, HasMark}
 use Rattle.ash_journal.specs.Layout.{LacksMark}
 
 -- The first gate is 0, or it is not.
@@ -45,9 +45,9 @@ AreAt at (r ∷ found) = (r.gate ≡ at) × AreAt (at + 5 + length r.body.items)
 pub record IsReadTo (generation : ℕ) (image : List ℕ) (found : List Record) (end : ℕ) (gate : ℕ)
     (file : List ℕ) : Type 0 where
   pub after : List ℕ
-  pub bytes : file ≡ solid generation image (bodies_of found) ++ gate ∷ after
+  pub bytes : file ≡ committed_bytes generation image (bodies_of found) ++ gate ∷ after
   pub fits : FieldsFit generation image (bodies_of found)
-  pub end_is : end ≡ length (solid generation image (bodies_of found))
+  pub end_is : end ≡ length (committed_bytes generation image (bodies_of found))
   pub placed : AreAt (header_size + length image) found
 
 -- The file is read whole, up to a gate that is not open.

@@ -5,13 +5,13 @@ use Rattle.ash_journal.specs.Current.{Contents, SettleOn, SettleFurther}
 
 -- At every pair of moments, one of the first disk from time a on and one of the second from time b on, up to now, the
 -- images that a crash may have left settle on contents of which P holds.
-pub record Run {D : Type 0} (device : Device D) (a b : ℕ) (first second : D) (P : Contents → Type 0) : Type 0 where
+pub record HoldsSince {D : Type 0} (device : Device D) (a b : ℕ) (first second : D) (P : Contents → Type 0) : Type 0 where
   pub first_began : a ≤ device.clock first
   pub second_began : b ≤ device.clock second
   pub moments : EveryMomentSince device a b first second (SettleOn P)
 
 -- A crash might have left these two images of two disks by two times: at these times, or now where that is earlier.
-pub record Earlier {D : Type 0} (device : Device D) (first second : D) (s t : ℕ) (x y : List ℕ) : Type 0 where
+pub record LeftEarlier {D : Type 0} (device : Device D) (first second : D) (s t : ℕ) (x y : List ℕ) : Type 0 where
   pub first_left : device.leaves first (min s (device.clock first)) x
   pub second_left : device.leaves second (min t (device.clock second)) y
 
@@ -24,8 +24,8 @@ pub record Extends {D : Type 0} (device : Device D) (first second first_after se
   pub second_later : device.clock second ≤ device.clock second_after
   pub moments : (s t : ℕ) (x y : List ℕ) → s ≤ device.clock first_after → t ≤ device.clock second_after
       → device.leaves first_after s x → device.leaves second_after t y
-      → (u : List ℕ) × (v : List ℕ) × Earlier device first second s t u v × SettleFurther IsNew u v x y
+      → (u : List ℕ) × (v : List ℕ) × LeftEarlier device first second s t u v × SettleFurther IsNew u v x y
 
 -- No contents are new.
-abbrev pub Nothing : Contents → Type 0
-Nothing contents = ⊥
+abbrev pub NoContents : Contents → Type 0
+NoContents contents = ⊥

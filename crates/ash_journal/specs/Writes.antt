@@ -1,6 +1,6 @@
 -- These definitions say what one disk holds before and while a gate is written.
 use Rattle.std.specs.Prelude.{◌≡◌, ◌⊎◌, ℕ, ◌≤◌, Bool, true, false, IsTrue, List, [], ◌∷◌, ◌++◌, length, drop}
-use Rattle.ash_disk.specs.Device.{Device, IsDurable, Throughout}
+use Rattle.ash_disk.specs.Device.{Device, IsDurable, HoldsThroughout}
 use Rattle.ash_disk.specs.Image.{Torn}
 use Rattle.ash_journal.specs.Layout.{mark, block, IsShut}
 
@@ -21,7 +21,7 @@ pub record IsOn {D : Type 0} (device : Device D) (disk : D) (file : List ℕ) : 
 -- crash leaves it as it was.
 pub record WritesByte {D : Type 0} (device : Device D) (at : ℕ) (old new : D) : Type 0 where
   pub seen : Torn at 1 (device.seen old) (device.seen new)
-  pub moments : Throughout device old new (Torn at 1 (device.seen old))
+  pub moments : HoldsThroughout device old new (Torn at 1 (device.seen old))
 
 -- `WhileShut prefix suffix image` says what a crash may leave while 0 is written over a gate.
 abbrev pub WhileShut : List ℕ → List ℕ → List ℕ → Type 0
@@ -51,24 +51,24 @@ WhileReplaced is_open bytes file image =
     WhileRepaired is_open [] file image ⊎ WhileCommitted [] bytes (drop 1 file) image
 
 -- The file has at most one byte, or its first gate is 0: it was never in use, or no longer is.
-abbrev pub IsIdle : List ℕ → Type 0
-IsIdle file = (length file ≤ 1) ⊎ IsShut file
+abbrev pub IsUnused : List ℕ → Type 0
+IsUnused file = (length file ≤ 1) ⊎ IsShut file
 
 -- All images that a crash may leave have at most one byte, or all have 0 for their first gate.
-abbrev pub AreIdle : (List ℕ → Type 0) → Type 0
-AreIdle images = ((image : List ℕ) → images image → length image ≤ 1) ⊎ ((image : List ℕ) → images image → IsShut image)
+abbrev pub AreUnused : (List ℕ → Type 0) → Type 0
+AreUnused images = ((image : List ℕ) → images image → length image ≤ 1) ⊎ ((image : List ℕ) → images image → IsShut image)
 
--- The disk has rested since an earlier time: at each moment of it, up to now, all images that a crash might have left
+-- The disk has been unused since an earlier time: at each moment of it, up to now, all images that a crash might have left
 -- have at most one byte, or all have 0 for their first gate.
-pub record HasRested {D : Type 0} (device : Device D) (since : ℕ) (disk : D) : Type 0 where
+pub record WasUnused {D : Type 0} (device : Device D) (since : ℕ) (disk : D) : Type 0 where
   pub began : since ≤ device.clock disk
-  pub idle : (time : ℕ) → since ≤ time → time ≤ device.clock disk → AreIdle (device.leaves disk time)
+  pub idle : (time : ℕ) → since ≤ time → time ≤ device.clock disk → AreUnused (device.leaves disk time)
 
--- `WhileStarted bytes file image` says what a crash may leave while bytes are put into a file that was idle.
+-- `WhileStarted bytes file image` says what a crash may leave while bytes are written to a file that was unused.
 abbrev pub WhileStarted : List ℕ → List ℕ → List ℕ → Type 0
-WhileStarted bytes file image = IsIdle image ⊎ WhileCommitted [] bytes (drop 1 file) image
+WhileStarted bytes file image = IsUnused image ⊎ WhileCommitted [] bytes (drop 1 file) image
 
 -- `WhileCreated image file` says what a crash may leave of the first file while a journal is created.
 abbrev pub WhileCreated : List ℕ → List ℕ → Type 0
 WhileCreated image file =
-    IsIdle file ⊎ ((gate : ℕ) × (rest : List ℕ) × (file ≡ gate ∷ (mark 1 ++ (block image ++ 0 ∷ rest))))
+    IsUnused file ⊎ ((gate : ℕ) × (rest : List ℕ) × (file ≡ gate ∷ (mark 1 ++ (block image ++ 0 ∷ rest))))

@@ -8,7 +8,13 @@ use std::alloc::{AllocError, Global};
 /// What every generation has after its first gate.
 pub(crate) const MAGIC: &[u8; 8] = b"ASHOST01";
 
-/// The bytes of a file before its image: a gate, the magic, the number and the length of the image.
+/// The bytes of a mark: the magic and the number of the generation.
+pub(crate) const MARK_SIZE: usize = 16;
+
+/// The bytes of a file before the length of its image: a gate and the mark.
+pub(crate) const PREFIX_SIZE: usize = 17;
+
+/// The bytes of a file before its image: a gate, the mark and the length of the image.
 pub(crate) const HEADER_SIZE: u64 = 21;
 
 /// A record's length and body, and a next gate that is shut.

@@ -1,12 +1,13 @@
 //! How two files become a journal's.
-ghost use Rattle.std.specs.Prelude.{◌≡◌, ◌<◌, ◌^◌, ◌∷◌, ◌++◌, [], length, drop, IsTrue, IfErr, OnOk, IsErr, IsErrOf};
+ghost use Rattle.std.specs.Prelude.{◌≡◌, ◌<◌, ◌^◌, ◌∷◌, ◌++◌, []};
+ghost use Rattle.std.specs.Prelude.{length, drop, IsTrue, IfErr, OnOk, IsErr, IsErrOf};
 ghost use Rattle.ash_disk.specs.Failures.{CountsFailure};
-ghost use Rattle.ash_disk.specs.Device.{IsOnlyRead, Throughout};
+ghost use Rattle.ash_disk.specs.Device.{IsOnlyRead, HoldsThroughout};
 ghost use Rattle.ash_journal.specs.Failures.{CountsFailuresOf};
 ghost use Rattle.ash_journal.specs.Layout.{mark, block, IsClosed};
 ghost use Rattle.ash_journal.specs.Opening.{CreateFaultIs};
 ghost use Rattle.ash_journal.specs.Reading.{ShutIs};
-ghost use Rattle.ash_journal.specs.Writes.{IsOn, IsIdle, AreIdle, WhileStarted, WhileCreated};
+ghost use Rattle.ash_journal.specs.Writes.{IsOn, IsUnused, AreUnused, WhileStarted, WhileCreated};
 
 use crate::bytes::generation_bytes;
 use crate::error::CreateFault;
@@ -21,8 +22,8 @@ fn clear<D: Disk>(disk: &mut D, gate: FirstGate) -> Result<(), DeviceFailed>
     ensures cleared { OnOk result (IsTrue (D.honest disk.old) → ShutIs gate.shut (D.seen disk.old)
         → IsOn D.Disk disk.new (0 ∷ drop 1 (D.seen disk.old))) }
     ensures moments { IsTrue (D.honest disk.old) → ShutIs gate.shut (D.seen disk.old)
-        → AreIdle (D.leaves disk.old (D.clock disk.old))
-        → Throughout D.Disk disk.old disk.new IsIdle }
+        → AreUnused (D.leaves disk.old (D.clock disk.old))
+        → HoldsThroughout D.Disk disk.old disk.new IsUnused }
     ensures honesty { D.honest disk.new ≡ D.honest disk.old }
     ensures cause { CountsFailure result (D.failures disk.old) (D.failures disk.new) }
 {
@@ -48,14 +49,14 @@ fn start<D: Disk>(
         → ShutIs second_gate.shut (D.seen second.old)
         → IsOn D.Disk second.new (0 ∷ drop 1 (D.seen second.old))) }
     ensures first_moments { IsTrue (D.honest first.old) → ShutIs first_gate.shut (D.seen first.old)
-        → AreIdle (D.leaves first.old (D.clock first.old))
-        → Throughout D.Disk first.old first.new
+        → AreUnused (D.leaves first.old (D.clock first.old))
+        → HoldsThroughout D.Disk first.old first.new
         (WhileStarted bytes.now (D.seen first.old)) }
     ensures second_moments { IsTrue (D.honest second.old)
         → ShutIs second_gate.shut (D.seen second.old)
-        → AreIdle (D.leaves second.old (D.clock second.old))
-        → Throughout D.Disk second.old second.new
-        IsIdle }
+        → AreUnused (D.leaves second.old (D.clock second.old))
+        → HoldsThroughout D.Disk second.old second.new
+        IsUnused }
     ensures honesty_first { D.honest first.new ≡ D.honest first.old }
     ensures honesty_second { D.honest second.new ≡ D.honest second.old }
     ensures cause { CountsFailuresOf D.Disk (IsErr result)
@@ -86,13 +87,13 @@ pub(crate) fn create_both<D: Disk>(
         → CreateFaultIs fault (D.seen first.old) (D.seen second.old)
         (IsOnlyRead D.Disk first.old first.new × IsOnlyRead D.Disk second.old second.new)) }
     ensures first_moments { IsTrue (D.honest first.old) → IsTrue (D.honest second.old)
-        → AreIdle (D.leaves first.old (D.clock first.old))
-        → Throughout D.Disk first.old first.new
+        → AreUnused (D.leaves first.old (D.clock first.old))
+        → HoldsThroughout D.Disk first.old first.new
         (WhileCreated image.now) }
     ensures second_moments { IsTrue (D.honest first.old) → IsTrue (D.honest second.old)
-        → AreIdle (D.leaves second.old (D.clock second.old))
-        → Throughout D.Disk second.old second.new
-        IsIdle }
+        → AreUnused (D.leaves second.old (D.clock second.old))
+        → HoldsThroughout D.Disk second.old second.new
+        IsUnused }
     ensures honesty_first { D.honest first.new ≡ D.honest first.old }
     ensures honesty_second { D.honest second.new ≡ D.honest second.old }
     ensures cause { CountsFailuresOf D.Disk (IsErrOf result CreateFault.DeviceFailed)

@@ -1,9 +1,10 @@
 //! How a file is changed: a gate is shut, or bytes are committed after one that is shut. A repair and the replacing of
 //! what a file holds are made of these. Nothing else in the crate writes, but for `clear` in `creation`, which writes 0
 //! over the first gate of a file that is not open.
-ghost use Rattle.std.specs.Prelude.{◌≡◌, false, IsTrue, ◌+◌, ◌<◌, ◌^◌, ◌∷◌, ◌++◌, [], ℕ, List, length, drop, OnOk};
+ghost use Rattle.std.specs.Prelude.{◌≡◌, ◌+◌, ◌<◌, ◌^◌, ◌∷◌, ◌++◌, []};
+ghost use Rattle.std.specs.Prelude.{false, IsTrue, ℕ, List, length, drop, OnOk};
 ghost use Rattle.ash_disk.specs.Failures.{CountsFailure};
-ghost use Rattle.ash_disk.specs.Device.{IsDurable, Throughout};
+ghost use Rattle.ash_disk.specs.Device.{IsDurable, HoldsThroughout};
 ghost use Rattle.ash_journal.specs.Layout.{IsShut};
 ghost use Rattle.ash_journal.specs.OtherState.{is_older};
 ghost use Rattle.ash_journal.specs.Writes.{IsSplit, IsOn, WritesByte, WhileShut, WhileCommitted, WhileRepaired};
@@ -19,7 +20,7 @@ pub(crate) fn shut_gate<D: Disk>(disk: &mut D, gate: u64) -> Result<(), DeviceFa
         → IsOn D.Disk disk.new (prefix ++ 0 ∷ drop 1 suffix)) }
     ensures moments { (prefix suffix : List ℕ)
         → IsSplit D.Disk disk.old gate prefix suffix
-        → Throughout D.Disk disk.old disk.new
+        → HoldsThroughout D.Disk disk.old disk.new
         (WhileShut prefix suffix) }
     ensures only_gate { (prefix suffix : List ℕ)
         → IsSplit D.Disk disk.old gate prefix suffix
@@ -40,7 +41,7 @@ pub(crate) fn commit<D: Disk>(disk: &mut D, gate: u64, bytes: &[u8]) -> Result<(
         (prefix ++ 1 ∷ (bytes.now ++ drop (length bytes.now) suffix))) }
     ensures moments { (prefix suffix : List ℕ)
         → IsSplit D.Disk disk.old gate prefix (0 ∷ suffix)
-        → Throughout D.Disk disk.old disk.new
+        → HoldsThroughout D.Disk disk.old disk.new
         (WhileCommitted prefix bytes.now suffix) }
     ensures honesty { D.honest disk.new ≡ D.honest disk.old }
     ensures cause { CountsFailure result (D.failures disk.old) (D.failures disk.new) }
@@ -64,7 +65,7 @@ pub(crate) fn repair<D: Disk>(disk: &mut D, gate: Gate) -> Result<(), DeviceFail
         → IsOn D.Disk disk.new (prefix ++ repaired gate.stray suffix)) }
     ensures moments { (prefix suffix : List ℕ)
         → IsSplit D.Disk disk.old gate.at prefix suffix
-        → Throughout D.Disk disk.old disk.new
+        → HoldsThroughout D.Disk disk.old disk.new
         (WhileRepaired gate.stray prefix suffix) }
     ensures only_gate { (prefix suffix : List ℕ)
         → IsSplit D.Disk disk.old gate.at prefix suffix
@@ -94,7 +95,7 @@ pub(crate) fn replace<D: Disk>(
     ensures moments { IsTrue (D.honest disk.old)
         → IsDurable D.Disk disk.old
         → (is_older state ≡ false → IsShut (D.seen disk.old))
-        → Throughout D.Disk disk.old disk.new
+        → HoldsThroughout D.Disk disk.old disk.new
         (WhileReplaced (is_older state) bytes.now (D.seen disk.old)) }
     ensures honesty { D.honest disk.new ≡ D.honest disk.old }
     ensures cause { CountsFailure result (D.failures disk.old) (D.failures disk.new) }

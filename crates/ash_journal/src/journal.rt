@@ -8,7 +8,7 @@ use crate::gate::{Gate, commit, repair, replace};
 use crate::other_state::{Order, OtherState};
 use crate::record::Record;
 use crate::refusal::{CreateRefused, OpenRefused};
-use crate::two_files::{Contents, read_both};
+use crate::two_files::{ReadFiles, read_both};
 use ash_disk::{DeviceFailed, Disk};
 use std::alloc::Global;
 use std::mem;
@@ -35,7 +35,7 @@ pub struct Journal<D> {
 
 /// Two disks that were opened: a journal over them, and what they hold.
 #[derive(Drop)]
-pub struct Opened<D> {
+pub struct OpenedJournal<D> {
     pub journal: Journal<D>,
     /// The image of the current generation.
     pub image: Vec<u8>,
@@ -44,19 +44,20 @@ pub struct Opened<D> {
 }
 
 impl<D: Disk> Journal<D> {
-    ghost use Rattle.std.specs.Prelude.{◌≡◌, ◌<◌, ◌-◌, ◌↔◌, ◌∷◌, ◌++◌, [], ℕ, List, length, IsTrue, IfOk, IfErr, OnOk};
+    ghost use Rattle.std.specs.Prelude.{◌≡◌, ◌<◌, ◌-◌, ◌↔◌, ◌∷◌, ◌++◌, []};
+    ghost use Rattle.std.specs.Prelude.{ℕ, List, length, IsTrue, IfOk, IfErr, OnOk};
     ghost use Rattle.std.specs.Prelude.{OnErr, IsErr, IsErrOf, MatchResult};
     ghost use Rattle.ash_journal.specs.Failures.{CountsFailuresOf};
     ghost use Rattle.ash_journal.specs.Journal.{first_disk, second_disk, generation, record_bytes, current_disk};
     ghost use Rattle.ash_journal.specs.Journal.{IsReady, IsRepaired, HasFailed, Finds, Holds, CountsFailuresIn};
     ghost use Rattle.ash_journal.specs.Journal.{LeavesCurrent, LeavesOther, LeavesRepaired, WritesGates};
-    ghost use Rattle.ash_journal.specs.Current.{Is, Either, Represent};
+    ghost use Rattle.ash_journal.specs.Current.{IsContents, HoldsOneOf, Represent};
     ghost use Rattle.ash_disk.specs.Device.{IsOnlyRead, EveryMomentSince};
     ghost use Rattle.ash_journal.specs.Layout.{IsClosed, header_size};
     ghost use Rattle.ash_journal.specs.Opening.{FaultIs, CreateFaultIs, IsCreatedOrClosed};
-    ghost use Rattle.ash_journal.specs.Writes.{HasRested};
+    ghost use Rattle.ash_journal.specs.Writes.{WasUnused};
     ghost use Rattle.ash_journal.specs.Reading.{AreAt, bodies_of};
-    ghost use Rattle.ash_journal.specs.Runs.{Run, Extends, Nothing};
+    ghost use Rattle.ash_journal.specs.Runs.{HoldsSince, Extends, NoContents};
 
     /// Makes a journal of two disks of which neither file is open: generation 1 with an image and no records, in the
     /// first. The journal is ready for records.
@@ -74,7 +75,7 @@ impl<D: Disk> Journal<D> {
         second: D,
         image: &[u8],
     ) -> Result<Journal<D>, CreateRefused<D>>
-        requires { length image.now < 2 ^ 32 }
+        requires short { length image.now < 2 ^ 32 }
         ensures created { IfOk result (λ j. IsTrue (D.honest first) → IsTrue (D.honest second)
             → Holds D.Disk j image.now []) }
         ensures ready { IfOk result IsReady }
@@ -88,7 +89,7 @@ impl<D: Disk> Journal<D> {
             (IsOnlyRead D.Disk first r.first
             × IsOnlyRead D.Disk second r.second)) }
         ensures moments { (a b : ℕ) → IsTrue (D.honest first) → IsTrue (D.honest second)
-            → HasRested D.Disk a first → HasRested D.Disk b second
+            → WasUnused D.Disk a first → WasUnused D.Disk b second
             → MatchResult result
             (λ j. EveryMomentSince D.Disk a b (first_disk j) (second_disk j)
             (IsCreatedOrClosed image.now))
@@ -133,7 +134,7 @@ impl<D: Disk> Journal<D> {
     /// Refusals: `NoGeneration` where no file is open; `Damaged` where an open file has no magic and generation, two
     /// open files have one number, or the current file is cut short, with the offset of the gate before the record that
     /// is, else 0; `DeviceFailed`; `NoMemory`. They hand the disks back as they were read.
-    pub fn open(alloc: Global, first: D, second: D) -> Result<Opened<D>, OpenRefused<D>>
+    pub fn open(alloc: Global, first: D, second: D) -> Result<OpenedJournal<D>, OpenRefused<D>>
         ensures found { IfOk result (λ o. IsTrue (D.honest first) → IsTrue (D.honest second)
             → Finds D.Disk o.journal o.image.items (bodies_of o.records.items)) }
         ensures offsets { IfOk result (λ o. IsTrue (D.honest first) → IsTrue (D.honest second)
@@ -145,8 +146,8 @@ impl<D: Disk> Journal<D> {
         ensures extends { IsTrue (D.honest first) → IsTrue (D.honest second)
             → MatchResult result
             (λ o. Extends D.Disk first second (first_disk o.journal) (second_disk o.journal)
-            Nothing)
-            (λ r. Extends D.Disk first second r.first r.second Nothing) }
+            NoContents)
+            (λ r. Extends D.Disk first second r.first r.second NoContents) }
         ensures sound { IfOk result (λ o. HasFailed o.journal → ⊥) }
         ensures first_read { MatchResult result
             (λ o. IsOnlyRead D.Disk first (first_disk o.journal))
@@ -172,7 +173,7 @@ impl<D: Disk> Journal<D> {
                 });
             }
         };
-        let Contents { choice, file } = contents;
+        let ReadFiles { choice, file } = contents;
         let swapped = choice.swapped;
         let (current, other) = Order { swapped }.arrange(one, two);
         let journal = Journal {
@@ -187,7 +188,7 @@ impl<D: Disk> Journal<D> {
             other_state: choice.other_state,
             failed: false,
         };
-        Ok(Opened {
+        Ok(OpenedJournal {
             journal,
             image: file.image,
             records: file.tail.records,
@@ -196,7 +197,7 @@ impl<D: Disk> Journal<D> {
 
     /// The number of the current generation.
     pub fn generation(&self) -> u64
-        ensures { result ≡ generation self.now }
+        ensures number { result ≡ generation self.now }
     {
         self.generation
     }
@@ -204,7 +205,7 @@ impl<D: Disk> Journal<D> {
     /// Whether records and generations may be written: from `create`, or from a `settle` that answered `Ok` after
     /// `open`, until a `DeviceFailed`.
     pub fn is_ready(&self) -> bool
-        ensures { IsTrue result ↔ IsReady self.now }
+        ensures ready { IsTrue result ↔ IsReady self.now }
     {
         !self.failed && !self.stray && !self.other_state.is_stray()
     }
@@ -225,7 +226,8 @@ impl<D: Disk> Journal<D> {
         ensures extends { (image : List ℕ) (bodies : List (List ℕ))
             → Holds D.Disk self.old image bodies
             → Extends D.Disk (first_disk self.old) (second_disk self.old)
-            (first_disk self.new) (second_disk self.new) (Is (image, bodies ++ body.now ∷ [])) }
+            (first_disk self.new) (second_disk self.new)
+            (IsContents (image, bodies ++ body.now ∷ [])) }
         ensures ready { (IsErrOf result AppendError.DeviceFailed → ⊥) → IsReady self.new }
         ensures failed { IsErrOf result AppendError.DeviceFailed → HasFailed self.new }
         ensures longer { OnOk result (record_bytes self.new
@@ -258,7 +260,7 @@ impl<D: Disk> Journal<D> {
 
     /// The bytes of the open records: their lengths, bodies and gates.
     pub fn record_bytes(&self) -> u64
-        ensures { result ≡ record_bytes self.now }
+        ensures size { result ≡ record_bytes self.now }
     {
         self.record_bytes
     }
@@ -295,7 +297,7 @@ impl<D: Disk> Journal<D> {
         ensures extends { (image : List ℕ) (bodies : List (List ℕ))
             → Finds D.Disk self.old image bodies
             → Extends D.Disk (first_disk self.old) (second_disk self.old)
-            (first_disk self.new) (second_disk self.new) Nothing }
+            (first_disk self.new) (second_disk self.new) NoContents }
         ensures ready { OnOk result ((HasFailed self.old → ⊥) → IsReady self.new) }
         ensures failed { IsErr result → HasFailed self.new }
         ensures still_failed { HasFailed self.old → HasFailed self.new }
@@ -351,9 +353,9 @@ impl<D: Disk> Journal<D> {
             → Holds D.Disk self.old was bodies
             → Holds D.Disk self.new image.now []) }
         ensures run { (was : List ℕ) (bodies : List (List ℕ)) → Holds D.Disk self.old was bodies
-            → Run D.Disk (D.clock (first_disk self.old)) (D.clock (second_disk self.old))
+            → HoldsSince D.Disk (D.clock (first_disk self.old)) (D.clock (second_disk self.old))
             (first_disk self.new) (second_disk self.new)
-            (Either (Is (image.now, [])) (Is (was, bodies))) }
+            (HoldsOneOf (IsContents (image.now, [])) (IsContents (was, bodies))) }
         ensures ready { (IsErrOf result InstallError.DeviceFailed → ⊥) → IsReady self.new }
         ensures failed { IsErrOf result InstallError.DeviceFailed → HasFailed self.new }
         ensures higher { OnOk result (generation self.new ≡ generation self.old + 1) }

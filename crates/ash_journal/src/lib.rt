@@ -49,6 +49,6 @@ mod two_files;
 
 pub use error::{AppendError, CreateFault, InstallError, OpenFault};
 pub use first_append::append_first;
-pub use journal::{Journal, Opened};
+pub use journal::{Journal, OpenedJournal};
 pub use record::Record;
 pub use refusal::{CreateRefused, OpenRefused};

@@ -1,12 +1,14 @@
 //! What a file is read as. Nothing here writes.
-ghost use Rattle.std.specs.Prelude.{◌≡◌, ◌+◌, ◌<◌, ◌≤◌, ◌^◌, ◌↔◌, ◌++◌, ◌∷◌, [], ℕ, List, length, take, drop};
+ghost use Rattle.std.specs.Prelude.{◌≡◌, ◌+◌, ◌<◌, ◌≤◌, ◌^◌, ◌↔◌, ◌++◌, ◌∷◌};
+ghost use Rattle.std.specs.Prelude.{[], ℕ, List, length, take, drop};
 ghost use Rattle.std.specs.Prelude.{IsTrue, IfOk, IfSome, IsErr, IsErrOf, MatchOption, MatchResult};
 ghost use Rattle.ash_disk.specs.Device.{IsOnlyRead};
 ghost use Rattle.ash_disk.specs.Image.{bytes_at};
-ghost use Rattle.ash_journal.specs.Layout.{four_bytes, mark, header_size, solid, IsShut, FieldsFit, IsCut, HasMark};
+ghost use Rattle.ash_journal.specs.Layout.{four_bytes, mark, mark_size, prefix_size, header_size, committed_bytes};
+ghost use Rattle.ash_journal.specs.Layout.{IsShut, FieldsFit, IsCut, HasMark};
 ghost use Rattle.ash_journal.specs.Reading.{HeaderIs, IsFailure, IsCutFault, Counts, IsBlock, IsRead};
 
-use crate::bytes::{HEADER_SIZE, MAGIC};
+use crate::bytes::{HEADER_SIZE, MAGIC, MARK_SIZE, PREFIX_SIZE};
 use crate::error::OpenFault;
 use crate::record::Record;
 use ash_disk::{DeviceFailed, Disk};
@@ -38,12 +40,12 @@ fn is_shut(prefix: &[u8]) -> bool
 
 // The generation after a magic, where these bytes are both.
 fn mark_of(bytes: &[u8]) -> Option<u64>
-    requires { length bytes.now ≤ 16 }
+    requires { length bytes.now ≤ mark_size }
     ensures { MatchOption result
         ((generation : ℕ) → generation < 2 ^ 64 → bytes.now ≡ mark generation → ⊥)
         (λ generation. (generation < 2 ^ 64) × (bytes.now ≡ mark generation)) }
 {
-    if bytes.len() < 16 {
+    if bytes.len() < MARK_SIZE {
         return None;
     }
     let (magic, number) = bytes.split_at(8);
@@ -53,10 +55,10 @@ fn mark_of(bytes: &[u8]) -> Option<u64>
     Some(LittleEndian::read_u64(number))
 }
 
-/// The header of a file whose first 17 bytes, or all of fewer, are these.
+/// The header of a file whose first `PREFIX_SIZE` bytes, or all of fewer, are these.
 pub(crate) fn header_of(prefix: &[u8]) -> FileHeader
-    requires { length prefix.now ≤ 17 }
-    ensures { (file : List ℕ) → prefix.now ≡ take 17 file → HeaderIs result file }
+    requires { length prefix.now ≤ prefix_size }
+    ensures { (file : List ℕ) → prefix.now ≡ take prefix_size file → HeaderIs result file }
 {
     if prefix.len() < 2 || prefix[0] != 1 {
         let gate = FirstGate {
@@ -78,8 +80,8 @@ pub(crate) fn read_header<D: Disk>(disk: &mut D) -> Result<(FileHeader, u64), De
     ensures cause { Counts (IsErr result) (D.failures disk.old) (D.failures disk.new) }
 {
     let len = disk.len()?;
-    let size = len.min(17) as usize;
-    let mut prefix = [0; 17];
+    let size = len.min(PREFIX_SIZE as u64) as usize;
+    let mut prefix = [0; PREFIX_SIZE];
     disk.read(0, &mut prefix[..size])?;
     Ok((header_of(&prefix[..size]), len))
 }
@@ -200,8 +202,8 @@ fn read_records<D: Disk>(
     requires { at < len }
     ensures answer { (generation : ℕ) (image rest : List ℕ) → IsTrue (D.honest disk.old)
         → len ≡ length (D.seen disk.old) → FieldsFit generation image []
-        → D.seen disk.old ≡ solid generation image [] ++ first ∷ rest
-        → at ≡ length (solid generation image [])
+        → D.seen disk.old ≡ committed_bytes generation image [] ++ first ∷ rest
+        → at ≡ length (committed_bytes generation image [])
         → MatchResult result
         (λ tail. IsRead generation image tail.records.items tail.end tail.gate (D.seen disk.old))
         (λ fault. IsCutFault fault (D.seen disk.old)) }
@@ -259,7 +261,7 @@ pub(crate) fn read_current<D: Disk>(
     ensures cause { Counts (IsErrOf result OpenFault.DeviceFailed)
         (D.failures disk.old) (D.failures disk.new) }
 {
-    let block = match read_block(alloc, disk, 17, len) {
+    let block = match read_block(alloc, disk, PREFIX_SIZE as u64, len) {
         Ok(Some(block)) => block,
         Ok(None) => return Err(OpenFault::Damaged(0)),
         Err(fault) => return Err(fault),

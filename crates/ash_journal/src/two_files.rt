@@ -1,5 +1,6 @@
 //! What two files are read as. Nothing here writes.
-ghost use Rattle.std.specs.Prelude.{◌≡◌, ◌+◌, ◌<◌, ◌≤◌, ◌^◌, ℕ, List, length, IsTrue, IfOk, OnOk, IsErr, IsErrOf};
+ghost use Rattle.std.specs.Prelude.{◌≡◌, ◌+◌, ◌<◌, ◌≤◌, ◌^◌};
+ghost use Rattle.std.specs.Prelude.{ℕ, List, length, IsTrue, IfOk, OnOk, IsErr, IsErrOf};
 ghost use Rattle.std.specs.Prelude.{MatchOption, MatchResult, ◌⊎◌, if◌then◌else◌};
 ghost use Rattle.ash_disk.specs.Device.{IsDurable, IsOnlyRead};
 ghost use Rattle.ash_journal.specs.Failures.{CountsFailuresOf};
@@ -23,7 +24,7 @@ pub(crate) struct Choice {
 
 /// What two files are read as: which is current, and all of that one.
 #[derive(Drop)]
-pub(crate) struct Contents {
+pub(crate) struct ReadFiles {
     pub(crate) choice: Choice,
     pub(crate) file: CurrentFile,
 }
@@ -178,7 +179,7 @@ pub(crate) fn read_both<D: Disk>(
     alloc: Global,
     first: &mut D,
     second: &mut D,
-) -> Result<Contents, OpenFault>
+) -> Result<ReadFiles, OpenFault>
     ensures answer { IsTrue (D.honest first.old) → IsTrue (D.honest second.old)
         → MatchResult result
         (λ c. ContentsAre c.choice c.file (D.seen first.old) (D.seen second.old))
@@ -207,7 +208,7 @@ pub(crate) fn read_both<D: Disk>(
         Err(fault) => return Err(fault),
     };
     match read_chosen(alloc, first, second, &headers, choice) {
-        Ok(file) => Ok(Contents { choice, file }),
+        Ok(file) => Ok(ReadFiles { choice, file }),
         Err(fault) => Err(fault),
     }
 }

@@ -7,7 +7,7 @@ use Rattle.ash_host.specs.Objects.{object_at, IsInOrder, handles_to}
 use Rattle.ash_slots.specs.declared.body.Body.{Body}
 use Rattle.ash_slots.specs.declared.body.Body.TheVariants.{Script, Array, Host}
 use Rattle.ash_slots.specs.Bodies.{words_of}
-use Rattle.ash_slots.specs.Store.{Placed, change_at}
+use Rattle.ash_slots.specs.Store.{SlotEntry, change_at}
 use Rattle.ash_objects.specs.Table.{Living}
 use Rattle.ash_slots.specs.Responses.{box_of, stored_box, boxed}
 use Rattle.ash_objects.specs.Responses.{with_box, called}
@@ -22,17 +22,17 @@ use Rattle.ash_objects.proofs.Fields.{view_face, counted_same}
 
 module _ {B : Type 0} where
   -- what a contract sees of the box is what is there
-  pub box_view : (n : ℕ) (l : List (ℕ × Placed B))
+  pub box_view : (n : ℕ) (l : List (ℕ × SlotEntry B))
       → option_and_then (λ object. box_of object.body) (object_at n (living_in l)) ≡ stored_box n l
   box_view n l = ap (λ (v : Option (Living B)). option_and_then (λ object. box_of object.body) v) (object_at-living n l l) ∙ go (object_at n l)
     where
-      go : (v : Option (Placed B))
+      go : (v : Option (SlotEntry B))
           → option_and_then (λ object. box_of object.body) (option_map (living (fields_in n l)) v)
           ≡ option_and_then (λ object. box_of (object.item).body) v
       go None = refl
       go (Some p) = refl
 
-  module _ (n : ℕ) (l : List (ℕ × Placed B)) (box after : B) (o : IsInOrder l) (s : AreCounted l) (was : stored_box n l ≡ Some box) where
+  module _ (n : ℕ) (l : List (ℕ × SlotEntry B)) (box after : B) (o : IsInOrder l) (s : AreCounted l) (was : stored_box n l ≡ Some box) where
     -- a host object holds nothing
     holds_none : (m : ℕ) → option_map_or (holding m) (object_at n l) 0 ≡ 0
     holds_none m = go (object_at n l) was
@@ -42,7 +42,7 @@ module _ {B : Type 0} where
         body (Array array) h = cc
         body (Host x) h = refl
 
-        go : (v : Option (Placed B)) → option_and_then (λ object. box_of (object.item).body) v ≡ Some box
+        go : (v : Option (SlotEntry B)) → option_and_then (λ object. box_of (object.item).body) v ≡ Some box
             → option_map_or (holding m) v 0 ≡ 0
         go None h = refl
         go (Some p) h = ap (λ (ws : List Word). handles_to m ws) (body (p.item).body h)
@@ -53,17 +53,17 @@ module _ {B : Type 0} where
         let now = none_after m (object_at n l) in
         omega (arith, sums, now, holds_none m)
       where
-        none_after : (m : ℕ) (v : Option (Placed B)) → option_map_or (λ x. holding m (boxed after x)) v 0 ≡ 0
+        none_after : (m : ℕ) (v : Option (SlotEntry B)) → option_map_or (λ x. holding m (boxed after x)) v 0 ≡ 0
         none_after m None = refl
         none_after m (Some p) = refl
 
     pub view_box : living_in (change_at n (boxed after) l) ≡ change_at n (with_box after) (living_in l)
     view_box =
         view_face l (change_at n (boxed after) l) n (with_box after) (λ k x. refl) o (in_order-change n (boxed after) l o)
-        (λ m. ap (λ (v : Option (Placed B)). option_map face v) (object_at-change n (boxed after) m l) ∙ each (nat_eq n m) (object_at m l))
+        (λ m. ap (λ (v : Option (SlotEntry B)). option_map face v) (object_at-change n (boxed after) m l) ∙ each (nat_eq n m) (object_at m l))
         (λ m. omega (arith, fields_boxed m, counted_same n (boxed after) (λ p. refl) m l))
       where
-        each : (b : Bool) (v : Option (Placed B)) → option_map face (cond b (option_map (boxed after) v) v)
+        each : (b : Bool) (v : Option (SlotEntry B)) → option_map face (cond b (option_map (boxed after) v) v)
             ≡ cond b (option_map (with_box after) (option_map face v)) (option_map face v)
         each false v = refl
         each true None = refl
@@ -80,7 +80,7 @@ module _ {B : Type 0} where
     }
 
   -- a table stays one
-  pub table_box : (n : ℕ) (l : List (ℕ × Placed B)) (last settled : ℕ) (box after : B) → IsTable l last settled
+  pub table_box : (n : ℕ) (l : List (ℕ × SlotEntry B)) (last settled : ℕ) (box after : B) → IsTable l last settled
       → stored_box n l ≡ Some box → IsTable (change_at n (boxed after) l) last settled
   table_box n l last settled box after t was = record {
     in_order = in_order-change n (boxed after) l t.in_order;
@@ -89,7 +89,7 @@ module _ {B : Type 0} where
     cleared = t.cleared;
   }
 
-  pub some_box : (n : ℕ) (l : List (ℕ × Placed B))
+  pub some_box : (n : ℕ) (l : List (ℕ × SlotEntry B))
       → IsSome (option_and_then (λ object. box_of object.body) (object_at n (living_in l))) → IsSome (stored_box n l)
   some_box n l h = subst (λ (v : Option B). IsSome v) (box_view n l) h
 

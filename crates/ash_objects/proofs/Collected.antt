@@ -19,7 +19,7 @@ use Rattle.ash_host.proofs.CountLaws.{handles_counted, counted_handles}
 use Rattle.ash_host.proofs.Order.{same_in_order, object_here, object_later, none_after, in_order_after}
 use Rattle.ash_slots.specs.declared.entry.Entry.{Entry}
 use Rattle.ash_slots.specs.Bodies.{words_of, is_boxed}
-use Rattle.ash_slots.specs.Store.{Placed, NoneWaits}
+use Rattle.ash_slots.specs.Store.{SlotEntry, NoneWaits}
 use Rattle.ash_objects.specs.Table.{Living, Table, fields_holding, holds_of}
 use Rattle.ash_objects.specs.Counting.{holding, fields_in, living, living_among, living_in, face, face_at, AreCounted, IsTable}
 use Rattle.ash_slots.specs.Counting.{counted}
@@ -54,32 +54,32 @@ module _ {B : Type 0} where
       go true later = ap (λ (l : List Event). Dropped e.0 ∷ l) later
       go false later = later
 
-  sum_living : (measure : ℕ × Bool → ℕ) (all l : List (ℕ × Placed B))
+  sum_living : (measure : ℕ × Bool → ℕ) (all l : List (ℕ × SlotEntry B))
       → sum_by (λ e. measure (living_mark e)) (living_among all l) ≡ sum_by (λ e. measure (mark_of e)) l
   sum_living measure all [] = refl
   sum_living measure all (e ∷ l) =
       let now = sum_by-cons (λ (x : ℕ × Living B). measure (living_mark x)) (e.0, living (fields_in e.0 all) e.1) (living_among all l) in
-      omega (arith, now, sum_by-cons (λ (x : ℕ × Placed B). measure (mark_of x)) e l, sum_living measure all l)
+      omega (arith, now, sum_by-cons (λ (x : ℕ × SlotEntry B). measure (mark_of x)) e l, sum_living measure all l)
 
-  none_seen : (m : ℕ) (l : List (ℕ × Placed B)) → object_at m (living_in l) ≡ None → object_at m l ≡ None
+  none_seen : (m : ℕ) (l : List (ℕ × SlotEntry B)) → object_at m (living_in l) ≡ None → object_at m l ≡ None
   none_seen m l h = go (object_at m l) (sym (object_at-living m l l) ∙ h)
     where
-      go : (v : Option (Placed B)) → option_map (living (fields_in m l)) v ≡ None → v ≡ None
+      go : (v : Option (SlotEntry B)) → option_map (living (fields_in m l)) v ≡ None → v ≡ None
       go None e = refl
       go (Some p) e = absurd (cc)
 
-  lives_seen : (m : ℕ) (l : List (ℕ × Placed B)) → Lives (living_in l) m → Lives l m
+  lives_seen : (m : ℕ) (l : List (ℕ × SlotEntry B)) → Lives (living_in l) m → Lives l m
   lives_seen m l h = go (object_at m l) (subst (λ (v : Option (Living B)). IsSome v) (object_at-living m l l) h)
     where
-      go : (v : Option (Placed B)) → IsSome (option_map (living (fields_in m l)) v) → IsSome v
+      go : (v : Option (SlotEntry B)) → IsSome (option_map (living (fields_in m l)) v) → IsSome v
       go None e = e
       go (Some p) e = refl
 
-  seen_at : (m : ℕ) (l : List (ℕ × Placed B)) → object_at m (living_in l)
+  seen_at : (m : ℕ) (l : List (ℕ × SlotEntry B)) → object_at m (living_in l)
       ≡ option_map (with_holds (counted m l - fields_in m l)) (face_at m l)
   seen_at m l = object_at-living m l l ∙ living_face m l (fields_in m l)
 
-  module _ (l now : List (ℕ × Placed B)) (taken : List (Entry B)) (o : IsInOrder l) (s : AreCounted l) (h : HaveGone l now taken) where
+  module _ (l now : List (ℕ × SlotEntry B)) (taken : List (Entry B)) (o : IsInOrder l) (s : AreCounted l) (h : HaveGone l now taken) where
     lived : (m : ℕ) → Lives now m → Lives l m
     lived m lives = lives_face m l now (sym (h.stay m lives)) lives
 
@@ -91,25 +91,25 @@ module _ {B : Type 0} where
     bound_now : (m : ℕ) → counted m now ≤ fields_in m now + 2 ^ 127
     bound_now m = go (object_at m now) refl
       where
-        go : (v : Option (Placed B)) → object_at m now ≡ v → counted m now ≤ fields_in m now + 2 ^ 127
-        go None is = let zero_count = ap (λ (u : Option (Placed B)). option_map_or (λ object. (object.item).count) u 0) is in omega (arith, zero_count)
-        go (Some p) is = let balance = h.balance m (subst (λ (u : Option (Placed B)). IsSome u) (sym is) refl) in omega (arith, balance, s.bounded m)
+        go : (v : Option (SlotEntry B)) → object_at m now ≡ v → counted m now ≤ fields_in m now + 2 ^ 127
+        go None is = let zero_count = ap (λ (u : Option (SlotEntry B)). option_map_or (λ object. (object.item).count) u 0) is in omega (arith, zero_count)
+        go (Some p) is = let balance = h.balance m (subst (λ (u : Option (SlotEntry B)). IsSome u) (sym is) refl) in omega (arith, balance, s.bounded m)
 
     short_now : (m : ℕ) → IfSome (object_at m now) (λ object. length (words_of (object.item).body) ≤ 4096)
     short_now m = go (object_at m now) refl
       where
-        some : (v : Option (Placed B)) → IsSome v → IfSome v (λ object. length (words_of (object.item).body) ≤ 4096)
+        some : (v : Option (SlotEntry B)) → IsSome v → IfSome v (λ object. length (words_of (object.item).body) ≤ 4096)
             → IsSomeAnd v (λ object. length (words_of (object.item).body) ≤ 4096)
         some None lives small = cc
         some (Some p) lives small = small
 
-        go : (v : Option (Placed B)) → object_at m now ≡ v
+        go : (v : Option (SlotEntry B)) → object_at m now ≡ v
             → IfSome v (λ object. length (words_of (object.item).body) ≤ 4096)
         go None is = tt
         go (Some p) is =
-            let lives : Lives now m = subst (λ (u : Option (Placed B)). IsSome u) (sym is) refl in
+            let lives : Lives now m = subst (λ (u : Option (SlotEntry B)). IsSome u) (sym is) refl in
             let there = words_face (λ ws. length ws ≤ 4096) m now l (h.stay m lives) (some (object_at m l) (lived m lives) (s.short m)) in
-            subst (λ (u : Option (Placed B)). IsSomeAnd u (λ object. length (words_of (object.item).body) ≤ 4096)) is there
+            subst (λ (u : Option (SlotEntry B)). IsSomeAnd u (λ object. length (words_of (object.item).body) ≤ 4096)) is there
 
     pub sound_now : AreCounted now
     sound_now = record {
@@ -132,7 +132,7 @@ module _ {B : Type 0} where
     is_left : ℕ → Bool
     is_left m = not (is_none (object_at m (living_in now)))
 
-    seen_order : (k : List (ℕ × Placed B)) → IsInOrder k → IsInOrder (living_in k)
+    seen_order : (k : List (ℕ × SlotEntry B)) → IsInOrder k → IsInOrder (living_in k)
     seen_order k p = rw (numbers-living k k) p
 
     filtered_order : (p : ℕ → Bool) → IsInOrder (filter (λ e. p e.0) (living_in l))
@@ -140,7 +140,7 @@ module _ {B : Type 0} where
         subst IsStrictlyIncreasing (sym (numbers-filter p (living_in l)))
         (IsStrictlyIncreasing-filter p (numbers (living_in l)) (seen_order l o))
 
-    boxed_at : (m : ℕ) (k : List (ℕ × Placed B))
+    boxed_at : (m : ℕ) (k : List (ℕ × SlotEntry B))
         → option_map (λ (x : Living B). is_boxed x.body) (object_at m (living_in k))
         ≡ option_map (λ (x : Living B). is_boxed x.body) (face_at m k)
     boxed_at m k = ap (λ (v : Option (Living B)). option_map (λ (x : Living B). is_boxed x.body) v) (seen_at m k) ∙ go (face_at m k)
@@ -196,17 +196,17 @@ module _ {B : Type 0} where
       some_count : (m : ℕ) → Lives now m → 0 < counted m now
       some_count m lives = go (object_at m now) refl (h.waiting m) (done m) lives
         where
-          each : (p : Placed B) (n : ℕ) → (p.item).count ≡ n → ((p.item).count ≡ 0 → p.waiting ≡ true)
+          each : (p : SlotEntry B) (n : ℕ) → (p.item).count ≡ n → ((p.item).count ≡ 0 → p.waiting ≡ true)
               → p.waiting ≡ false → 0 < (p.item).count
           each p zero is waits rests = let yes = waits is in absurd (cc)
           each p (suc n) is waits rests = omega (arith, is)
 
-          go : (v : Option (Placed B)) → object_at m now ≡ v
+          go : (v : Option (SlotEntry B)) → object_at m now ≡ v
               → IfSome v (λ object. (object.item).count ≡ 0 → object.waiting ≡ true)
               → IfSome v (λ object. object.waiting ≡ false) → IsSome v → 0 < counted m now
           go None is waits rests lives = cc
           go (Some p) is waits rests lives =
-              let mine = ap (λ (u : Option (Placed B)). option_map_or (λ object. (object.item).count) u 0) is in
+              let mine = ap (λ (u : Option (SlotEntry B)). option_map_or (λ object. (object.item).count) u 0) is in
               omega (arith, mine, each p (p.item).count refl waits rests)
 
       no_holds : (m : ℕ) → object_at m (living_in now) ≡ None
@@ -225,14 +225,14 @@ module _ {B : Type 0} where
           let there = subst (λ (v : Option (Living B)). IsSomeAnd v (λ object. Contains (handles (words_of object.body)) other)) (sym (unchanged one alive) ∙ seen_at one now) refers in
           go (object_at one now) refl there
         where
-          go : (v : Option (Placed B)) → object_at one now ≡ v
+          go : (v : Option (SlotEntry B)) → object_at one now ≡ v
               → IsSomeAnd (option_map (with_holds (counted one now - fields_in one now)) (option_map face v))
               (λ object. Contains (handles (words_of object.body)) other) → ⊥
           go None is h' = h'
           go (Some p) is h' =
               let some = handles_counted other (words_of (p.item).body) (is_among_yes other (handles (words_of (p.item).body)) h') in
               let part = one-le-sum (holding other) one now p is in
-              let zero_count = ap (λ (u : Option (Placed B)). option_map_or (λ object. (object.item).count) u 0) (none_seen other now none) in
+              let zero_count = ap (λ (u : Option (SlotEntry B)). option_map_or (λ object. (object.item).count) u 0) (none_seen other now none) in
               omega (arith, some, part, zero_count, h.covered other)
 
       pub collects_now : (pool services : List B) (last settled : ℕ) (gone : List ℕ) → Collects (record { objects = living_in l; pool = pool; services = services; last = last; settled = settled; gone = gone }) (record { objects = living_in now; pool = pool; services = services; last = last; settled = settled; gone = gone ++ marked_since settled (map living_mark (gone_from (living_in l) (living_in now))) })
@@ -244,7 +244,7 @@ module _ {B : Type 0} where
         others = ap (λ (ns : List ℕ). record { objects = living_in now; pool = pool; services = services; last = last; settled = settled; gone = gone ++ ns }) (sym (since_is settled (gone_from (living_in l) (living_in now))));
       }
 
-  pub order_now : (l now : List (ℕ × Placed B)) (taken : List (Entry B)) → HaveGone l now taken
+  pub order_now : (l now : List (ℕ × SlotEntry B)) (taken : List (Entry B)) → HaveGone l now taken
       → IsInOrder (living_in now)
   order_now l now taken h = rw (numbers-living now now) h.in_order
 
@@ -322,14 +322,14 @@ module _ {B : Type 0} where
 
 module _ {B : Type 0} where
   -- nothing was taken out
-  pub none_gone : (l : List (ℕ × Placed B)) → IsInOrder l → AreCounted l → HaveGone l l []
+  pub none_gone : (l : List (ℕ × SlotEntry B)) → IsInOrder l → AreCounted l → HaveGone l l []
   none_gone l o s = record {
     in_order = o;
     covered = s.covered;
     balance = λ n lives. refl;
     waiting = s.waiting;
     stay = λ n lives. refl;
-    go = λ n none. let zero = ap (λ (v : Option (Placed B)). option_map_or (λ object. (object.item).count) v 0) none in omega (arith, zero);
+    go = λ n none. let zero = ap (λ (v : Option (SlotEntry B)). option_map_or (λ object. (object.item).count) v 0) none in omega (arith, zero);
     whole = λ measure. omega arith;
     many = omega arith;
   }
@@ -342,7 +342,7 @@ module _ {B : Type 0} where
       absurd (omega (arith, one, cons))
 
   -- a sweep that has nothing to take
-  module _ (l : List (ℕ × Placed B)) (o : IsInOrder l) (s : AreCounted l) (done : NoneWaits l) where
+  module _ (l : List (ℕ × SlotEntry B)) (o : IsInOrder l) (s : AreCounted l) (done : NoneWaits l) where
     no_marks : map living_mark (gone_from (living_in l) (living_in l)) ≡ []
     no_marks = none_marked _ (gone_marks l l [] o s (none_gone l o s))
 

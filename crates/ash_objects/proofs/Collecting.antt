@@ -2,7 +2,7 @@
 use Rattle.std.proofs.Common.{◌≡◌, ℕ, Bool, true, false, cond, List, [], ◌∷◌, ◌++◌, refl, sym, subst, ap, ◌∙◌, nat_eq, arith, Option, Some, None, length, suc, ◌+◌, ◌*◌, ◌≤◌, ◌<◌, min}
 use Rattle.std.specs.Prelude.{IsSomeAnd, IsSome, IfSome, sum_by}
 use Rattle.std.specs.Option.{option_map, option_map_or, unwrap_or}
-use Rattle.std.specs.Map.{values_of, remove_entry}
+use Rattle.std.specs.Map.{remove_entry}
 use Rattle.std.proofs.lemmas.Bool.{eqb-true, eq-eqb}
 use Rattle.std.proofs.lemmas.List.Sums.{sum_by-cons, sum_by_push}
 use Rattle.std.proofs.lemmas.List.{length-append}
@@ -12,15 +12,15 @@ use Rattle.ash_host.specs.Objects.{object_at, IsInOrder, Lives, handles_to}
 use Rattle.ash_slots.specs.declared.entry.Item.{Item}
 use Rattle.ash_slots.specs.declared.entry.Entry.{Entry}
 use Rattle.ash_slots.specs.Bodies.{words_of, is_boxed}
-use Rattle.ash_slots.specs.Store.{Placed, AreStored, IsIn, IsIdle, change_in, with_waiting}
+use Rattle.ash_slots.specs.Store.{SlotEntry, AreStored, IsIn, IsIdle, change_in, with_waiting}
 use Rattle.ash_objects.specs.Counting.{holding, fields_in, AreCounted, face, face_at, release_all}
-use Rattle.ash_slots.specs.Counting.{counted, once_less}
+use Rattle.ash_slots.specs.Counting.{counted, decremented}
 use Rattle.ash_objects.specs.Collecting.{mark_of, entry_mark, HaveGone}
-use Rattle.ash_slots.proofs.Changing.{object_at-change_in, numbers-change_in}
 use Rattle.ash_objects.proofs.Fields.{in_face}
-use Rattle.ash_slots.proofs.Moving.{object_at-removed}
+use Rattle.ash_slots.proofs.Removing.{object_at-removed}
 use Rattle.ash_objects.proofs.Referring.{lives_face}
 use Rattle.ash_objects.proofs.Releasing.{released_face, released_fields, released_order, released_length, released_marks, released_each, released_counted}
+use Rattle.ash_objects.proofs.Popping.{at_seen, seen_face, seen_counted, seen_order, seen_sum, seen_fields, seen_length}
 
 -- a sum over entries without one of them
 sum_entries-removed : {A : Type 0} (g : ℕ × A → ℕ) (n : ℕ) (x : A) (l : List (ℕ × A)) → object_at n l ≡ Some x
@@ -52,120 +52,40 @@ length-removed {A} n x (e ∷ l) h =
 
 module _ {B : Type 0} where
   -- what is counted nowhere has no count
-  pub idle_zero : (slot : ℕ) (v : Option (Placed B))
+  pub idle_zero : (slot : ℕ) (v : Option (SlotEntry B))
       → IsSomeAnd v (λ object. (object.slot ≡ slot) × ((object.item).count ≡ 0))
       → option_map_or (λ object. (object.item).count) v 0 ≡ 0
   idle_zero slot None e = refl
   idle_zero slot (Some p) e = e.1
 
   -- before anything went
-  pub none_went : (l : List (ℕ × Placed B)) → IsInOrder l → AreCounted l → HaveGone l l []
+  pub none_went : (l : List (ℕ × SlotEntry B)) → IsInOrder l → AreCounted l → HaveGone l l []
   none_went l o s = record {
     in_order = o;
     covered = s.covered;
     balance = λ m lives. refl;
     waiting = s.waiting;
     stay = λ m lives. refl;
-    go = λ m none. let zero_count = ap (λ (v : Option (Placed B)). option_map_or (λ object. (object.item).count) v 0) none in omega (arith, zero_count);
+    go = λ m none. let zero_count = ap (λ (v : Option (SlotEntry B)). option_map_or (λ object. (object.item).count) v 0) none in omega (arith, zero_count);
     whole = λ measure. omega arith;
     many = omega arith;
   }
 
-  -- the objects, one slot of which is no longer waiting
-  module _ (slot : ℕ) (l : List (ℕ × Placed B)) where
-    abbrev pub seen : List (ℕ × Placed B)
-    seen = change_in slot (with_waiting false) l
-
-    at_seen : (m : ℕ) → object_at m (change_in slot (with_waiting false) l)
-        ≡ option_map (λ object. cond (nat_eq slot object.slot) (with_waiting false object) object) (object_at m l)
-    at_seen m = object_at-change_in slot (with_waiting false) m l
-
-    pub seen_face : (m : ℕ) → face_at m (change_in slot (with_waiting false) l) ≡ face_at m l
-    seen_face m = ap (λ (v : Option (Placed B)). option_map face v) (at_seen m) ∙ go (object_at m l)
-      where
-        each : (b : Bool) (p : Placed B) → face (cond b (with_waiting false p) p) ≡ face p
-        each true p = refl
-        each false p = refl
-
-        go : (v : Option (Placed B))
-            → option_map face
-            (option_map (λ object. cond (nat_eq slot object.slot) (with_waiting false object) object) v)
-            ≡ option_map face v
-        go None = refl
-        go (Some p) = ap Some (each (nat_eq slot p.slot) p)
-
-    pub seen_counted : (m : ℕ) → counted m (change_in slot (with_waiting false) l) ≡ counted m l
-    seen_counted m = ap (λ (v : Option (Placed B)). option_map_or (λ object. (object.item).count) v 0) (at_seen m) ∙ go (object_at m l)
-      where
-        each : (b : Bool) (p : Placed B) → ((cond b (with_waiting false p) p).item).count ≡ (p.item).count
-        each true p = refl
-        each false p = refl
-
-        go : (v : Option (Placed B))
-            → option_map_or (λ object. (object.item).count)
-            (option_map (λ object. cond (nat_eq slot object.slot) (with_waiting false object) object) v) 0
-            ≡ option_map_or (λ object. (object.item).count) v 0
-        go None = refl
-        go (Some p) = each (nat_eq slot p.slot) p
-
-    pub seen_order : IsInOrder l → IsInOrder (change_in slot (with_waiting false) l)
-    seen_order o = rw (numbers-change_in slot (with_waiting false) l) o
-
-  seen_sum : (slot : ℕ) (g : ℕ × Placed B → ℕ) → ((k : ℕ) (p : Placed B) → g (k, with_waiting false p) ≡ g (k, p))
-      → (l : List (ℕ × Placed B)) → sum_by g (change_in slot (with_waiting false) l) ≡ sum_by g l
-  seen_sum slot g same [] = refl
-  seen_sum slot g same (e ∷ l) =
-      let now = sum_by-cons g (e.0, cond (nat_eq slot (e.1).slot) (with_waiting false e.1) e.1) (change_in slot (with_waiting false) l) in
-      omega (arith, now, sum_by-cons g e l, each (nat_eq slot (e.1).slot), seen_sum slot g same l)
-    where
-      each : (b : Bool) → g (e.0, cond b (with_waiting false e.1) e.1) ≡ g e
-      each true = same e.0 e.1
-      each false = refl
-
-  seen_fields : (slot m : ℕ) (l : List (ℕ × Placed B)) → fields_in m (change_in slot (with_waiting false) l)
-      ≡ fields_in m l
-  seen_fields slot m [] = refl
-  seen_fields slot m (e ∷ l) =
-      let now = sum_by-cons (holding m) (cond (nat_eq slot (e.1).slot) (with_waiting false e.1) e.1) (values_of (change_in slot (with_waiting false) l)) in
-      omega (arith, now, sum_by-cons (holding m) e.1 (values_of l), each (nat_eq slot (e.1).slot), seen_fields slot m l)
-    where
-      each : (b : Bool) → holding m (cond b (with_waiting false e.1) e.1) ≡ holding m e.1
-      each true = refl
-      each false = refl
-
-  pub seen_length : (slot : ℕ) (l : List (ℕ × Placed B)) → length (change_in slot (with_waiting false) l) ≡ length l
-  seen_length slot [] = refl
-  seen_length slot (e ∷ l) = ap suc (seen_length slot l)
-
-  pub seen_stored : (slot : ℕ) (l : List (ℕ × Placed B)) → AreStored l
-      → AreStored (change_in slot (with_waiting false) l)
-  seen_stored slot l s = record {
-    in_order = seen_order slot l s.in_order;
-    apart =
-        λ place one other here there. s.apart place one other
-        (in_face one place l (change_in slot (with_waiting false) l) (sym (seen_face slot l one)) here)
-        (in_face other place l (change_in slot (with_waiting false) l) (sym (seen_face slot l other)) there);
-  }
-
-  pub seen_covered : (slot : ℕ) (l : List (ℕ × Placed B)) → ((m : ℕ) → fields_in m l ≤ counted m l) → (m : ℕ)
-      → fields_in m (change_in slot (with_waiting false) l) ≤ counted m (change_in slot (with_waiting false) l)
-  seen_covered slot l covered m = omega (arith, seen_fields slot m l, seen_counted slot l m, covered m)
-
   -- the handles of an object that is taken out are counted
-  pub taken_covers : (l : List (ℕ × Placed B)) (n : ℕ) (it : Item B) → IsInOrder l
+  pub taken_covers : (l : List (ℕ × SlotEntry B)) (n : ℕ) (it : Item B) → IsInOrder l
       → ((m : ℕ) → fields_in m l ≤ counted m l) → IsSomeAnd (object_at n l) (λ object. object.item ≡ it)
       → counted n l ≡ 0 → (m : ℕ) → handles_to m (words_of it.body) ≤ counted m (remove_entry (nat_eq n) l)
   taken_covers l n it o covered mine none m =
       let sums = sum_by-remove_entry (holding m) (nat_eq n) l in
       omega (arith, sums, held (object_at n l) mine, counts, covered m)
     where
-      held : (v : Option (Placed B)) → IsSomeAnd v (λ object. object.item ≡ it)
+      held : (v : Option (SlotEntry B)) → IsSomeAnd v (λ object. object.item ≡ it)
           → unwrap_or (option_map (holding m) v) 0 ≡ handles_to m (words_of it.body)
       held None h = absurd h
       held (Some p) h = ap (λ (i : Item B). handles_to m (words_of i.body)) h
 
       counts : counted m (remove_entry (nat_eq n) l) ≡ counted m l
-      counts = ap (λ (v : Option (Placed B)). option_map_or (λ object. (object.item).count) v 0) (object_at-removed n m l o) ∙ go (nat_eq n m) refl
+      counts = ap (λ (v : Option (SlotEntry B)). option_map_or (λ object. (object.item).count) v 0) (object_at-removed n m l o) ∙ go (nat_eq n m) refl
         where
           go : (b : Bool) → nat_eq n m ≡ b
               → option_map_or (λ object. (object.item).count) (cond b None (object_at m l)) 0 ≡ counted m l
@@ -173,7 +93,7 @@ module _ {B : Type 0} where
           go false is = refl
 
   -- an object that is counted stays
-  pub skipped : (old l : List (ℕ × Placed B)) (slot : ℕ) (taken : List (Entry B)) → HaveGone old l taken
+  pub skipped : (old l : List (ℕ × SlotEntry B)) (slot : ℕ) (taken : List (Entry B)) → HaveGone old l taken
       → (IsIdle slot (change_in slot (with_waiting false) l) → ⊥)
       → HaveGone old (change_in slot (with_waiting false) l) taken
   skipped old l slot taken h busy = record {
@@ -193,7 +113,7 @@ module _ {B : Type 0} where
       gone : (m : ℕ) → object_at m (change_in slot (with_waiting false) l) ≡ None → object_at m l ≡ None
       gone m none = go (object_at m l) (sym (at_seen slot l m) ∙ none)
         where
-          go : (v : Option (Placed B))
+          go : (v : Option (SlotEntry B))
               → option_map (λ object. cond (nat_eq slot object.slot) (with_waiting false object) object) v ≡ None
               → v ≡ None
           go None e = refl
@@ -201,17 +121,17 @@ module _ {B : Type 0} where
 
       waits : (m : ℕ) → IfSome (object_at m (change_in slot (with_waiting false) l)) (λ object. (object.item).count
           ≡ 0 → object.waiting ≡ true)
-      waits m = subst (λ (v : Option (Placed B)). IfSome v (λ object. (object.item).count ≡ 0 → object.waiting ≡ true)) (sym (at_seen slot l m)) (go (object_at m l) refl (h.waiting m))
+      waits m = subst (λ (v : Option (SlotEntry B)). IfSome v (λ object. (object.item).count ≡ 0 → object.waiting ≡ true)) (sym (at_seen slot l m)) (go (object_at m l) refl (h.waiting m))
         where
-          each : (p : Placed B) → object_at m l ≡ Some p → ((p.item).count ≡ 0 → p.waiting ≡ true) → (b : Bool)
+          each : (p : SlotEntry B) → object_at m l ≡ Some p → ((p.item).count ≡ 0 → p.waiting ≡ true) → (b : Bool)
               → nat_eq slot p.slot ≡ b → ((cond b (with_waiting false p) p).item).count ≡ 0
               → (cond b (with_waiting false p) p).waiting ≡ true
           each p is was false apart none = was none
           each p is was true same none =
-              let there : object_at m (change_in slot (with_waiting false) l) ≡ Some (with_waiting false p) = at_seen slot l m ∙ ap (λ (v : Option (Placed B)). option_map (λ object. cond (nat_eq slot object.slot) (with_waiting false object) object) v) is ∙ ap (λ (b : Bool). Some (cond b (with_waiting false p) p)) same in
-              absurd (busy (m, subst (λ (v : Option (Placed B)). IsSomeAnd v (λ object. (object.slot ≡ slot) × ((object.item).count ≡ 0))) (sym there) (sym (eqb-true slot p.slot same), none)))
+              let there : object_at m (change_in slot (with_waiting false) l) ≡ Some (with_waiting false p) = at_seen slot l m ∙ ap (λ (v : Option (SlotEntry B)). option_map (λ object. cond (nat_eq slot object.slot) (with_waiting false object) object) v) is ∙ ap (λ (b : Bool). Some (cond b (with_waiting false p) p)) same in
+              absurd (busy (m, subst (λ (v : Option (SlotEntry B)). IsSomeAnd v (λ object. (object.slot ≡ slot) × ((object.item).count ≡ 0))) (sym there) (sym (eqb-true slot p.slot same), none)))
 
-          go : (v : Option (Placed B)) → object_at m l ≡ v
+          go : (v : Option (SlotEntry B)) → object_at m l ≡ v
               → IfSome v (λ object. (object.item).count ≡ 0 → object.waiting ≡ true)
               → IfSome (option_map (λ object. cond (nat_eq slot object.slot) (with_waiting false object) object) v)
               (λ object. (object.item).count ≡ 0 → object.waiting ≡ true)
@@ -219,20 +139,20 @@ module _ {B : Type 0} where
           go (Some p) is was = each p is was (nat_eq slot p.slot) refl
 
   -- an object that is taken out
-  module _ (old l : List (ℕ × Placed B)) (slot : ℕ) (taken : List (Entry B)) (entry : Entry B) (h : HaveGone old l taken) (s : AreStored l) (idle : IsIdle slot (change_in slot (with_waiting false) l)) (here : IsIn entry.number slot (change_in slot (with_waiting false) l)) (mine : IsSomeAnd (object_at entry.number (change_in slot (with_waiting false) l)) (λ object. object.item ≡ entry.item)) (order : IsInOrder (remove_entry (nat_eq entry.number) (change_in slot (with_waiting false) l))) where
+  module _ (old l : List (ℕ × SlotEntry B)) (slot : ℕ) (taken : List (Entry B)) (entry : Entry B) (h : HaveGone old l taken) (s : AreStored l) (idle : IsIdle slot (change_in slot (with_waiting false) l)) (here : IsIn entry.number slot (change_in slot (with_waiting false) l)) (mine : IsSomeAnd (object_at entry.number (change_in slot (with_waiting false) l)) (λ object. object.item ≡ entry.item)) (order : IsInOrder (remove_entry (nat_eq entry.number) (change_in slot (with_waiting false) l))) where
     n : ℕ
     n = entry.number
 
-    abbrev l1 : List (ℕ × Placed B)
+    abbrev l1 : List (ℕ × SlotEntry B)
     l1 = change_in slot (with_waiting false) l
 
     abbrev ws : List Word
     ws = words_of (entry.item).body
 
-    abbrev l2 : List (ℕ × Placed B)
+    abbrev l2 : List (ℕ × SlotEntry B)
     l2 = remove_entry (nat_eq entry.number) (change_in slot (with_waiting false) l)
 
-    abbrev l3 : List (ℕ × Placed B)
+    abbrev l3 : List (ℕ × SlotEntry B)
     l3 =
         release_all (words_of (entry.item).body)
         (remove_entry (nat_eq entry.number) (change_in slot (with_waiting false) l))
@@ -241,7 +161,7 @@ module _ {B : Type 0} where
     in_slot : (m : ℕ) → IsIn m slot l1 → IsIn m slot l
     in_slot m is = in_face m slot l l1 (sym (seen_face slot l m)) is
 
-    idle_in : (m : ℕ) (v : Option (Placed B))
+    idle_in : (m : ℕ) (v : Option (SlotEntry B))
         → IsSomeAnd v (λ object. (object.slot ≡ slot) × ((object.item).count ≡ 0))
         → IsSomeAnd v (λ object. object.slot ≡ slot)
     idle_in m None e = absurd e
@@ -256,11 +176,11 @@ module _ {B : Type 0} where
     zero_count = ap (λ (k : ℕ). counted k l1) (sym idle_is) ∙ idle_zero slot (object_at idle.0 l1) idle.1
 
     -- the object itself
-    it : (p : Placed B) × (object_at entry.number l1 ≡ Some p) × (p.item ≡ entry.item)
+    it : (p : SlotEntry B) × (object_at entry.number l1 ≡ Some p) × (p.item ≡ entry.item)
     it = go (object_at entry.number l1) refl mine
       where
-        go : (v : Option (Placed B)) → object_at entry.number l1 ≡ v
-            → IsSomeAnd v (λ object. object.item ≡ entry.item) → (p : Placed B) × (object_at entry.number l1 ≡ Some p)
+        go : (v : Option (SlotEntry B)) → object_at entry.number l1 ≡ v
+            → IsSomeAnd v (λ object. object.item ≡ entry.item) → (p : SlotEntry B) × (object_at entry.number l1 ≡ Some p)
             × (p.item ≡ entry.item)
         go None is e = absurd e
         go (Some p) is e = (p, is, e)
@@ -269,7 +189,7 @@ module _ {B : Type 0} where
     at_taken m = object_at-removed entry.number m l1 (seen_order slot l h.in_order)
 
     taken_counted : (m : ℕ) → counted m l2 ≡ counted m l
-    taken_counted m = ap (λ (v : Option (Placed B)). option_map_or (λ object. (object.item).count) v 0) (at_taken m) ∙ go (nat_eq entry.number m) refl ∙ seen_counted slot l m
+    taken_counted m = ap (λ (v : Option (SlotEntry B)). option_map_or (λ object. (object.item).count) v 0) (at_taken m) ∙ go (nat_eq entry.number m) refl ∙ seen_counted slot l m
       where
         go : (b : Bool) → nat_eq entry.number m ≡ b
             → option_map_or (λ object. (object.item).count) (cond b None (object_at m l1)) 0 ≡ counted m l1
@@ -279,7 +199,7 @@ module _ {B : Type 0} where
     taken_fields : (m : ℕ) → fields_in m l2 + handles_to m ws ≡ fields_in m l
     taken_fields m =
         let sums = sum_by-remove_entry (holding m) (nat_eq entry.number) l1 in
-        let there = ap (λ (v : Option (Placed B)). unwrap_or (option_map (holding m) v) 0) it.1 in
+        let there = ap (λ (v : Option (SlotEntry B)). unwrap_or (option_map (holding m) v) 0) it.1 in
         let words = ap (λ (i : Item B). handles_to m (words_of i.body)) it.2 in
         omega (arith, sums, there, words, seen_fields slot m l)
 
@@ -303,14 +223,14 @@ module _ {B : Type 0} where
     apart_now : (m : ℕ) → Lives l3 m → nat_eq entry.number m ≡ false
     apart_now m lives =
         some_other m (nat_eq entry.number m)
-        (subst (λ (v : Option (Placed B)). IsSome v) (at_taken m) (lives_taken m lives))
+        (subst (λ (v : Option (SlotEntry B)). IsSome v) (at_taken m) (lives_taken m lives))
 
     at_other : (m : ℕ) → nat_eq entry.number m ≡ false → object_at m l2 ≡ object_at m l1
-    at_other m apart = at_taken m ∙ ap (λ (b : Bool). cond {A = Option (Placed B)} b None (object_at m l1)) apart
+    at_other m apart = at_taken m ∙ ap (λ (b : Bool). cond {A = Option (SlotEntry B)} b None (object_at m l1)) apart
 
     face_now : (m : ℕ) → Lives l3 m → face_at m l3 ≡ face_at m l
     face_now m lives =
-        released_face ws m l2 ∙ ap (λ (v : Option (Placed B)). option_map face v) (at_other m (apart_now m lives))
+        released_face ws m l2 ∙ ap (λ (v : Option (SlotEntry B)). option_map face v) (at_other m (apart_now m lives))
         ∙ seen_face slot l m
 
     lived_now : (m : ℕ) → Lives l3 m → Lives l m
@@ -318,21 +238,21 @@ module _ {B : Type 0} where
 
     -- what is left waits where nothing counts it
     waits_taken : (m : ℕ) → IfSome (object_at m l2) (λ object. (object.item).count ≡ 0 → object.waiting ≡ true)
-    waits_taken m = subst (λ (v : Option (Placed B)). IfSome v (λ object. (object.item).count ≡ 0 → object.waiting ≡ true)) (sym (at_taken m)) (go (nat_eq entry.number m) refl)
+    waits_taken m = subst (λ (v : Option (SlotEntry B)). IfSome v (λ object. (object.item).count ≡ 0 → object.waiting ≡ true)) (sym (at_taken m)) (go (nat_eq entry.number m) refl)
       where
-        slots : (p : Placed B) → object_at m l ≡ Some p → nat_eq slot p.slot ≡ true → entry.number ≡ m
+        slots : (p : SlotEntry B) → object_at m l ≡ Some p → nat_eq slot p.slot ≡ true → entry.number ≡ m
         slots p is same =
             s.apart slot entry.number m (in_slot entry.number here)
-            (subst (λ (v : Option (Placed B)). IsSomeAnd v (λ object. object.slot ≡ slot)) (sym is)
+            (subst (λ (v : Option (SlotEntry B)). IsSomeAnd v (λ object. object.slot ≡ slot)) (sym is)
             (sym (eqb-true slot p.slot same)))
 
-        each : (p : Placed B) → object_at m l ≡ Some p → nat_eq entry.number m ≡ false
+        each : (p : SlotEntry B) → object_at m l ≡ Some p → nat_eq entry.number m ≡ false
             → ((p.item).count ≡ 0 → p.waiting ≡ true) → (b : Bool) → nat_eq slot p.slot ≡ b
             → ((cond b (with_waiting false p) p).item).count ≡ 0 → (cond b (with_waiting false p) p).waiting ≡ true
         each p is apart was false other none = was none
         each p is apart was true same none = let yes = eq-eqb entry.number m (slots p is same) in absurd (cc)
 
-        through : (v : Option (Placed B)) → object_at m l ≡ v → nat_eq entry.number m ≡ false
+        through : (v : Option (SlotEntry B)) → object_at m l ≡ v → nat_eq entry.number m ≡ false
             → IfSome v (λ object. (object.item).count ≡ 0 → object.waiting ≡ true)
             → IfSome (option_map (λ object. cond (nat_eq slot object.slot) (with_waiting false object) object) v)
             (λ object. (object.item).count ≡ 0 → object.waiting ≡ true)
@@ -343,11 +263,11 @@ module _ {B : Type 0} where
             → IfSome (cond b None (object_at m l1)) (λ object. (object.item).count ≡ 0 → object.waiting ≡ true)
         go true is = tt
         go false is =
-            subst (λ (v : Option (Placed B)). IfSome v (λ object. (object.item).count ≡ 0 → object.waiting ≡ true))
+            subst (λ (v : Option (SlotEntry B)). IfSome v (λ object. (object.item).count ≡ 0 → object.waiting ≡ true))
             (sym (at_seen slot l m)) (through (object_at m l) refl is (h.waiting m))
 
-    less_waits : (p : Placed B) → 0 < (p.item).count → ((p.item).count ≡ 0 → p.waiting ≡ true)
-        → ((once_less p).item).count ≡ 0 → (once_less p).waiting ≡ true
+    less_waits : (p : SlotEntry B) → 0 < (p.item).count → ((p.item).count ≡ 0 → p.waiting ≡ true)
+        → ((decremented p).item).count ≡ 0 → (decremented p).waiting ≡ true
     less_waits p some was none =
         let one : (p.item).count ≡ 1 = omega arith in
         ap (λ (b : Bool). cond b true p.waiting) (eq-eqb (p.item).count 1 one)
@@ -356,9 +276,9 @@ module _ {B : Type 0} where
     gone_now : (m : ℕ) → object_at m l3 ≡ None → counted m old ≤ fields_in m old
     gone_now m none = go (nat_eq entry.number m) refl
       where
-        none_taken : (v u : Option (Placed B)) → option_map face v ≡ option_map face u → v ≡ None → u ≡ None
+        none_taken : (v u : Option (SlotEntry B)) → option_map face v ≡ option_map face u → v ≡ None → u ≡ None
         none_taken v None e is = refl
-        none_taken v (Some p) e is = let both : Some (face p) ≡ None = sym e ∙ ap (λ (w : Option (Placed B)). option_map face w) is in absurd (cc)
+        none_taken v (Some p) e is = let both : Some (face p) ≡ None = sym e ∙ ap (λ (w : Option (SlotEntry B)). option_map face w) is in absurd (cc)
 
         none2 : object_at m l2 ≡ None
         none2 = none_taken (object_at m l3) (object_at m l2) (released_face ws m l2) none
@@ -366,7 +286,7 @@ module _ {B : Type 0} where
         lived : Lives l entry.number
         lived =
             lives_face entry.number l l1 (sym (seen_face slot l entry.number))
-            (subst (λ (v : Option (Placed B)). IsSome v) (sym it.1) refl)
+            (subst (λ (v : Option (SlotEntry B)). IsSome v) (sym it.1) refl)
 
         go : (b : Bool) → nat_eq entry.number m ≡ b → counted m old ≤ fields_in m old
         go true is =

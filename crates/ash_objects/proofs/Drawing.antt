@@ -7,10 +7,10 @@ use Rattle.ash_host.specs.declared.host_object.HostObject.{Ghosts}
 use Rattle.ash_slots.specs.declared.body.Body.{Body}
 use Rattle.ash_slots.specs.declared.body.Body.TheVariants.{Script, Array, Host}
 use Rattle.ash_slots.specs.Responses.{box_of}
-use Rattle.ash_slots.specs.Store.{Placed}
-use Rattle.ash_objects.specs.declared.restoring.Stored.{Stored}
-use Rattle.ash_objects.specs.declared.restoring.Saved.{Saved}
-use Rattle.ash_objects.specs.Restoring.{Drawn, Short, Enough, kind_wanted, draw_box, draw_others, draw_then, draw_boxes, with_box_first, RestoresBox, RestoresBoxes, IsBody, AreBodies, with_drawn, AreFit, ArePut}
+use Rattle.ash_slots.specs.Store.{SlotEntry}
+use Rattle.ash_objects.specs.declared.restoring.StoredObject.{StoredObject}
+use Rattle.ash_objects.specs.declared.restoring.SavedHostObject.{SavedHostObject}
+use Rattle.ash_objects.specs.Restoring.{Drawn, Short, Enough, kind_wanted, draw_box, draw_others, draw_then, draw_boxes, with_box_first, RestoresBox, RestoresBoxes, IsBody, AreBodies, with_drawn, AreFit, AreInserted}
 use Rattle.ash_objects.proofs.Marks.{appended}
 
 module _ {B : Type 0} where
@@ -52,13 +52,13 @@ module _ {B : Type 0} where
       ∙ ap (λ (l : List B). with_box_first (Some box) (others l)) (sym rest)
 
   -- the turn of the object at a place
-  pub draw_turn : (G : Ghosts B) (objects : List Stored) (k : ℕ) (object : Stored) (pool : List B)
+  pub draw_turn : (G : Ghosts B) (objects : List StoredObject) (k : ℕ) (object : StoredObject) (pool : List B)
       → drop k objects ≡ object ∷ drop (k + 1) objects → draw_boxes G (drop k objects) pool
       ≡ draw_then G (kind_wanted object) pool (λ left. draw_boxes G (drop (k + 1) objects) left)
-  draw_turn G objects k object pool is = ap (λ (os : List Stored). draw_boxes G os pool) is
+  draw_turn G objects k object pool is = ap (λ (os : List StoredObject). draw_boxes G os pool) is
 
   -- one object more took what it had to, or found no box
-  pub drawn_more : (G : Ghosts B) (objects : List Stored) (k : ℕ) (object : Stored) (boxes more : List (Option B))
+  pub drawn_more : (G : Ghosts B) (objects : List StoredObject) (k : ℕ) (object : StoredObject) (boxes more : List (Option B))
       (taken : Option B) (pool left : List B) (d : Drawn B) → drop k objects ≡ object ∷ drop (k + 1) objects
       → d ≡ with_boxes boxes (draw_boxes G (drop k objects) pool)
       → ((others : List B → Drawn B) → draw_then G (kind_wanted object) pool others
@@ -70,7 +70,7 @@ module _ {B : Type 0} where
       ∙ boxes_more boxes taken (draw_boxes G (drop (k + 1) objects) left)
       ∙ ap (λ (bs : List (Option B)). with_boxes bs (draw_boxes G (drop (k + 1) objects) left)) (sym all)
 
-  pub drawn_short : (G : Ghosts B) (objects : List Stored) (k : ℕ) (object : Stored) (boxes : List (Option B))
+  pub drawn_short : (G : Ghosts B) (objects : List StoredObject) (k : ℕ) (object : StoredObject) (boxes : List (Option B))
       (kind : ℕ) (pool : List B) (d : Drawn B) → drop k objects ≡ object ∷ drop (k + 1) objects
       → d ≡ with_boxes boxes (draw_boxes G (drop k objects) pool)
       → ((others : List B → Drawn B) → draw_then G (kind_wanted object) pool others ≡ Short kind) → d ≡ Short kind
@@ -78,7 +78,7 @@ module _ {B : Type 0} where
       drawn ∙ ap (λ (x : Drawn B). with_boxes boxes x) (draw_turn G objects k object pool next ∙ is (λ rest. draw_boxes G (drop (k + 1) objects) rest))
 
   -- each host object took a box
-  pub fit_drawn : (G : Ghosts B) (objects : List Stored) (pool : List B) (boxes : List (Option B)) (left : List B)
+  pub fit_drawn : (G : Ghosts B) (objects : List StoredObject) (pool : List B) (boxes : List (Option B)) (left : List B)
       → draw_boxes G objects pool ≡ Enough boxes left → AreFit objects boxes
   fit_drawn G [] pool boxes left h = let none : [] ≡ boxes = cc in subst (λ (bs : List (Option B)). AreFit [] bs) none tt
   fit_drawn G (object ∷ objects) pool boxes left h =
@@ -98,30 +98,30 @@ module _ {B : Type 0} where
       taking later kind None some h = absurd (cc)
       taking later kind (Some t) some h = step (Some t.0) (draw_boxes G objects t.1) (some t.0) (later t.1) h
 
-      at : (body : Body Saved) → object.body ≡ body → draw_boxes G (object ∷ objects) pool ≡ Enough boxes left
+      at : (body : Body SavedHostObject) → object.body ≡ body → draw_boxes G (object ∷ objects) pool ≡ Enough boxes left
           → draw_then G (option_map (λ saved. saved.kind) (box_of body)) pool (λ rest. draw_boxes G objects rest)
           ≡ Enough boxes left
       at body is h =
-          subst (λ (b : Body Saved). draw_then G (option_map (λ saved. saved.kind) (box_of b)) pool
+          subst (λ (b : Body SavedHostObject). draw_then G (option_map (λ saved. saved.kind) (box_of b)) pool
           (λ rest. draw_boxes G objects rest) ≡ Enough boxes left) is h
 
       go : ((rest : List B) (bs : List (Option B)) (l : List B) → draw_boxes G objects rest ≡ Enough bs l
-          → AreFit objects bs) → (body : Body Saved) → object.body ≡ body → draw_boxes G (object ∷ objects) pool
+          → AreFit objects bs) → (body : Body SavedHostObject) → object.body ≡ body → draw_boxes G (object ∷ objects) pool
           ≡ Enough boxes left → AreFit (object ∷ objects) boxes
       go later (Script script) is h =
           step None (draw_boxes G objects pool)
-          (subst (λ (b : Body Saved). IsSome (with_drawn {B = B} b None)) (sym is) refl) (later pool)
+          (subst (λ (b : Body SavedHostObject). IsSome (with_drawn {B = B} b None)) (sym is) refl) (later pool)
           (at (Script script) is h)
       go later (Array array) is h =
           step None (draw_boxes G objects pool)
-          (subst (λ (b : Body Saved). IsSome (with_drawn {B = B} b None)) (sym is) refl) (later pool)
+          (subst (λ (b : Body SavedHostObject). IsSome (with_drawn {B = B} b None)) (sym is) refl) (later pool)
           (at (Array array) is h)
       go later (Host saved) is h =
           taking later saved.kind (draw_box G saved.kind pool)
-          (λ box. subst (λ (b : Body Saved). IsSome (with_drawn b (Some box))) (sym is) refl)
+          (λ box. subst (λ (b : Body SavedHostObject). IsSome (with_drawn b (Some box))) (sym is) refl)
           (at (Host saved) is h)
 
-  pub fit_length : (objects : List Stored) (boxes : List (Option B)) → AreFit objects boxes
+  pub fit_length : (objects : List StoredObject) (boxes : List (Option B)) → AreFit objects boxes
       → length boxes ≡ length objects
   fit_length [] [] fit = refl
   fit_length [] (box ∷ boxes) fit = absurd fit
@@ -129,7 +129,7 @@ module _ {B : Type 0} where
   fit_length (object ∷ objects) (box ∷ boxes) fit = ap suc (fit_length objects boxes fit.1)
 
   -- what a box became is something where the box was
-  restored_fit : (G : Ghosts B) (body : Body Saved) (one other : Option B) → RestoresBox G body one other
+  restored_fit : (G : Ghosts B) (body : Body SavedHostObject) (one other : Option B) → RestoresBox G body one other
       → IsSome (with_drawn body one) → IsSome (with_drawn body other)
   restored_fit G (Script script) one other back some = refl
   restored_fit G (Array array) one other back some = refl
@@ -138,7 +138,7 @@ module _ {B : Type 0} where
       subst (λ (o : Option B). IsSome (with_drawn (Host saved) o)) (sym back.1) refl
 
   -- an object and what became of what it took
-  body_joined : (G : Ghosts B) (body : Body Saved) (one other : Option B) (out : Body B)
+  body_joined : (G : Ghosts B) (body : Body SavedHostObject) (one other : Option B) (out : Body B)
       → RestoresBox G body one other → with_drawn body other ≡ Some out → IsBody G body one out
   body_joined G (Script script) one other out back is = cc
   body_joined G (Array array) one other out back is = cc
@@ -150,7 +150,7 @@ module _ {B : Type 0} where
       (back.0, same, back.2)
 
   -- the same after the first of them
-  boxes_after : (G : Ghosts B) (object : Stored) (objects : List Stored) (one other : Option B)
+  boxes_after : (G : Ghosts B) (object : StoredObject) (objects : List StoredObject) (one other : Option B)
       (before after : List (Option B)) → RestoresBoxes G (object ∷ objects) (one ∷ before) (other ∷ after)
       → RestoresBoxes G objects before after
   boxes_after G object objects one other before after back = let all = back.many in record {
@@ -159,7 +159,7 @@ module _ {B : Type 0} where
   }
 
   -- the boxes still fit once they are restored
-  pub fit_restored : (G : Ghosts B) (objects : List Stored) (before after : List (Option B)) → AreFit objects before
+  pub fit_restored : (G : Ghosts B) (objects : List StoredObject) (before after : List (Option B)) → AreFit objects before
       → RestoresBoxes G objects before after → AreFit objects after
   fit_restored G [] [] [] fit back = tt
   fit_restored G [] [] (other ∷ after) fit back = let many = back.many in absurd (cc)
@@ -172,9 +172,9 @@ module _ {B : Type 0} where
   )
 
   -- what the objects are in the table is what they were stored as
-  pub bodies_put : (G : Ghosts B) (objects : List Stored) (before after : List (Option B))
-      (entries : List (ℕ × Placed B)) → AreFit objects before → RestoresBoxes G objects before after
-      → ArePut objects after entries → AreBodies G objects before (map (λ e. (e.0, (e.1.item).body)) entries)
+  pub bodies_put : (G : Ghosts B) (objects : List StoredObject) (before after : List (Option B))
+      (entries : List (ℕ × SlotEntry B)) → AreFit objects before → RestoresBoxes G objects before after
+      → AreInserted objects after entries → AreBodies G objects before (map (λ e. (e.0, (e.1.item).body)) entries)
   bodies_put G [] [] [] [] fit back put = tt
   bodies_put G [] (one ∷ before) after entries fit back put = absurd fit
   bodies_put G [] [] [] (e ∷ entries) fit back put = absurd put

@@ -1,83 +1,40 @@
 -- What writing a field leaves: the counts follow the words, and nothing else changes.
-use Rattle.std.proofs.Common.{◌≡◌, ℕ, Bool, true, false, cond, List, [], ◌∷◌, refl, sym, subst, ap, ◌∙◌, nat_eq, arith, Option, Some, None, length, zero, suc, ◌+◌, ◌-◌, ◌≤◌, ◌<◌, set, get_or}
+use Rattle.std.proofs.Common.{◌≡◌, ℕ, Bool, true, false, cond, List, [], ◌∷◌, refl, sym, subst, ap, ◌∙◌, nat_eq, arith, Option, Some, None, length, ◌+◌, ◌-◌, ◌≤◌, ◌<◌, set}
 use Rattle.std.specs.Prelude.{IsSomeAnd, IsSome, IfSome, sum_by, slice_get}
 use Rattle.std.specs.Option.{option_map, option_map_or}
 use Rattle.std.specs.Map.{values_of}
 use Rattle.std.proofs.lemmas.Bool.{eqb-true, eq-eqb}
-use Rattle.std.proofs.lemmas.Bool.Decides.{nat_tests}
 use Rattle.std.proofs.lemmas.List.{length-set}
-use Rattle.std.proofs.lemmas.List.Sums.{sum_by-cons, sum_by-set, get_or-le-sum_by}
+use Rattle.std.proofs.lemmas.List.Sums.{sum_by-cons}
 use Rattle.ash_host.specs.declared.word.Word.{Word}
-use Rattle.ash_host.specs.declared.word.Word.TheVariants as words
-use Rattle.ash_host.specs.Objects.{object_at, IsInOrder, Lives, handles_to, is_handle_to, handle}
+use Rattle.ash_host.specs.Objects.{object_at, IsInOrder, Lives, handles_to, handle}
 use Rattle.ash_slots.specs.declared.body.Body.{Body}
 use Rattle.ash_slots.specs.declared.body.Body.TheVariants.{Script, Array, Host}
 use Rattle.ash_slots.specs.Bodies.{words_of, with_word}
-use Rattle.ash_slots.specs.Store.{Placed, change_at}
+use Rattle.ash_slots.specs.Store.{SlotEntry, change_at}
 use Rattle.ash_objects.specs.Table.{Living, with_field}
 use Rattle.ash_objects.specs.Counting.{face, face_at, holding, fields_in, living, living_in, AreCounted}
-use Rattle.ash_slots.specs.Counting.{counted, once_more, once_less, change_handle, written}
+use Rattle.ash_slots.specs.Counting.{counted, incremented, decremented, change_handle, written}
 use Rattle.ash_slots.proofs.Changing.{object_at-change, length-change, in_order-change, sum-change, sum_same-change}
 use Rattle.ash_objects.proofs.Counts.{view_change, counted-change, each-change}
-
--- whether a handle is to an object, as a number
-abbrev pub hits : Option ℕ → ℕ → ℕ
-hits None m = 0
-hits (Some k) m = cond (nat_eq m k) 1 0
-
--- a word is counted where it is a handle to the object
-pub hits_word : (m : ℕ) (w : Word) → cond {A = ℕ} (is_handle_to m w) 1 0 ≡ hits (handle w) m
-hits_word m (words.Bool b) = refl
-hits_word m (words.Int b) = refl
-hits_word m (words.Uint b) = refl
-hits_word m (words.Int64 b) = refl
-hits_word m (words.Uint64 b) = refl
-hits_word m words.Null = refl
-hits_word m (words.Object k) = refl
-
-same_test : (a b : ℕ) → nat_eq a b ≡ nat_eq b a
-same_test a b = grind (arith, nat_tests)
-
--- the word that is at a place
-word_at : {A : Type 0} (ws : List A) (i : ℕ) (x d : A) → slice_get ws i ≡ Some x → (i < length ws) × (get_or ws i d ≡ x)
-word_at [] i x d h = cc
-word_at (y ∷ ws) zero x d h = (omega arith, cc)
-word_at (y ∷ ws) (suc i) x d h = let later = word_at ws i x d h in (omega (arith, later.0), later.1)
-
--- the handles among words, after one was written
-pub handles-set : (m : ℕ) (ws : List Word) (i : ℕ) (before after : Word) → slice_get ws i ≡ Some before
-    → handles_to m (set ws i after) + hits (handle before) m ≡ handles_to m ws + hits (handle after) m
-handles-set m ws i before after there =
-    let at = word_at ws i before words.Null there in
-    let sums = sum_by-set (λ (w : Word). cond {A = ℕ} (is_handle_to m w) 1 0) ws i after words.Null at.0 in
-    let was = ap (λ (w : Word). cond {A = ℕ} (is_handle_to m w) 1 0) at.1 in
-    omega (arith, sums, was, hits_word m before, hits_word m after)
-
--- a word that is among words is counted
-pub handles-at : (m : ℕ) (ws : List Word) (i : ℕ) (before : Word) → slice_get ws i ≡ Some before
-    → hits (handle before) m ≤ handles_to m ws
-handles-at m ws i before there =
-    let at = word_at ws i before words.Null there in
-    let some = get_or-le-sum_by (λ (w : Word). cond {A = ℕ} (is_handle_to m w) 1 0) ws i words.Null at.0 in
-    let was = ap (λ (w : Word). cond {A = ℕ} (is_handle_to m w) 1 0) at.1 in
-    omega (arith, some, was, hits_word m before)
+use Rattle.ash_objects.proofs.Handles.{hits, same_test, handles-set, handles-at}
 
 module _ {B : Type 0} where
   abbrev pub with_holds : ℕ → Living B → Living B
   with_holds holds object = record object { holds = holds }
 
   -- what a contract sees is that, with what the count has beside fields
-  pub living_face : (m : ℕ) (l : List (ℕ × Placed B)) (F : ℕ) → option_map (living F) (object_at m l)
+  pub living_face : (m : ℕ) (l : List (ℕ × SlotEntry B)) (F : ℕ) → option_map (living F) (object_at m l)
       ≡ option_map (with_holds (counted m l - F)) (face_at m l)
   living_face m l F = go (object_at m l) refl
     where
-      go : (v : Option (Placed B)) → object_at m l ≡ v → option_map (living F) v
+      go : (v : Option (SlotEntry B)) → object_at m l ≡ v → option_map (living F) v
           ≡ option_map (with_holds (option_map_or (λ object. (object.item).count) v 0 - F)) (option_map face v)
       go None is = refl
       go (Some p) is = refl
 
   -- what a contract sees of two stores whose counts and fields changed alike differs at one number only
-  pub view_face : (old new : List (ℕ × Placed B)) (n : ℕ) (f : Living B → Living B)
+  pub view_face : (old new : List (ℕ × SlotEntry B)) (n : ℕ) (f : Living B → Living B)
       → ((k : ℕ) (x : Living B) → with_holds k (f x) ≡ f (with_holds k x)) → IsInOrder old → IsInOrder new
       → ((m : ℕ) → face_at m new ≡ cond (nat_eq n m) (option_map f (face_at m old)) (face_at m old))
       → ((m : ℕ) → counted m new - fields_in m new ≡ counted m old - fields_in m old)
@@ -98,95 +55,95 @@ module _ {B : Type 0} where
       each k false v = refl
 
   -- a change that leaves what a contract sees but the count
-  face_same : (n : ℕ) (f : Placed B → Placed B) → ((p : Placed B) → face (f p) ≡ face p)
-      → (m : ℕ) (l : List (ℕ × Placed B)) → face_at m (change_at n f l) ≡ face_at m l
-  face_same n f same m l = ap (λ (v : Option (Placed B)). option_map face v) (object_at-change n f m l) ∙ go (nat_eq n m) (object_at m l)
+  face_same : (n : ℕ) (f : SlotEntry B → SlotEntry B) → ((p : SlotEntry B) → face (f p) ≡ face p)
+      → (m : ℕ) (l : List (ℕ × SlotEntry B)) → face_at m (change_at n f l) ≡ face_at m l
+  face_same n f same m l = ap (λ (v : Option (SlotEntry B)). option_map face v) (object_at-change n f m l) ∙ go (nat_eq n m) (object_at m l)
     where
-      go : (b : Bool) (v : Option (Placed B)) → option_map face (cond b (option_map f v) v) ≡ option_map face v
+      go : (b : Bool) (v : Option (SlotEntry B)) → option_map face (cond b (option_map f v) v) ≡ option_map face v
       go false v = refl
       go true None = refl
       go true (Some p) = ap Some (same p)
 
   -- what is at each number after a handle was counted
-  module _ (f : Placed B → Placed B) (keeps : (p : Placed B) → face (f p) ≡ face p) where
-    pub handle_face : (h : Option ℕ) (m : ℕ) (l : List (ℕ × Placed B)) → face_at m (change_handle f h l) ≡ face_at m l
+  module _ (f : SlotEntry B → SlotEntry B) (keeps : (p : SlotEntry B) → face (f p) ≡ face p) where
+    pub handle_face : (h : Option ℕ) (m : ℕ) (l : List (ℕ × SlotEntry B)) → face_at m (change_handle f h l) ≡ face_at m l
     handle_face None m l = refl
     handle_face (Some k) m l = face_same k f keeps m l
 
-    pub handle_fields : (h : Option ℕ) (m : ℕ) (l : List (ℕ × Placed B)) → fields_in m (change_handle f h l)
+    pub handle_fields : (h : Option ℕ) (m : ℕ) (l : List (ℕ × SlotEntry B)) → fields_in m (change_handle f h l)
         ≡ fields_in m l
     handle_fields None m l = refl
     handle_fields (Some k) m l =
         sum_same-change (holding m) k f (λ p. ap (λ (x : Living B). handles_to m (words_of x.body)) (keeps p)) l
 
-    pub handle_order : (h : Option ℕ) (l : List (ℕ × Placed B)) → IsInOrder l → IsInOrder (change_handle f h l)
+    pub handle_order : (h : Option ℕ) (l : List (ℕ × SlotEntry B)) → IsInOrder l → IsInOrder (change_handle f h l)
     handle_order None l o = o
     handle_order (Some k) l o = in_order-change k f l o
 
-    pub handle_length : (h : Option ℕ) (l : List (ℕ × Placed B)) → length (change_handle f h l) ≡ length l
+    pub handle_length : (h : Option ℕ) (l : List (ℕ × SlotEntry B)) → length (change_handle f h l) ≡ length l
     handle_length None l = refl
     handle_length (Some k) l = length-change k f l
 
-    pub handle_each : (P : Placed B → Type 0) (h : Option ℕ) (l : List (ℕ × Placed B))
-        → ((p : Placed B) (k : ℕ) → h ≡ Some k → object_at k l ≡ Some p → P p → P (f p))
+    pub handle_each : (P : SlotEntry B → Type 0) (h : Option ℕ) (l : List (ℕ × SlotEntry B))
+        → ((p : SlotEntry B) (k : ℕ) → h ≡ Some k → object_at k l ≡ Some p → P p → P (f p))
         → ((m : ℕ) → IfSome (object_at m l) P) → (m : ℕ) → IfSome (object_at m (change_handle f h l)) P
     handle_each P None l stays each = each
     handle_each P (Some k) l stays each = each-change P k f l (λ p is. stays p k refl is) each
 
-  pub lives_some : (m : ℕ) (l : List (ℕ × Placed B)) → Lives l m → (p : Placed B) × (object_at m l ≡ Some p)
+  pub lives_some : (m : ℕ) (l : List (ℕ × SlotEntry B)) → Lives l m → (p : SlotEntry B) × (object_at m l ≡ Some p)
   lives_some m l lives = go (object_at m l) refl lives
     where
-      go : (v : Option (Placed B)) → object_at m l ≡ v → IsSome v → (p : Placed B) × (object_at m l ≡ Some p)
+      go : (v : Option (SlotEntry B)) → object_at m l ≡ v → IsSome v → (p : SlotEntry B) × (object_at m l ≡ Some p)
       go None is h = cc
       go (Some p) is h = (p, is)
 
-  pub more_handle : (h : Option ℕ) (m : ℕ) (l : List (ℕ × Placed B)) → IfSome h (Lives l)
-      → counted m (change_handle once_more h l) ≡ counted m l + hits h m
+  pub more_handle : (h : Option ℕ) (m : ℕ) (l : List (ℕ × SlotEntry B)) → IfSome h (Lives l)
+      → counted m (change_handle incremented h l) ≡ counted m l + hits h m
   more_handle None m l alive = omega arith
   more_handle (Some k) m l alive =
       let p = lives_some k l alive in
-      go p.0 p.1 (nat_eq k m) refl (counted-change k once_more m l)
+      go p.0 p.1 (nat_eq k m) refl (counted-change k incremented m l)
     where
-      go : (p : Placed B) → object_at k l ≡ Some p → (b : Bool) → nat_eq k m ≡ b → counted m (change_at k once_more l)
+      go : (p : SlotEntry B) → object_at k l ≡ Some p → (b : Bool) → nat_eq k m ≡ b → counted m (change_at k incremented l)
           ≡ option_map_or (λ object. (object.item).count)
-          (cond (nat_eq k m) (option_map once_more (object_at m l)) (object_at m l)) 0
-          → counted m (change_at k once_more l) ≡ counted m l + cond (nat_eq m k) 1 0
+          (cond (nat_eq k m) (option_map incremented (object_at m l)) (object_at m l)) 0
+          → counted m (change_at k incremented l) ≡ counted m l + cond (nat_eq m k) 1 0
       go p is true same at =
           let k_is : k ≡ m = eqb-true k m same in
           let there : object_at m l ≡ Some p = ap (λ (j : ℕ). object_at j l) (sym k_is) ∙ is in
-          let now = at ∙ ap (λ (b : Bool). option_map_or (λ object. (object.item).count) (cond b (option_map once_more (object_at m l)) (object_at m l)) 0) same ∙ ap (λ (v : Option (Placed B)). option_map_or (λ object. (object.item).count) (option_map once_more v) 0) there in
-          let then = ap (λ (v : Option (Placed B)). option_map_or (λ object. (object.item).count) v 0) there in
+          let now = at ∙ ap (λ (b : Bool). option_map_or (λ object. (object.item).count) (cond b (option_map incremented (object_at m l)) (object_at m l)) 0) same ∙ ap (λ (v : Option (SlotEntry B)). option_map_or (λ object. (object.item).count) (option_map incremented v) 0) there in
+          let then = ap (λ (v : Option (SlotEntry B)). option_map_or (λ object. (object.item).count) v 0) there in
           let one = ap (λ (b : Bool). cond {A = ℕ} b 1 0) (same_test m k ∙ same) in
           omega (arith, now, then, one)
       go p is false same at =
-          let now = at ∙ ap (λ (b : Bool). option_map_or (λ object. (object.item).count) (cond b (option_map once_more (object_at m l)) (object_at m l)) 0) same in
+          let now = at ∙ ap (λ (b : Bool). option_map_or (λ object. (object.item).count) (cond b (option_map incremented (object_at m l)) (object_at m l)) 0) same in
           let none = ap (λ (b : Bool). cond {A = ℕ} b 1 0) (same_test m k ∙ same) in
           omega (arith, now, none)
 
-  pub less_handle : (h : Option ℕ) (m : ℕ) (l : List (ℕ × Placed B)) → IfSome h (λ k. 0 < counted k l)
-      → counted m (change_handle once_less h l) + hits h m ≡ counted m l
+  pub less_handle : (h : Option ℕ) (m : ℕ) (l : List (ℕ × SlotEntry B)) → IfSome h (λ k. 0 < counted k l)
+      → counted m (change_handle decremented h l) + hits h m ≡ counted m l
   less_handle None m l some = omega arith
   less_handle (Some k) m l some =
-      go (nat_eq k m) refl (object_at m l) refl (counted-change k once_less m l)
+      go (nat_eq k m) refl (object_at m l) refl (counted-change k decremented m l)
     where
-      go : (b : Bool) → nat_eq k m ≡ b → (v : Option (Placed B)) → object_at m l ≡ v
-          → counted m (change_at k once_less l)
+      go : (b : Bool) → nat_eq k m ≡ b → (v : Option (SlotEntry B)) → object_at m l ≡ v
+          → counted m (change_at k decremented l)
           ≡ option_map_or (λ object. (object.item).count)
-          (cond (nat_eq k m) (option_map once_less (object_at m l)) (object_at m l)) 0
-          → counted m (change_at k once_less l) + cond (nat_eq m k) 1 0 ≡ counted m l
+          (cond (nat_eq k m) (option_map decremented (object_at m l)) (object_at m l)) 0
+          → counted m (change_at k decremented l) + cond (nat_eq m k) 1 0 ≡ counted m l
       go true same None is at =
           let k_is : k ≡ m = eqb-true k m same in
-          let none = ap (λ (j : ℕ). counted j l) k_is ∙ ap (λ (v : Option (Placed B)). option_map_or (λ object. (object.item).count) v 0) is in
+          let none = ap (λ (j : ℕ). counted j l) k_is ∙ ap (λ (v : Option (SlotEntry B)). option_map_or (λ object. (object.item).count) v 0) is in
           absurd (omega (arith, none, some))
       go true same (Some p) is at =
           let k_is : k ≡ m = eqb-true k m same in
-          let now = at ∙ ap (λ (b : Bool). option_map_or (λ object. (object.item).count) (cond b (option_map once_less (object_at m l)) (object_at m l)) 0) same ∙ ap (λ (v : Option (Placed B)). option_map_or (λ object. (object.item).count) (option_map once_less v) 0) is in
-          let then = ap (λ (v : Option (Placed B)). option_map_or (λ object. (object.item).count) v 0) is in
+          let now = at ∙ ap (λ (b : Bool). option_map_or (λ object. (object.item).count) (cond b (option_map decremented (object_at m l)) (object_at m l)) 0) same ∙ ap (λ (v : Option (SlotEntry B)). option_map_or (λ object. (object.item).count) (option_map decremented v) 0) is in
+          let then = ap (λ (v : Option (SlotEntry B)). option_map_or (λ object. (object.item).count) v 0) is in
           let one = ap (λ (b : Bool). cond {A = ℕ} b 1 0) (same_test m k ∙ same) in
           let its = ap (λ (j : ℕ). counted j l) k_is in
           omega (arith, now, then, one, its, some)
       go false same v is at =
-          let now = at ∙ ap (λ (b : Bool). option_map_or (λ object. (object.item).count) (cond b (option_map once_less (object_at m l)) (object_at m l)) 0) same in
+          let now = at ∙ ap (λ (b : Bool). option_map_or (λ object. (object.item).count) (cond b (option_map decremented (object_at m l)) (object_at m l)) 0) same in
           let none = ap (λ (b : Bool). cond {A = ℕ} b 1 0) (same_test m k ∙ same) in
           omega (arith, now, none)
 
@@ -198,7 +155,7 @@ module _ {B : Type 0} where
   words-written place word before (Host box) there = cc
 
   -- what one object holds is part of what all hold
-  pub one-le-sum : (g : Placed B → ℕ) (n : ℕ) (l : List (ℕ × Placed B)) (p : Placed B) → object_at n l ≡ Some p
+  pub one-le-sum : (g : SlotEntry B → ℕ) (n : ℕ) (l : List (ℕ × SlotEntry B)) (p : SlotEntry B) → object_at n l ≡ Some p
       → g p ≤ sum_by g (values_of l)
   one-le-sum g n [] p h = cc
   one-le-sum g n (e ∷ l) p h =
@@ -219,11 +176,11 @@ module _ {B : Type 0} where
           omega (arith, both, some)
 
   -- a change that leaves counts
-  pub counted_same : (n : ℕ) (f : Placed B → Placed B) → ((p : Placed B) → ((f p).item).count ≡ (p.item).count)
-      → (m : ℕ) (l : List (ℕ × Placed B)) → counted m (change_at n f l) ≡ counted m l
+  pub counted_same : (n : ℕ) (f : SlotEntry B → SlotEntry B) → ((p : SlotEntry B) → ((f p).item).count ≡ (p.item).count)
+      → (m : ℕ) (l : List (ℕ × SlotEntry B)) → counted m (change_at n f l) ≡ counted m l
   counted_same n f keeps m l = counted-change n f m l ∙ go (nat_eq n m) (object_at m l)
     where
-      go : (b : Bool) (v : Option (Placed B))
+      go : (b : Bool) (v : Option (SlotEntry B))
           → option_map_or (λ object. (object.item).count) (cond b (option_map f v) v) 0
           ≡ option_map_or (λ object. (object.item).count) v 0
       go false v = refl
@@ -237,40 +194,40 @@ module _ {B : Type 0} where
   length-written place word (Host box) = refl
 
   -- A word was written at a place of an object: the new one counted first, the old one uncounted last.
-  module _ (n place : ℕ) (word before : Word) (l : List (ℕ × Placed B)) (o : IsInOrder l) (s : AreCounted l) (alive : IfSome (handle word) (Lives l)) (there : IsSomeAnd (object_at n l) (λ object. slice_get (words_of (object.item).body) place ≡ Some before)) where
-    abbrev pub counted_first : List (ℕ × Placed B)
-    counted_first = change_handle once_more (handle word) l
+  module _ (n place : ℕ) (word before : Word) (l : List (ℕ × SlotEntry B)) (o : IsInOrder l) (s : AreCounted l) (alive : IfSome (handle word) (Lives l)) (there : IsSomeAnd (object_at n l) (λ object. slice_get (words_of (object.item).body) place ≡ Some before)) where
+    abbrev pub counted_first : List (ℕ × SlotEntry B)
+    counted_first = change_handle incremented (handle word) l
 
-    abbrev pub after_write : List (ℕ × Placed B)
-    after_write = change_at n (written place word) (change_handle once_more (handle word) l)
+    abbrev pub after_write : List (ℕ × SlotEntry B)
+    after_write = change_at n (written place word) (change_handle incremented (handle word) l)
 
-    abbrev pub after_all : List (ℕ × Placed B)
+    abbrev pub after_all : List (ℕ × SlotEntry B)
     after_all =
-        change_handle once_less (handle before)
-        (change_at n (written place word) (change_handle once_more (handle word) l))
+        change_handle decremented (handle before)
+        (change_at n (written place word) (change_handle incremented (handle word) l))
 
     faces_first : (m : ℕ) → face_at m counted_first ≡ face_at m l
-    faces_first m = handle_face once_more (λ p. refl) (handle word) m l
+    faces_first m = handle_face incremented (λ p. refl) (handle word) m l
 
     -- the object that is written
-    pub there_first : (p : Placed B) × (object_at n counted_first ≡ Some p)
+    pub there_first : (p : SlotEntry B) × (object_at n counted_first ≡ Some p)
         × (slice_get (words_of (p.item).body) place ≡ Some before)
     there_first = go (object_at n counted_first) refl (object_at n l) refl there
       where
-        go : (v : Option (Placed B)) → object_at n counted_first ≡ v → (u : Option (Placed B)) → object_at n l ≡ u
-            → IsSomeAnd u (λ object. slice_get (words_of (object.item).body) place ≡ Some before) → (p : Placed B)
+        go : (v : Option (SlotEntry B)) → object_at n counted_first ≡ v → (u : Option (SlotEntry B)) → object_at n l ≡ u
+            → IsSomeAnd u (λ object. slice_get (words_of (object.item).body) place ≡ Some before) → (p : SlotEntry B)
             × (object_at n counted_first ≡ Some p) × (slice_get (words_of (p.item).body) place ≡ Some before)
         go v is None was h = absurd h
         go None is (Some q) was h =
-            let none = sym (ap (λ (w : Option (Placed B)). option_map face w) is) ∙ faces_first n ∙ ap (λ (w : Option (Placed B)). option_map face w) was in
+            let none = sym (ap (λ (w : Option (SlotEntry B)). option_map face w) is) ∙ faces_first n ∙ ap (λ (w : Option (SlotEntry B)). option_map face w) was in
             absurd (cc)
         go (Some p) is (Some q) was h =
-            let some : Some (face p) ≡ Some (face q) = sym (ap (λ (w : Option (Placed B)). option_map face w) is) ∙ faces_first n ∙ ap (λ (w : Option (Placed B)). option_map face w) was in
+            let some : Some (face p) ≡ Some (face q) = sym (ap (λ (w : Option (SlotEntry B)). option_map face w) is) ∙ faces_first n ∙ ap (λ (w : Option (SlotEntry B)). option_map face w) was in
             let one : face p ≡ face q = cc in
             (p, is, ap (λ (x : Living B). slice_get (words_of x.body) place) one ∙ h)
 
     order_first : IsInOrder counted_first
-    order_first = handle_order once_more (λ p. refl) (handle word) l o
+    order_first = handle_order incremented (λ p. refl) (handle word) l o
 
     pub order_write : IsInOrder after_write
     order_write = in_order-change n (written place word) counted_first order_first
@@ -282,14 +239,14 @@ module _ {B : Type 0} where
     count_write m = counted_same n (written place word) (λ p. refl) m counted_first
 
     fields_first : (m : ℕ) → fields_in m counted_first ≡ fields_in m l
-    fields_first m = handle_fields once_more (λ p. refl) (handle word) m l
+    fields_first m = handle_fields incremented (λ p. refl) (handle word) m l
 
     fields_write : (m : ℕ) → fields_in m after_write + hits (handle before) m ≡ fields_in m l + hits (handle word) m
     fields_write m =
         let p = there_first in
         let sums = sum-change (holding m) n (written place word) counted_first order_first in
-        let was = ap (λ (v : Option (Placed B)). option_map_or (holding m) v 0) p.1 in
-        let now = ap (λ (v : Option (Placed B)). option_map_or (λ x. holding m (written place word x)) v 0) p.1 in
+        let was = ap (λ (v : Option (SlotEntry B)). option_map_or (holding m) v 0) p.1 in
+        let now = ap (λ (v : Option (SlotEntry B)). option_map_or (λ x. holding m (written place word x)) v 0) p.1 in
         let words = ap (λ (ws : List Word). handles_to m ws) (words-written place word before (p.0.item).body p.2) in
         let change = handles-set m (words_of (p.0.item).body) place before word p.2 in
         omega (arith, sums, was, now, words, change, fields_first m)
@@ -311,20 +268,20 @@ module _ {B : Type 0} where
     count_all m = omega (arith, less_handle (handle before) m after_write before_counted, count_write m, count_first m)
 
     fields_all : (m : ℕ) → fields_in m after_all + hits (handle before) m ≡ fields_in m l + hits (handle word) m
-    fields_all m = omega (arith, handle_fields once_less (λ p. refl) (handle before) m after_write, fields_write m)
+    fields_all m = omega (arith, handle_fields decremented (λ p. refl) (handle before) m after_write, fields_write m)
 
     -- what a contract sees of the store after it
     pub view_field : living_in after_all ≡ change_at n (with_field place word) (living_in l)
     view_field =
-        view_face l after_all n (with_field place word) (λ k x. refl) o (handle_order once_less (λ p. refl) (handle before) after_write order_write)
+        view_face l after_all n (with_field place word) (λ k x. refl) o (handle_order decremented (λ p. refl) (handle before) after_write order_write)
         (λ m.
-        handle_face once_less (λ p. refl) (handle before) m after_write
-        ∙ ap (λ (v : Option (Placed B)). option_map face v) (object_at-change n (written place word) m counted_first)
+        handle_face decremented (λ p. refl) (handle before) m after_write
+        ∙ ap (λ (v : Option (SlotEntry B)). option_map face v) (object_at-change n (written place word) m counted_first)
         ∙ each (nat_eq n m) (object_at m counted_first)
         ∙ ap (λ (v : Option (Living B)). cond (nat_eq n m) (option_map (with_field place word) v) v) (faces_first m))
         (λ m. omega (arith, count_all m, fields_all m, s.covered m))
       where
-        each : (b : Bool) (v : Option (Placed B)) → option_map face (cond b (option_map (written place word) v) v)
+        each : (b : Bool) (v : Option (SlotEntry B)) → option_map face (cond b (option_map (written place word) v) v)
             ≡ cond b (option_map (with_field place word) (option_map face v)) (option_map face v)
         each false v = refl
         each true None = refl
@@ -332,18 +289,18 @@ module _ {B : Type 0} where
 
     length_all : length after_all ≡ length l
     length_all =
-        handle_length once_less (λ p. refl) (handle before) after_write
-        ∙ length-change n (written place word) counted_first ∙ handle_length once_more (λ p. refl) (handle word) l
+        handle_length decremented (λ p. refl) (handle before) after_write
+        ∙ length-change n (written place word) counted_first ∙ handle_length incremented (λ p. refl) (handle word) l
 
-    Waits : Placed B → Type 0
+    Waits : SlotEntry B → Type 0
     Waits p = (p.item).count ≡ 0 → p.waiting ≡ true
 
-    Short : Placed B → Type 0
+    Short : SlotEntry B → Type 0
     Short p = length (words_of (p.item).body) ≤ 4096
 
     waiting_first : (m : ℕ) → IfSome (object_at m counted_first) (λ p. (p.item).count ≡ 0 → p.waiting ≡ true)
     waiting_first =
-        handle_each once_more (λ p. refl) (λ p. (p.item).count ≡ 0 → p.waiting ≡ true) (handle word) l
+        handle_each incremented (λ p. refl) (λ p. (p.item).count ≡ 0 → p.waiting ≡ true) (handle word) l
         (λ p k h is was none. absurd (omega arith)) s.waiting
 
     waiting_write : (m : ℕ) → IfSome (object_at m after_write) (λ p. (p.item).count ≡ 0 → p.waiting ≡ true)
@@ -354,9 +311,9 @@ module _ {B : Type 0} where
     short_write : (m : ℕ) → IfSome (object_at m after_write) (λ p. length (words_of (p.item).body) ≤ 4096)
     short_write =
         each-change (λ p. length (words_of (p.item).body) ≤ 4096) n (written place word) counted_first (λ p is was. let same = length-written place word (p.item).body in omega (arith, same, was))
-        (handle_each once_more (λ p. refl) (λ p. length (words_of (p.item).body) ≤ 4096) (handle word) l (λ p k h is was. was) s.short)
+        (handle_each incremented (λ p. refl) (λ p. length (words_of (p.item).body) ≤ 4096) (handle word) l (λ p k h is was. was) s.short)
 
-    less_waits : (p : Placed B) → 0 < (p.item).count → ((once_less p).item).count ≡ 0 → (once_less p).waiting ≡ true
+    less_waits : (p : SlotEntry B) → 0 < (p.item).count → ((decremented p).item).count ≡ 0 → (decremented p).waiting ≡ true
     less_waits p some none =
         let one : (p.item).count ≡ 1 = omega arith in
         ap (λ (b : Bool). cond b true p.waiting) (eq-eqb (p.item).count 1 one)
@@ -367,38 +324,38 @@ module _ {B : Type 0} where
       covered = λ m. omega (arith, count_all m, fields_all m, s.covered m);
       bounded = λ m. omega (arith, count_all m, fields_all m, s.bounded m);
       waiting =
-          handle_each once_less (λ p. refl) (λ p. (p.item).count ≡ 0 → p.waiting ≡ true) (handle before) after_write
+          handle_each decremented (λ p. refl) (λ p. (p.item).count ≡ 0 → p.waiting ≡ true) (handle before) after_write
           (λ p k h is was. less_waits p (some p k h is)) waiting_write;
       short =
-          handle_each once_less (λ p. refl) (λ p. length (words_of (p.item).body) ≤ 4096) (handle before) after_write
+          handle_each decremented (λ p. refl) (λ p. length (words_of (p.item).body) ≤ 4096) (handle before) after_write
           (λ p k h is was. was) short_write;
       few = omega (arith, length_all, s.few);
     }
       where
-        some : (p : Placed B) (k : ℕ) → handle before ≡ Some k → object_at k after_write ≡ Some p → 0 < (p.item).count
+        some : (p : SlotEntry B) (k : ℕ) → handle before ≡ Some k → object_at k after_write ≡ Some p → 0 < (p.item).count
         some p k h is =
             let counts : 0 < counted k after_write = subst (λ (v : Option ℕ). IfSome v (λ j. 0 < counted j after_write)) h before_counted in
-            let mine = ap (λ (v : Option (Placed B)). option_map_or (λ object. (object.item).count) v 0) is in
+            let mine = ap (λ (v : Option (SlotEntry B)). option_map_or (λ object. (object.item).count) v 0) is in
             omega (arith, counts, mine)
 
   -- objects with one face are in one slot, and hold the same words
-  pub in_face : (n slot : ℕ) (a b : List (ℕ × Placed B)) → face_at n a ≡ face_at n b
+  pub in_face : (n slot : ℕ) (a b : List (ℕ × SlotEntry B)) → face_at n a ≡ face_at n b
       → IsSomeAnd (object_at n b) (λ object. object.slot ≡ slot)
       → IsSomeAnd (object_at n a) (λ object. object.slot ≡ slot)
   in_face n slot a b same h = go (object_at n a) (object_at n b) same h
     where
-      go : (v u : Option (Placed B)) → option_map face v ≡ option_map face u
+      go : (v u : Option (SlotEntry B)) → option_map face v ≡ option_map face u
           → IsSomeAnd u (λ object. object.slot ≡ slot) → IsSomeAnd v (λ object. object.slot ≡ slot)
       go v None e h = absurd h
       go None (Some q) e h = absurd (cc)
       go (Some p) (Some q) e h = let one : face p ≡ face q = cc in ap (λ (x : Living B). x.slot) one ∙ h
 
-  pub words_face : (P : List Word → Type 0) (n : ℕ) (a b : List (ℕ × Placed B)) → face_at n a ≡ face_at n b
+  pub words_face : (P : List Word → Type 0) (n : ℕ) (a b : List (ℕ × SlotEntry B)) → face_at n a ≡ face_at n b
       → IsSomeAnd (object_at n b) (λ object. P (words_of (object.item).body))
       → IsSomeAnd (object_at n a) (λ object. P (words_of (object.item).body))
   words_face P n a b same h = go (object_at n a) (object_at n b) same h
     where
-      go : (v u : Option (Placed B)) → option_map face v ≡ option_map face u
+      go : (v u : Option (SlotEntry B)) → option_map face v ≡ option_map face u
           → IsSomeAnd u (λ object. P (words_of (object.item).body))
           → IsSomeAnd v (λ object. P (words_of (object.item).body))
       go v None e h = absurd h
@@ -406,6 +363,6 @@ module _ {B : Type 0} where
       go (Some p) (Some q) e h = let one : face p ≡ face q = cc in subst (λ (x : Living B). P (words_of x.body)) (sym one) h
 
   -- what counting a handle first leaves of an object
-  pub face_more : (h : Option ℕ) (m : ℕ) (l : List (ℕ × Placed B)) → face_at m (change_handle once_more h l)
+  pub face_more : (h : Option ℕ) (m : ℕ) (l : List (ℕ × SlotEntry B)) → face_at m (change_handle incremented h l)
       ≡ face_at m l
-  face_more h m l = handle_face once_more (λ p. refl) h m l
+  face_more h m l = handle_face incremented (λ p. refl) h m l

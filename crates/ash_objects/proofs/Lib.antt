@@ -1,4 +1,5 @@
 pub mod Counts
+pub mod Handles
 pub mod Fields
 pub mod Views
 pub mod Boxes
@@ -9,10 +10,12 @@ pub mod Marks
 pub mod Flags
 pub mod Listed
 pub mod Touching
+pub mod Popping
 pub mod Collecting
 pub mod Collected
 pub mod Newcomers
 pub mod Refilling
+pub mod Appending
 pub mod Pointwise
 pub mod Drawing
 pub mod Recounting

@@ -11,7 +11,7 @@ use Rattle.std.proofs.lemmas.Map.Keys.{sorted_from_strictly_increasing}
 use Rattle.ash_host.specs.Objects.{object_at, numbers, IsInOrder, Lives, with_at, handle, handles_to}
 use Rattle.ash_host.proofs.Order.{object_at-with_at, in_order-with_at, same_in_order}
 use Rattle.ash_slots.specs.Bodies.{words_of}
-use Rattle.ash_slots.specs.Store.{Placed, IsIn}
+use Rattle.ash_slots.specs.Store.{SlotEntry, IsIn}
 use Rattle.ash_objects.specs.Table.{Living, Table, slot_of}
 use Rattle.ash_objects.specs.Making.{new_object, with_new_object, first_of_kind}
 use Rattle.std.specs.List.{remove}
@@ -37,27 +37,27 @@ length-with_at {A} n v (e ∷ l) =
     go Greater later = omega (arith, later)
 
 -- A new object under a number that is not in use yet, counted nowhere, and each object that its words refer to counted once more.
-module _ {B : Type 0} (n : ℕ) (p : Placed B) (l : List (ℕ × Placed B)) (o : IsInOrder l) (s : AreCounted l) (none : object_at n l ≡ None) (alive : AllLive l (words_of (p.item).body)) (fresh : (p.item).count ≡ 0) where
+module _ {B : Type 0} (n : ℕ) (p : SlotEntry B) (l : List (ℕ × SlotEntry B)) (o : IsInOrder l) (s : AreCounted l) (none : object_at n l ≡ None) (alive : AllLive l (words_of (p.item).body)) (fresh : (p.item).count ≡ 0) where
   at_new : (m : ℕ) → object_at m (with_at n p l) ≡ cond (nat_eq m n) (Some p) (object_at m l)
   at_new m = object_at-with_at n p m l
 
   -- where it is
   pub words_new : words_at n (with_at n p l) ≡ words_of (p.item).body
   words_new =
-      ap (λ (v : Option (Placed B)). option_map_or (λ object. words_of (object.item).body) v []) (at_new n
+      ap (λ (v : Option (SlotEntry B)). option_map_or (λ object. words_of (object.item).body) v []) (at_new n
       ∙ ap (λ (b : Bool). cond b (Some p) (object_at n l)) (eq-eqb n n refl))
 
   pub slot_new : IsIn n p.slot (with_at n p l)
   slot_new =
-      subst (λ (v : Option (Placed B)). IsSomeAnd v (λ object. object.slot ≡ p.slot))
+      subst (λ (v : Option (SlotEntry B)). IsSomeAnd v (λ object. object.slot ≡ p.slot))
       (sym (at_new n ∙ ap (λ (b : Bool). cond b (Some p) (object_at n l)) (eq-eqb n n refl))) refl
 
   -- what lived lives
   alive_more : (h : Option ℕ) → IfSome h (Lives l) → IfSome h (Lives (with_at n p l))
   alive_more None h = tt
-  alive_more (Some m) h = subst (λ (v : Option (Placed B)). IsSome v) (sym (at_new m)) (go (nat_eq m n) (object_at m l) h)
+  alive_more (Some m) h = subst (λ (v : Option (SlotEntry B)). IsSome v) (sym (at_new m)) (go (nat_eq m n) (object_at m l) h)
     where
-      go : (b : Bool) (v : Option (Placed B)) → IsSome v → IsSome (cond b (Some p) v)
+      go : (b : Bool) (v : Option (SlotEntry B)) → IsSome v → IsSome (cond b (Some p) v)
       go true v h = refl
       go false v h = h
 
@@ -67,18 +67,18 @@ module _ {B : Type 0} (n : ℕ) (p : Placed B) (l : List (ℕ × Placed B)) (o :
   fields_new : (m : ℕ) → fields_in m (with_at n p l) ≡ fields_in m l + handles_to m (words_of (p.item).body)
   fields_new m =
       let sums = sum_by-insert_entry (holding m) nat_cmp_total l n p (sorted_from_strictly_increasing (numbers l) o) in
-      let there = ap (λ (v : Option (Placed B)). unwrap_or (option_map (holding m) v) 0) (found_by_number n l ∙ none) in
+      let there = ap (λ (v : Option (SlotEntry B)). unwrap_or (option_map (holding m) v) 0) (found_by_number n l ∙ none) in
       omega (arith, sums, there)
 
   counted_new : (m : ℕ) → counted m (with_at n p l) ≡ counted m l
-  counted_new m = ap (λ (v : Option (Placed B)). option_map_or (λ object. (object.item).count) v 0) (at_new m) ∙ go (nat_eq m n) refl
+  counted_new m = ap (λ (v : Option (SlotEntry B)). option_map_or (λ object. (object.item).count) v 0) (at_new m) ∙ go (nat_eq m n) refl
     where
       go : (b : Bool) → nat_eq m n ≡ b
           → option_map_or (λ object. (object.item).count) (cond b (Some p) (object_at m l)) 0 ≡ counted m l
       go false is = refl
       go true is =
           let nothing : object_at m l ≡ None = ap (λ (k : ℕ). object_at k l) (eqb-true m n is) ∙ none in
-          fresh ∙ sym (ap (λ (v : Option (Placed B)). option_map_or (λ object. (object.item).count) v 0) nothing)
+          fresh ∙ sym (ap (λ (v : Option (SlotEntry B)). option_map_or (λ object. (object.item).count) v 0) nothing)
 
   -- no count comes near what the code can hold
   pub fits_new : (m : ℕ) → length (words_of (p.item).body) ≤ 4096
@@ -89,7 +89,7 @@ module _ {B : Type 0} (n : ℕ) (p : Placed B) (l : List (ℕ × Placed B)) (o :
       omega (arith, counted_new m, words, short, small)
 
   -- the objects once it is there
-  abbrev pub after_new : List (ℕ × Placed B)
+  abbrev pub after_new : List (ℕ × SlotEntry B)
   after_new = refer_all (words_of (p.item).body) (with_at n p l)
 
   count_after : (m : ℕ) → counted m (refer_all (words_of (p.item).body) (with_at n p l))
@@ -108,7 +108,7 @@ module _ {B : Type 0} (n : ℕ) (p : Placed B) (l : List (ℕ × Placed B)) (o :
       (λ m.
       object_at-living m after_new after_new
       ∙ living_face m after_new (fields_in m after_new)
-      ∙ ap (λ (v : Option (Living B)). option_map (with_holds (counted m after_new - fields_in m after_new)) v) (all_face (words_of (p.item).body) m (with_at n p l) ∙ ap (λ (v : Option (Placed B)). option_map face v) (at_new m))
+      ∙ ap (λ (v : Option (Living B)). option_map (with_holds (counted m after_new - fields_in m after_new)) v) (all_face (words_of (p.item).body) m (with_at n p l) ∙ ap (λ (v : Option (SlotEntry B)). option_map face v) (at_new m))
       ∙ ap (λ (k : ℕ). option_map (with_holds k) (option_map face (cond (nat_eq m n) (Some p) (object_at m l)))) (holds m)
       ∙ each m (nat_eq m n) refl
       ∙ ap (λ (v : Option (Living B)). cond (nat_eq m n) (Some (new_object p.slot (p.item).body)) v) (sym (object_at-living m l l ∙ living_face m l (fields_in m l)))
@@ -129,12 +129,12 @@ module _ {B : Type 0} (n : ℕ) (p : Placed B) (l : List (ℕ × Placed B)) (o :
       each m false is = refl
       each m true is =
           let nothing : object_at m l ≡ None = ap (λ (k : ℕ). object_at k l) (eqb-true m n is) ∙ none in
-          let zero_count : counted m l ≡ 0 = ap (λ (v : Option (Placed B)). option_map_or (λ object. (object.item).count) v 0) nothing in
+          let zero_count : counted m l ≡ 0 = ap (λ (v : Option (SlotEntry B)). option_map_or (λ object. (object.item).count) v 0) nothing in
           ap Some (here (counted m l - fields_in m l) (omega (arith, zero_count)))
 
-  each_new : (P : Placed B → Type 0) → P p → ((m : ℕ) → IfSome (object_at m l) P) → (m : ℕ)
+  each_new : (P : SlotEntry B → Type 0) → P p → ((m : ℕ) → IfSome (object_at m l) P) → (m : ℕ)
       → IfSome (object_at m (with_at n p l)) P
-  each_new P mine each m = subst (λ (v : Option (Placed B)). IfSome v P) (sym (at_new m)) (go (nat_eq m n) (each m))
+  each_new P mine each m = subst (λ (v : Option (SlotEntry B)). IfSome v P) (sym (at_new m)) (go (nat_eq m n) (each m))
     where
       go : (b : Bool) → IfSome (object_at m l) P → IfSome (cond b (Some p) (object_at m l)) P
       go true h = mine
@@ -142,7 +142,7 @@ module _ {B : Type 0} (n : ℕ) (p : Placed B) (l : List (ℕ × Placed B)) (o :
 
   given_new : (last : ℕ) → AreGiven last l → last < n → AreGiven n (with_at n p l)
   given_new last given later m lives =
-      go (nat_eq m n) refl (subst (λ (v : Option (Placed B)). IsSome v) (at_new m) lives)
+      go (nat_eq m n) refl (subst (λ (v : Option (SlotEntry B)). IsSome v) (at_new m) lives)
     where
       go : (b : Bool) → nat_eq m n ≡ b → IsSome (cond b (Some p) (object_at m l)) → (0 < m) × (m ≤ n)
       go true is h = let same = eqb-true m n is in (omega (arith, same, later), omega (arith, same))
@@ -170,15 +170,15 @@ module _ {B : Type 0} (n : ℕ) (p : Placed B) (l : List (ℕ × Placed B)) (o :
   }
 
 -- a number above the last is new
-pub absent : {B : Type 0} (l : List (ℕ × Placed B)) (last n : ℕ) → AreGiven last l → last < n → object_at n l ≡ None
+pub absent : {B : Type 0} (l : List (ℕ × SlotEntry B)) (last n : ℕ) → AreGiven last l → last < n → object_at n l ≡ None
 absent {B} l last n given later = go (object_at n l) refl
   where
-    go : (v : Option (Placed B)) → object_at n l ≡ v → object_at n l ≡ None
+    go : (v : Option (SlotEntry B)) → object_at n l ≡ v → object_at n l ≡ None
     go None is = is
-    go (Some p) is = let g = given n (subst (λ (v : Option (Placed B)). IsSome v) (sym is) refl) in let g1 = g.1 in absurd (omega (arith, g1, later))
+    go (Some p) is = let g = given n (subst (λ (v : Option (SlotEntry B)). IsSome v) (sym is) refl) in let g1 = g.1 in absurd (omega (arith, g1, later))
 
 -- a contract sees as many objects as there are
-pub length-living : {B : Type 0} (all l : List (ℕ × Placed B)) → length (living_among all l) ≡ length l
+pub length-living : {B : Type 0} (all l : List (ℕ × SlotEntry B)) → length (living_among all l) ≡ length l
 length-living all [] = refl
 length-living all (e ∷ l) = ap suc (length-living all l)
 

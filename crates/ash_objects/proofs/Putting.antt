@@ -12,10 +12,10 @@ use Rattle.ash_host.proofs.Order.{none_after, in_order_after}
 use Rattle.ash_slots.specs.declared.body.Body.{Body}
 use Rattle.ash_slots.specs.declared.body.Body.TheVariants.{Script, Array, Host}
 use Rattle.ash_slots.specs.Bodies.{words_of}
-use Rattle.ash_slots.specs.Store.{Placed}
-use Rattle.ash_objects.specs.declared.restoring.Stored.{Stored}
-use Rattle.ash_objects.specs.declared.restoring.Saved.{Saved}
-use Rattle.ash_objects.specs.Restoring.{stored_in, with_drawn, AreFit, IsFresh, ArePut}
+use Rattle.ash_slots.specs.Store.{SlotEntry}
+use Rattle.ash_objects.specs.declared.restoring.StoredObject.{StoredObject}
+use Rattle.ash_objects.specs.declared.restoring.SavedHostObject.{SavedHostObject}
+use Rattle.ash_objects.specs.Restoring.{stored_in, with_drawn, AreFit, IsFresh, AreInserted}
 use Rattle.ash_objects.proofs.Pointwise.{IsPopped, popped}
 use Rattle.ash_objects.proofs.Drawing.{fit_length}
 
@@ -34,15 +34,15 @@ order_drop (suc k) (e ∷ l) o = order_drop k l (in_order_after e l o)
 
 module _ {B : Type 0} where
   -- words of what was put
-  pub words_joined : (body : Body Saved) (taken : Option B) (out : Body B) → with_drawn body taken ≡ Some out
+  pub words_joined : (body : Body SavedHostObject) (taken : Option B) (out : Body B) → with_drawn body taken ≡ Some out
       → words_of out ≡ words_of body
   words_joined (Script script) taken out is = let same : out ≡ Script script = cc in ap (λ (b : Body B). words_of b) same
   words_joined (Array array) taken out is = let same : out ≡ Array array = cc in ap (λ (b : Body B). words_of b) same
   words_joined (Host saved) None out is = absurd (cc)
   words_joined (Host saved) (Some box) out is = let same : out ≡ Host box = cc in ap (λ (b : Body B). words_of b) same
 
-  pub put_numbers : (objects : List Stored) (boxes : List (Option B)) (l : List (ℕ × Placed B))
-      → ArePut objects boxes l → numbers l ≡ numbers (stored_in objects)
+  pub put_numbers : (objects : List StoredObject) (boxes : List (Option B)) (l : List (ℕ × SlotEntry B))
+      → AreInserted objects boxes l → numbers l ≡ numbers (stored_in objects)
   put_numbers [] [] [] put = refl
   put_numbers [] [] (e ∷ l) put = absurd put
   put_numbers [] (box ∷ boxes) l put = absurd put
@@ -51,8 +51,8 @@ module _ {B : Type 0} where
   put_numbers (object ∷ objects) (box ∷ boxes) (e ∷ l) put =
       ap (λ (n : ℕ). n ∷ numbers l) put.0 ∙ ap (λ (ns : List ℕ). object.number ∷ ns) (put_numbers objects boxes l put.3)
 
-  pub put_length : (objects : List Stored) (boxes : List (Option B)) (l : List (ℕ × Placed B))
-      → ArePut objects boxes l → length l ≡ length objects
+  pub put_length : (objects : List StoredObject) (boxes : List (Option B)) (l : List (ℕ × SlotEntry B))
+      → AreInserted objects boxes l → length l ≡ length objects
   put_length [] [] [] put = refl
   put_length [] [] (e ∷ l) put = absurd put
   put_length [] (box ∷ boxes) l put = absurd put
@@ -60,8 +60,8 @@ module _ {B : Type 0} where
   put_length (object ∷ objects) (box ∷ boxes) [] put = absurd put
   put_length (object ∷ objects) (box ∷ boxes) (e ∷ l) put = ap suc (put_length objects boxes l put.3)
 
-  pub put_words : (m : ℕ) (objects : List Stored) (boxes : List (Option B)) (l : List (ℕ × Placed B))
-      → ArePut objects boxes l → option_map (λ p. words_of (p.item).body) (object_at m l)
+  pub put_words : (m : ℕ) (objects : List StoredObject) (boxes : List (Option B)) (l : List (ℕ × SlotEntry B))
+      → AreInserted objects boxes l → option_map (λ p. words_of (p.item).body) (object_at m l)
       ≡ option_map (λ body. words_of body) (object_at m (stored_in objects))
   put_words m [] [] [] put = refl
   put_words m [] [] (e ∷ l) put = absurd put
@@ -79,8 +79,8 @@ module _ {B : Type 0} where
       go true later = ap Some (words_joined object.body box (e.1.item).body put.1)
       go false later = later
 
-  pub put_fresh : (m : ℕ) (objects : List Stored) (boxes : List (Option B)) (l : List (ℕ × Placed B))
-      → ArePut objects boxes l → IfSome (object_at m l) IsFresh
+  pub put_fresh : (m : ℕ) (objects : List StoredObject) (boxes : List (Option B)) (l : List (ℕ × SlotEntry B))
+      → AreInserted objects boxes l → IfSome (object_at m l) IsFresh
   put_fresh m [] [] [] put = tt
   put_fresh m [] [] (e ∷ l) put = absurd put
   put_fresh m [] (box ∷ boxes) l put = absurd put
@@ -93,18 +93,18 @@ module _ {B : Type 0} where
       go false later = later
 
   -- an object that is put before all others
-  pub put_first : (objects : List Stored) (boxes : List (Option B)) (k : ℕ) (object : Stored) (box : Option B)
-      (p : Placed B) (l : List (ℕ × Placed B)) → IsInOrder (stored_in objects)
+  pub put_first : (objects : List StoredObject) (boxes : List (Option B)) (k : ℕ) (object : StoredObject) (box : Option B)
+      (p : SlotEntry B) (l : List (ℕ × SlotEntry B)) → IsInOrder (stored_in objects)
       → drop k objects ≡ object ∷ drop (k + 1) objects → drop k boxes ≡ box ∷ drop (k + 1) boxes
-      → ArePut (drop (k + 1) objects) (drop (k + 1) boxes) l → with_drawn object.body box ≡ Some (p.item).body
-      → IsFresh p → ArePut (drop k objects) (drop k boxes) (with_at object.number p l)
+      → AreInserted (drop (k + 1) objects) (drop (k + 1) boxes) l → with_drawn object.body box ≡ Some (p.item).body
+      → IsFresh p → AreInserted (drop k objects) (drop k boxes) (with_at object.number p l)
   put_first objects boxes k object box p l order os bs put is fresh =
-      subst (λ (es : List (ℕ × Placed B)). ArePut (drop k objects) (drop k boxes) es) (sym (with_at_first object.number p l sorted)) (rw (os, bs) (refl, is, fresh, put))
+      subst (λ (es : List (ℕ × SlotEntry B)). AreInserted (drop k objects) (drop k boxes) es) (sym (with_at_first object.number p l sorted)) (rw (os, bs) (refl, is, fresh, put))
     where
       ordered : IsInOrder (stored_in (object ∷ drop (k + 1) objects))
       ordered =
-          subst (λ (xs : List Stored). IsInOrder (stored_in xs)) os
-          (subst (λ (es : List (ℕ × Body Saved)). IsInOrder es)
+          subst (λ (xs : List StoredObject). IsInOrder (stored_in xs)) os
+          (subst (λ (es : List (ℕ × Body SavedHostObject)). IsInOrder es)
           (drop-map (λ object. (object.number, object.body)) k objects) (order_drop k (stored_in objects) order))
 
       sorted : IsStrictlySortedBy nat_cmp (object.number ∷ numbers l)
@@ -113,15 +113,15 @@ module _ {B : Type 0} where
           (sym (put_numbers (drop (k + 1) objects) (drop (k + 1) boxes) l put))
           (sorted_from_strictly_increasing (numbers (stored_in (object ∷ drop (k + 1) objects))) ordered)
 
-  pub put_absent : (objects : List Stored) (boxes : List (Option B)) (k : ℕ) (object : Stored)
-      (l : List (ℕ × Placed B)) → IsInOrder (stored_in objects) → drop k objects ≡ object ∷ drop (k + 1) objects
-      → ArePut (drop (k + 1) objects) (drop (k + 1) boxes) l → object_at object.number l ≡ None
+  pub put_absent : (objects : List StoredObject) (boxes : List (Option B)) (k : ℕ) (object : StoredObject)
+      (l : List (ℕ × SlotEntry B)) → IsInOrder (stored_in objects) → drop k objects ≡ object ∷ drop (k + 1) objects
+      → AreInserted (drop (k + 1) objects) (drop (k + 1) boxes) l → object_at object.number l ≡ None
   put_absent objects boxes k object l order os put = go (object_at object.number l) refl
     where
       ordered : IsInOrder (stored_in (object ∷ drop (k + 1) objects))
       ordered =
-          subst (λ (xs : List Stored). IsInOrder (stored_in xs)) os
-          (subst (λ (es : List (ℕ × Body Saved)). IsInOrder es)
+          subst (λ (xs : List StoredObject). IsInOrder (stored_in xs)) os
+          (subst (λ (es : List (ℕ × Body SavedHostObject)). IsInOrder es)
           (drop-map (λ object. (object.number, object.body)) k objects) (order_drop k (stored_in objects) order))
 
       rises : IsStrictlyIncreasing (object.number ∷ numbers l)
@@ -129,14 +129,14 @@ module _ {B : Type 0} where
           subst (λ (ns : List ℕ). IsStrictlyIncreasing (object.number ∷ ns))
           (sym (put_numbers (drop (k + 1) objects) (drop (k + 1) boxes) l put)) ordered
 
-      go : (v : Option (Placed B)) → object_at object.number l ≡ v → object_at object.number l ≡ None
+      go : (v : Option (SlotEntry B)) → object_at object.number l ≡ v → object_at object.number l ≡ None
       go None is = is
       go (Some p) is =
-          let apart : nat_eq object.number object.number ≡ false = none_after (object.number, p) l object.number rises (subst (λ (v : Option (Placed B)). IsSome v) (sym is) refl) in
+          let apart : nat_eq object.number object.number ≡ false = none_after (object.number, p) l object.number rises (subst (λ (v : Option (SlotEntry B)). IsSome v) (sym is) refl) in
           let same = eq-eqb object.number object.number refl in
           absurd (cc)
 
-  pub fit_at : (objects : List Stored) (boxes : List (Option B)) (k : ℕ) (object : Stored) (box : Option B)
+  pub fit_at : (objects : List StoredObject) (boxes : List (Option B)) (k : ℕ) (object : StoredObject) (box : Option B)
       → AreFit objects boxes → slice_get objects k ≡ Some object → slice_get boxes k ≡ Some box
       → IsSome (with_drawn object.body box)
   fit_at [] [] k object box fit one two = absurd (cc)
@@ -149,13 +149,13 @@ module _ {B : Type 0} where
   fit_at (o ∷ objects) (b ∷ boxes) (suc k) object box fit one two = fit_at objects boxes k object box fit.1 one two
 
   -- How far the putting of objects has come, the last first: what is left of them and of what they took, and what is there.
-  pub record PutState (objects : List Stored) (boxes : List (Option B)) (os : List Stored) (bs : List (Option B)) (l : List (ℕ × Placed B)) : Type 0 where
+  pub record PutState (objects : List StoredObject) (boxes : List (Option B)) (os : List StoredObject) (bs : List (Option B)) (l : List (ℕ × SlotEntry B)) : Type 0 where
     pub left : os ≡ take (length os) objects
     pub right : bs ≡ take (length os) boxes
     pub within : length os ≤ length objects
-    pub put : ArePut (drop (length os) objects) (drop (length os) boxes) l
+    pub put : AreInserted (drop (length os) objects) (drop (length os) boxes) l
 
-  pub put_begin : (objects : List Stored) (boxes : List (Option B)) (l : List (ℕ × Placed B)) → AreFit objects boxes
+  pub put_begin : (objects : List StoredObject) (boxes : List (Option B)) (l : List (ℕ × SlotEntry B)) → AreFit objects boxes
       → l ≡ [] → PutState objects boxes objects boxes l
   put_begin objects boxes l fit none = record {
     left = sym (take_all (length objects) objects (omega arith));
@@ -165,8 +165,8 @@ module _ {B : Type 0} where
   }
 
   -- there is a box for each object
-  pub put_box : (objects : List Stored) (boxes : List (Option B)) (os os' : List Stored) (bs : List (Option B))
-      (object : Stored) (l : List (ℕ × Placed B)) → AreFit objects boxes → PutState objects boxes os bs l
+  pub put_box : (objects : List StoredObject) (boxes : List (Option B)) (os os' : List StoredObject) (bs : List (Option B))
+      (object : StoredObject) (l : List (ℕ × SlotEntry B)) → AreFit objects boxes → PutState objects boxes os bs l
       → os ≡ os' ++ object ∷ [] → length bs ≡ 0 → ⊥
   put_box objects boxes os os' bs object l fit s is none =
       let many = fit_length objects boxes fit in
@@ -177,7 +177,7 @@ module _ {B : Type 0} where
       absurd (omega (arith, many, long, all, nothing, inside))
 
   -- one object more is put
-  module _ (objects : List Stored) (boxes : List (Option B)) (os os' : List Stored) (bs bs' : List (Option B)) (object : Stored) (box : Option B) (l : List (ℕ × Placed B)) (order : IsInOrder (stored_in objects)) (fit : AreFit objects boxes) (s : PutState objects boxes os bs l) (one : os ≡ os' ++ object ∷ []) (two : bs ≡ bs' ++ box ∷ []) where
+  module _ (objects : List StoredObject) (boxes : List (Option B)) (os os' : List StoredObject) (bs bs' : List (Option B)) (object : StoredObject) (box : Option B) (l : List (ℕ × SlotEntry B)) (order : IsInOrder (stored_in objects)) (fit : AreFit objects boxes) (s : PutState objects boxes os bs l) (one : os ≡ os' ++ object ∷ []) (two : bs ≡ bs' ++ box ∷ []) where
     first : IsPopped objects os' object
     first = popped objects os' object (length os) (sym s.left ∙ one)
 
@@ -198,8 +198,8 @@ module _ {B : Type 0} where
     next : drop (length os') boxes ≡ box ∷ drop (length os' + 1) boxes
     next = subst (λ (n : ℕ). drop n boxes ≡ box ∷ drop (n + 1) boxes) same second.next
 
-    after : ArePut (drop (length os' + 1) objects) (drop (length os' + 1) boxes) l
-    after = subst (λ (n : ℕ). ArePut (drop n objects) (drop n boxes) l) long s.put
+    after : AreInserted (drop (length os' + 1) objects) (drop (length os' + 1) boxes) l
+    after = subst (λ (n : ℕ). AreInserted (drop n objects) (drop n boxes) l) long s.put
 
     pub put_fits : IsSome (with_drawn object.body box)
     put_fits =
@@ -209,7 +209,7 @@ module _ {B : Type 0} where
     pub put_new : object_at object.number l ≡ None
     put_new = put_absent objects boxes (length os') object l order first.next after
 
-    pub put_more : (p : Placed B) → with_drawn object.body box ≡ Some (p.item).body → IsFresh p
+    pub put_more : (p : SlotEntry B) → with_drawn object.body box ≡ Some (p.item).body → IsFresh p
         → PutState objects boxes os' bs' (with_at object.number p l)
     put_more p is fresh = record {
       left = first.left;
@@ -219,6 +219,6 @@ module _ {B : Type 0} where
     }
 
   -- all are put
-  pub put_end : (objects : List Stored) (boxes : List (Option B)) (os : List Stored) (bs : List (Option B))
-      (l : List (ℕ × Placed B)) → length os ≡ 0 → PutState objects boxes os bs l → ArePut objects boxes l
-  put_end objects boxes os bs l none s = subst (λ (n : ℕ). ArePut (drop n objects) (drop n boxes) l) none s.put
+  pub put_end : (objects : List StoredObject) (boxes : List (Option B)) (os : List StoredObject) (bs : List (Option B))
+      (l : List (ℕ × SlotEntry B)) → length os ≡ 0 → PutState objects boxes os bs l → AreInserted objects boxes l
+  put_end objects boxes os bs l none s = subst (λ (n : ℕ). AreInserted (drop n objects) (drop n boxes) l) none s.put

@@ -8,7 +8,7 @@ use Rattle.ash_host.specs.declared.word.Word.{Word}
 use Rattle.ash_host.specs.Objects.{object_at, numbers, Lives, IsInOrder, handles_to, is_handle_to}
 use Rattle.ash_host.proofs.Order.{object_here, object_later, none_after, in_order_after}
 use Rattle.ash_slots.specs.Bodies.{words_of}
-use Rattle.ash_slots.specs.Store.{Placed, IsIn}
+use Rattle.ash_slots.specs.Store.{SlotEntry, IsIn}
 use Rattle.ash_slots.specs.Counting.{counted}
 use Rattle.ash_objects.specs.Counting.{holding, fields_in, words_at, AllLive, refer_all, face_at}
 use Rattle.ash_objects.specs.Restoring.{refer_objects}
@@ -47,24 +47,24 @@ sum_same f g same (n ∷ ns) = omega (arith, sum_by-cons f n ns, sum_by-cons g n
 
 module _ {B : Type 0} where
   -- What counting the handles of all objects leaves of each.
-  pub referred_face : (ns : List ℕ) (m : ℕ) (l : List (ℕ × Placed B)) → face_at m (refer_objects ns l) ≡ face_at m l
+  pub referred_face : (ns : List ℕ) (m : ℕ) (l : List (ℕ × SlotEntry B)) → face_at m (refer_objects ns l) ≡ face_at m l
   referred_face [] m l = refl
   referred_face (n ∷ ns) m l = referred_face ns m (refer_all (words_at n l) l) ∙ all_face (words_at n l) m l
 
-  pub referred_fields : (ns : List ℕ) (m : ℕ) (l : List (ℕ × Placed B)) → fields_in m (refer_objects ns l)
+  pub referred_fields : (ns : List ℕ) (m : ℕ) (l : List (ℕ × SlotEntry B)) → fields_in m (refer_objects ns l)
       ≡ fields_in m l
   referred_fields [] m l = refl
   referred_fields (n ∷ ns) m l = referred_fields ns m (refer_all (words_at n l) l) ∙ all_fields (words_at n l) m l
 
-  pub referred_order : (ns : List ℕ) (l : List (ℕ × Placed B)) → IsInOrder l → IsInOrder (refer_objects ns l)
+  pub referred_order : (ns : List ℕ) (l : List (ℕ × SlotEntry B)) → IsInOrder l → IsInOrder (refer_objects ns l)
   referred_order [] l o = o
   referred_order (n ∷ ns) l o = referred_order ns (refer_all (words_at n l) l) (all_order (words_at n l) l o)
 
-  pub referred_length : (ns : List ℕ) (l : List (ℕ × Placed B)) → length (refer_objects ns l) ≡ length l
+  pub referred_length : (ns : List ℕ) (l : List (ℕ × SlotEntry B)) → length (refer_objects ns l) ≡ length l
   referred_length [] l = refl
   referred_length (n ∷ ns) l = referred_length ns (refer_all (words_at n l) l) ∙ all_length (words_at n l) l
 
-  pub referred_waits : (ns : List ℕ) (l : List (ℕ × Placed B))
+  pub referred_waits : (ns : List ℕ) (l : List (ℕ × SlotEntry B))
       → ((m : ℕ) → IfSome (object_at m l) (λ p. p.waiting ≡ true)) → (m : ℕ)
       → IfSome (object_at m (refer_objects ns l)) (λ p. p.waiting ≡ true)
   referred_waits [] l each = each
@@ -73,14 +73,14 @@ module _ {B : Type 0} where
       (λ p h. h) each)
 
   -- the words that are counted are those that are there, whatever was counted before
-  pub words_after : (ws : List Word) (n : ℕ) (l : List (ℕ × Placed B)) → words_at n (refer_all ws l) ≡ words_at n l
+  pub words_after : (ws : List Word) (n : ℕ) (l : List (ℕ × SlotEntry B)) → words_at n (refer_all ws l) ≡ words_at n l
   words_after ws n l = words_at_face n (refer_all ws l) l (all_face ws n l)
 
-  pub live_after : (ws vs : List Word) (l : List (ℕ × Placed B)) → AllLive l vs → AllLive (refer_all ws l) vs
+  pub live_after : (ws vs : List Word) (l : List (ℕ × SlotEntry B)) → AllLive l vs → AllLive (refer_all ws l) vs
   live_after ws vs l alive = all_alive_face vs (refer_all ws l) l (λ k. all_face ws k l) alive
 
   -- each count rises by the handles of all
-  referred_counted : (ns : List ℕ) (m : ℕ) (l : List (ℕ × Placed B)) → ((n : ℕ) → AllLive l (words_at n l))
+  referred_counted : (ns : List ℕ) (m : ℕ) (l : List (ℕ × SlotEntry B)) → ((n : ℕ) → AllLive l (words_at n l))
       → counted m (refer_objects ns l) ≡ counted m l + sum_by (λ n. handles_to m (words_at n l)) ns
   referred_counted [] m l alive = omega arith
   referred_counted (n ∷ ns) m l alive =
@@ -90,30 +90,30 @@ module _ {B : Type 0} where
       let sums = sum_by-cons (λ k. handles_to m (words_at k l)) n ns in
       omega (arith, first, rest, same, sums)
 
-  sum_numbers : (m : ℕ) (s l : List (ℕ × Placed B)) → EachIn s l
+  sum_numbers : (m : ℕ) (s l : List (ℕ × SlotEntry B)) → EachIn s l
       → sum_by (λ n. handles_to m (words_at n l)) (numbers s) ≡ sum_by (holding m) (values_of s)
   sum_numbers m [] l h = refl
   sum_numbers m (e ∷ s) l h =
-      let here = ap (λ (v : Option (Placed B)). handles_to m (option_map_or (λ object. words_of (object.item).body) v [])) h.0 in
+      let here = ap (λ (v : Option (SlotEntry B)). handles_to m (option_map_or (λ object. words_of (object.item).body) v [])) h.0 in
       let one = sum_by-cons (λ n. handles_to m (words_at n l)) e.0 (numbers s) in
       let two = sum_by-cons (holding m) e.1 (values_of s) in
       omega (arith, here, one, two, sum_numbers m s l h.1)
 
   -- counts that were 0 are the handles in fields and elements
-  pub referred_all : (m : ℕ) (l : List (ℕ × Placed B)) → IsInOrder l → ((k : ℕ) → counted k l ≡ 0)
+  pub referred_all : (m : ℕ) (l : List (ℕ × SlotEntry B)) → IsInOrder l → ((k : ℕ) → counted k l ≡ 0)
       → ((n : ℕ) → AllLive l (words_at n l)) → counted m (refer_objects (numbers l) l) ≡ fields_in m l
   referred_all m l o none alive =
       omega (arith, referred_counted (numbers l) m l alive, none m, sum_numbers m l l (each_in l o))
 
   -- the handles of one object raise a count by no more than it has words
-  pub raised : (m : ℕ) (ws : List Word) (l : List (ℕ × Placed B)) → AllLive l ws
+  pub raised : (m : ℕ) (ws : List Word) (l : List (ℕ × SlotEntry B)) → AllLive l ws
       → counted m (refer_all ws l) ≤ counted m l + length ws
   raised m ws l alive =
       let few = count_by-le-length (is_handle_to m) ws in
       omega (arith, all_counted ws m l alive, few)
 
   -- One object's turn, where counting so far left the faces of all.
-  module _ (l cur : List (ℕ × Placed B)) (faces : (m : ℕ) → face_at m cur ≡ face_at m l) (n k : ℕ) (alive : AllLive l (words_at n l)) (short : length (words_at n l) ≤ 4096) (fits : (m : ℕ) → counted m cur ≤ 4096 * k) where
+  module _ (l cur : List (ℕ × SlotEntry B)) (faces : (m : ℕ) → face_at m cur ≡ face_at m l) (n k : ℕ) (alive : AllLive l (words_at n l)) (short : length (words_at n l) ≤ 4096) (fits : (m : ℕ) → counted m cur ≤ 4096 * k) where
     alive_now : AllLive cur (words_at n cur)
     alive_now =
         subst (λ (ws : List Word). AllLive cur ws) (sym (words_at_face n cur l (faces n)))
@@ -137,6 +137,6 @@ module _ {B : Type 0} where
     pub turn_faces : (m : ℕ) → face_at m (refer_all (words_at n cur) cur) ≡ face_at m l
     turn_faces m = all_face (words_at n cur) m cur ∙ faces m
 
-  pub turn_rest : (list : List ℕ) (n k : ℕ) (cur : List (ℕ × Placed B)) → drop k list ≡ n ∷ drop (k + 1) list
+  pub turn_rest : (list : List ℕ) (n k : ℕ) (cur : List (ℕ × SlotEntry B)) → drop k list ≡ n ∷ drop (k + 1) list
       → refer_objects (drop (k + 1) list) (refer_all (words_at n cur) cur) ≡ refer_objects (drop k list) cur
   turn_rest list n k cur is = sym (ap (λ (ns : List ℕ). refer_objects ns cur) is)

@@ -8,13 +8,14 @@ use Rattle.ash_host.specs.declared.word.Word.{Word}
 use Rattle.ash_host.specs.Objects.{object_at, IsInOrder, Lives, handles_to, is_handle_to, handle}
 use Rattle.ash_slots.specs.declared.entry.Item.{Item}
 use Rattle.ash_slots.specs.Bodies.{words_of}
-use Rattle.ash_slots.specs.Store.{Placed, IsIn}
+use Rattle.ash_slots.specs.Store.{SlotEntry, IsIn}
 use Rattle.ash_objects.specs.Counting.{fields_in, AllLive, AreGiven, refer_all, words_at, living_in, face, face_at}
-use Rattle.ash_slots.specs.Counting.{counted, once_more, change_handle}
+use Rattle.ash_slots.specs.Counting.{counted, incremented, change_handle}
 use Rattle.ash_objects.specs.Table.{Living}
 use Rattle.ash_objects.proofs.Counts.{given-change}
 use Rattle.ash_objects.proofs.Views.{alive_view}
-use Rattle.ash_objects.proofs.Fields.{face_more, hits, hits_word, handle_fields, handle_order, handle_length, handle_each, more_handle}
+use Rattle.ash_objects.proofs.Handles.{hits, hits_word}
+use Rattle.ash_objects.proofs.Fields.{face_more, handle_fields, handle_order, handle_length, handle_each, more_handle}
 
 -- a handle counts once at the most
 pub hits_small : (h : Option ℕ) (m : ℕ) → hits h m ≤ 1
@@ -63,27 +64,27 @@ word_alive P (x ∷ ws) (suc k) w h all = word_alive P ws k w h (All-tail P x ws
 
 module _ {B : Type 0} where
   -- what lives in one of two stores with the same objects lives in the other
-  pub lives_face : (k : ℕ) (a b : List (ℕ × Placed B)) → face_at k a ≡ face_at k b → Lives b k → Lives a k
+  pub lives_face : (k : ℕ) (a b : List (ℕ × SlotEntry B)) → face_at k a ≡ face_at k b → Lives b k → Lives a k
   lives_face k a b same h = go (object_at k a) (object_at k b) same h
     where
-      go : (v u : Option (Placed B)) → option_map face v ≡ option_map face u → IsSome u → IsSome v
+      go : (v u : Option (SlotEntry B)) → option_map face v ≡ option_map face u → IsSome u → IsSome v
       go v None e h = absurd (cc)
       go None (Some q) e h = absurd (cc)
       go (Some p) (Some q) e h = refl
 
-  pub alive_face : (h : Option ℕ) (a b : List (ℕ × Placed B)) → ((k : ℕ) → face_at k a ≡ face_at k b)
+  pub alive_face : (h : Option ℕ) (a b : List (ℕ × SlotEntry B)) → ((k : ℕ) → face_at k a ≡ face_at k b)
       → IfSome h (Lives b) → IfSome h (Lives a)
   alive_face None a b same alive = tt
   alive_face (Some k) a b same alive = lives_face k a b (same k) alive
 
-  pub all_alive_face : (ws : List Word) (a b : List (ℕ × Placed B)) → ((k : ℕ) → face_at k a ≡ face_at k b)
+  pub all_alive_face : (ws : List Word) (a b : List (ℕ × SlotEntry B)) → ((k : ℕ) → face_at k a ≡ face_at k b)
       → AllLive b ws → AllLive a ws
   all_alive_face ws a b same all = λ k d within. alive_face (handle (get_or ws k d)) a b same (all k d within)
 
-  pub words_at_face : (n : ℕ) (a b : List (ℕ × Placed B)) → face_at n a ≡ face_at n b → words_at n a ≡ words_at n b
+  pub words_at_face : (n : ℕ) (a b : List (ℕ × SlotEntry B)) → face_at n a ≡ face_at n b → words_at n a ≡ words_at n b
   words_at_face n a b same = go (object_at n a) (object_at n b) same
     where
-      go : (v u : Option (Placed B)) → option_map face v ≡ option_map face u
+      go : (v u : Option (SlotEntry B)) → option_map face v ≡ option_map face u
           → option_map_or (λ object. words_of (object.item).body) v []
           ≡ option_map_or (λ object. words_of (object.item).body) u []
       go None None e = refl
@@ -92,89 +93,89 @@ module _ {B : Type 0} where
       go (Some p) (Some q) e = let one : face p ≡ face q = cc in ap (λ (x : Living B). words_of x.body) one
 
   -- one handle raises no count by more than one
-  pub more_most : (h : Option ℕ) (m : ℕ) (l : List (ℕ × Placed B)) → IfSome h (Lives l)
-      → counted m (change_handle once_more h l) ≤ counted m l + 1
+  pub more_most : (h : Option ℕ) (m : ℕ) (l : List (ℕ × SlotEntry B)) → IfSome h (Lives l)
+      → counted m (change_handle incremented h l) ≤ counted m l + 1
   more_most h m l alive = omega (arith, more_handle h m l alive, hits_small h m)
 
   -- the words of an object are those of its item
-  pub words_item : (n : ℕ) (l : List (ℕ × Placed B)) (it : Item B)
+  pub words_item : (n : ℕ) (l : List (ℕ × SlotEntry B)) (it : Item B)
       → IsSomeAnd (object_at n l) (λ object. object.item ≡ it) → words_at n l ≡ words_of it.body
   words_item n l it h = go (object_at n l) h
     where
-      go : (v : Option (Placed B)) → IsSomeAnd v (λ object. object.item ≡ it)
+      go : (v : Option (SlotEntry B)) → IsSomeAnd v (λ object. object.item ≡ it)
           → option_map_or (λ object. words_of (object.item).body) v [] ≡ words_of it.body
       go None h = absurd h
       go (Some p) h = ap (λ (i : Item B). words_of i.body) h
 
-  pub word_within : (n slot place : ℕ) (l : List (ℕ × Placed B)) → IsIn n slot l → place < length (words_at n l)
+  pub word_within : (n slot place : ℕ) (l : List (ℕ × SlotEntry B)) → IsIn n slot l → place < length (words_at n l)
       → IsSomeAnd (object_at n l) (λ object. place < length (words_of (object.item).body))
   word_within n slot place l h within = go (object_at n l) h within
     where
-      go : (v : Option (Placed B)) → IsSomeAnd v (λ object. object.slot ≡ slot)
+      go : (v : Option (SlotEntry B)) → IsSomeAnd v (λ object. object.slot ≡ slot)
           → place < length (option_map_or (λ object. words_of (object.item).body) v [])
           → IsSomeAnd v (λ object. place < length (words_of (object.item).body))
       go None h within = absurd h
       go (Some p) h within = within
 
-  pub word_got : (n place : ℕ) (w : Word) (l : List (ℕ × Placed B))
+  pub word_got : (n place : ℕ) (w : Word) (l : List (ℕ × SlotEntry B))
       → IsSomeAnd (object_at n l) (λ object. slice_get (words_of (object.item).body) place ≡ Some w)
       → slice_get (words_at n l) place ≡ Some w
   word_got n place w l h = go (object_at n l) h
     where
-      go : (v : Option (Placed B)) → IsSomeAnd v (λ object. slice_get (words_of (object.item).body) place ≡ Some w)
+      go : (v : Option (SlotEntry B)) → IsSomeAnd v (λ object. slice_get (words_of (object.item).body) place ≡ Some w)
           → slice_get (option_map_or (λ object. words_of (object.item).body) v []) place ≡ Some w
       go None h = absurd h
       go (Some p) h = h
 
   -- what counting the handles among words leaves of each object
-  pub all_face : (ws : List Word) (m : ℕ) (l : List (ℕ × Placed B)) → face_at m (refer_all ws l) ≡ face_at m l
+  pub all_face : (ws : List Word) (m : ℕ) (l : List (ℕ × SlotEntry B)) → face_at m (refer_all ws l) ≡ face_at m l
   all_face [] m l = refl
-  all_face (w ∷ ws) m l = all_face ws m (change_handle once_more (handle w) l) ∙ face_more (handle w) m l
+  all_face (w ∷ ws) m l = all_face ws m (change_handle incremented (handle w) l) ∙ face_more (handle w) m l
 
-  pub all_fields : (ws : List Word) (m : ℕ) (l : List (ℕ × Placed B)) → fields_in m (refer_all ws l) ≡ fields_in m l
+  pub all_fields : (ws : List Word) (m : ℕ) (l : List (ℕ × SlotEntry B)) → fields_in m (refer_all ws l) ≡ fields_in m l
   all_fields [] m l = refl
   all_fields (w ∷ ws) m l =
-      all_fields ws m (change_handle once_more (handle w) l) ∙ handle_fields once_more (λ p. refl) (handle w) m l
+      all_fields ws m (change_handle incremented (handle w) l) ∙ handle_fields incremented (λ p. refl) (handle w) m l
 
-  pub all_order : (ws : List Word) (l : List (ℕ × Placed B)) → IsInOrder l → IsInOrder (refer_all ws l)
+  pub all_order : (ws : List Word) (l : List (ℕ × SlotEntry B)) → IsInOrder l → IsInOrder (refer_all ws l)
   all_order [] l o = o
   all_order (w ∷ ws) l o =
-      all_order ws (change_handle once_more (handle w) l) (handle_order once_more (λ p. refl) (handle w) l o)
+      all_order ws (change_handle incremented (handle w) l) (handle_order incremented (λ p. refl) (handle w) l o)
 
-  pub all_length : (ws : List Word) (l : List (ℕ × Placed B)) → length (refer_all ws l) ≡ length l
+  pub all_length : (ws : List Word) (l : List (ℕ × SlotEntry B)) → length (refer_all ws l) ≡ length l
   all_length [] l = refl
   all_length (w ∷ ws) l =
-      all_length ws (change_handle once_more (handle w) l) ∙ handle_length once_more (λ p. refl) (handle w) l
+      all_length ws (change_handle incremented (handle w) l) ∙ handle_length incremented (λ p. refl) (handle w) l
 
-  pub all_each : (P : Placed B → Type 0) (ws : List Word) (l : List (ℕ × Placed B))
-      → ((p : Placed B) → P p → P (once_more p)) → ((m : ℕ) → IfSome (object_at m l) P) → (m : ℕ)
+  pub all_each : (P : SlotEntry B → Type 0) (ws : List Word) (l : List (ℕ × SlotEntry B))
+      → ((p : SlotEntry B) → P p → P (incremented p)) → ((m : ℕ) → IfSome (object_at m l) P) → (m : ℕ)
       → IfSome (object_at m (refer_all ws l)) P
   all_each P [] l keeps each = each
   all_each P (w ∷ ws) l keeps each =
-      all_each P ws (change_handle once_more (handle w) l) keeps (handle_each once_more (λ p. refl) P (handle w) l
+      all_each P ws (change_handle incremented (handle w) l) keeps (handle_each incremented (λ p. refl) P (handle w) l
       (λ p k h is. keeps p) each)
 
-  pub all_given : (last : ℕ) (ws : List Word) (l : List (ℕ × Placed B)) → AreGiven last l
+  pub all_given : (last : ℕ) (ws : List Word) (l : List (ℕ × SlotEntry B)) → AreGiven last l
       → AreGiven last (refer_all ws l)
   all_given last [] l given = given
-  all_given last (w ∷ ws) l given = all_given last ws (change_handle once_more (handle w) l) (go (handle w))
+  all_given last (w ∷ ws) l given = all_given last ws (change_handle incremented (handle w) l) (go (handle w))
     where
-      go : (h : Option ℕ) → AreGiven last (change_handle once_more h l)
+      go : (h : Option ℕ) → AreGiven last (change_handle incremented h l)
       go None = given
-      go (Some k) = given-change last k once_more l given
+      go (Some k) = given-change last k incremented l given
 
   -- each count rises by the handles
-  pub all_counted : (ws : List Word) (m : ℕ) (l : List (ℕ × Placed B)) → AllLive l ws → counted m (refer_all ws l)
+  pub all_counted : (ws : List Word) (m : ℕ) (l : List (ℕ × SlotEntry B)) → AllLive l ws → counted m (refer_all ws l)
       ≡ counted m l + handles_to m ws
   all_counted [] m l alive = omega arith
   all_counted (w ∷ ws) m l alive =
       let head = All-head (λ x. IfSome (handle x) (Lives l)) w ws alive in
       let tail = All-tail (λ x. IfSome (handle x) (Lives l)) w ws alive in
       let first = more_handle (handle w) m l head in
-      let rest = all_counted ws m (change_handle once_more (handle w) l) (all_alive_face ws (change_handle once_more (handle w) l) l (λ k. face_more (handle w) k l) tail) in
+      let rest = all_counted ws m (change_handle incremented (handle w) l) (all_alive_face ws (change_handle incremented (handle w) l) l (λ k. face_more (handle w) k l) tail) in
       omega (arith, first, rest, handles-cons m w ws)
 
 -- words that are alive for a contract are
-pub all_alive_view : {B : Type 0} (ws : List Word) (l : List (ℕ × Placed B))
+pub all_alive_view : {B : Type 0} (ws : List Word) (l : List (ℕ × SlotEntry B))
     → All (λ word. IfSome (handle word) (Lives (living_in l))) ws → AllLive l ws
 all_alive_view ws l all = λ k d within. alive_view (handle (get_or ws k d)) l (all k d within)

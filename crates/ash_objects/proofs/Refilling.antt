@@ -1,32 +1,31 @@
 -- What other elements leave of an array and of the table.
-use Rattle.std.proofs.Common.{◌≡◌, ℕ, Bool, true, false, cond, List, [], ◌∷◌, ◌++◌, refl, sym, subst, ap, ◌∙◌, nat_eq, arith, Option, Some, None, length, ◌+◌, ◌-◌, ◌*◌, ◌≤◌, ◌<◌, take, drop, replicate}
-use Rattle.std.specs.Prelude.{IsSomeAnd, IsSome, IfSome, slice_get, slice_set}
+use Rattle.std.proofs.Common.{◌≡◌, ℕ, Bool, true, false, cond, List, [], ◌∷◌, refl, sym, subst, ap, ◌∙◌, nat_eq, arith, Option, Some, None, length, ◌+◌, ◌-◌, ◌*◌, ◌≤◌, ◌<◌, take, drop, replicate}
+use Rattle.std.specs.Prelude.{IsSomeAnd, IsSome, IfSome}
 use Rattle.std.specs.Option.{option_map, option_map_or, option_and_then}
 use Rattle.std.proofs.lemmas.Bool.{eq-eqb}
 use Rattle.std.proofs.lemmas.List.{take-append-drop, length-append, length-replicate}
 use Rattle.std.proofs.lemmas.List.Sums.{sum_by-append}
 use Rattle.std.proofs.lemmas.List.Folds.{sum_by-replicate}
 use Rattle.ash_host.specs.declared.word.Word.{Word}
-use Rattle.ash_host.specs.Objects.{object_at, IsInOrder, Lives, handles_to, is_handle_to, handle}
+use Rattle.ash_host.specs.Objects.{object_at, IsInOrder, handles_to, is_handle_to, handle}
 use Rattle.ash_slots.specs.declared.body.Body.{Body}
 use Rattle.ash_slots.specs.declared.body.Body.TheVariants.{Script, Array, Host}
 use Rattle.ash_slots.specs.declared.body.Array as arrays
 use Rattle.ash_slots.specs.declared.body.Element.{Element}
 use Rattle.ash_slots.specs.declared.entry.Item.{Item}
 use Rattle.ash_slots.specs.declared.body.Element.TheVariants as elements
-use Rattle.ash_slots.specs.Bodies.{words_of, with_word, initial_of}
+use Rattle.ash_slots.specs.Bodies.{words_of, initial_of}
 use Rattle.ash_slots.specs.Arrays.{array_of, with_words, stored_array, refilled, lengthened}
 use Rattle.ash_objects.specs.Arrays.{array_at, elements_of, elements_at, with_elements}
-use Rattle.ash_slots.specs.Store.{Placed, IsIn, with_item, change_at}
-use Rattle.ash_objects.specs.Table.{Living, Table, body_of, slot_of, field_of, with_object, with_field}
+use Rattle.ash_slots.specs.Store.{SlotEntry, IsIn, with_item, change_at}
+use Rattle.ash_objects.specs.Table.{Living, Table, body_of}
 use Rattle.ash_objects.specs.Counting.{face, face_at, holding, fields_in, living_in, AreCounted, AreGiven, IsTable, release_all}
-use Rattle.ash_slots.specs.Counting.{counted, once_less, change_handle}
+use Rattle.ash_slots.specs.Counting.{counted, decremented, change_handle}
 use Rattle.ash_slots.proofs.Changing.{object_at-change, length-change, in_order-change, sum-change, change_over}
 use Rattle.ash_slots.proofs.Options.{some_of}
 use Rattle.ash_objects.proofs.Counts.{numbers-living, each-change, given-change}
 use Rattle.ash_objects.proofs.Fields.{view_face, counted_same, in_face}
 use Rattle.ash_objects.proofs.Releasing.{released_face, released_fields, released_order, released_length, released_each, released_counted}
-use Rattle.ash_slots.proofs.Steps.{change_same}
 use Rattle.ash_objects.proofs.Views.{body_view, body_item}
 
 -- where it is enough to know what is there
@@ -64,28 +63,13 @@ handles_split m k ws =
     let f : Word → ℕ = λ x. cond {A = ℕ} (is_handle_to m x) 1 0 in
     sym (sum_by-append f (take k ws) (drop k ws)) ∙ ap (λ (l : List Word). handles_to m l) (take-append-drop k ws)
 
-got_last : (ws : List Word) (w : Word) → IsSome (slice_get (ws ++ w ∷ []) (length ws))
-got_last [] w = refl
-got_last (x ∷ ws) w = got_last ws w
-
-set_last : (ws : List Word) (first word : Word) → slice_set (ws ++ first ∷ []) (length ws) word ≡ ws ++ word ∷ []
-set_last [] first word = refl
-set_last (x ∷ ws) first word = ap (λ (l : List Word). x ∷ l) (set_last ws first word)
-
--- one initial value more
-pub one_longer : (k : ℕ) (array : arrays.Array) → k ≡ length array.elements → lengthened (k + 1) array
-    ≡ array.elements ++ initial_of array.element ∷ []
-one_longer k array is =
-    let one : (k + 1) - length array.elements ≡ 1 = omega arith in
-    ap (λ (j : ℕ). array.elements ++ replicate j (initial_of array.element)) one
-
 module _ {B : Type 0} where
   words_array : (body : Body B) (array : arrays.Array) → array_of body ≡ Some array → words_of body ≡ array.elements
   words_array (Script script) array h = cc
   words_array (Array own) array h = let same : own ≡ array = cc in ap (λ (y : arrays.Array). y.elements) same
   words_array (Host box) array h = cc
 
-  words_filled : (ws : List Word) (body : Body B) (array : arrays.Array) → array_of body ≡ Some array
+  pub words_filled : (ws : List Word) (body : Body B) (array : arrays.Array) → array_of body ≡ Some array
       → words_of (with_words ws body) ≡ ws
   words_filled ws (Script script) array h = cc
   words_filled ws (Array own) array h = refl
@@ -103,61 +87,61 @@ module _ {B : Type 0} where
   short_filled ws few (Array own) h = few
   short_filled ws few (Host box) h = h
 
-  pub in_refilled : (n slot : ℕ) (ws : List Word) (l : List (ℕ × Placed B)) → IsIn n slot l
+  pub in_refilled : (n slot : ℕ) (ws : List Word) (l : List (ℕ × SlotEntry B)) → IsIn n slot l
       → IsIn n slot (change_at n (refilled ws) l)
-  in_refilled n slot ws l h = subst (λ (v : Option (Placed B)). IsSomeAnd v (λ object. object.slot ≡ slot)) (sym (object_at-change n (refilled ws) n l)) (go (nat_eq n n) (object_at n l) h)
+  in_refilled n slot ws l h = subst (λ (v : Option (SlotEntry B)). IsSomeAnd v (λ object. object.slot ≡ slot)) (sym (object_at-change n (refilled ws) n l)) (go (nat_eq n n) (object_at n l) h)
     where
-      go : (b : Bool) (v : Option (Placed B)) → IsSomeAnd v (λ object. object.slot ≡ slot)
+      go : (b : Bool) (v : Option (SlotEntry B)) → IsSomeAnd v (λ object. object.slot ≡ slot)
           → IsSomeAnd (cond b (option_map (refilled ws) v) v) (λ object. object.slot ≡ slot)
       go b None h = absurd h
       go true (Some p) h = h
       go false (Some p) h = h
 
   -- what a contract sees of an array is what is there
-  pub array_view : (n : ℕ) (l : List (ℕ × Placed B))
+  pub array_view : (n : ℕ) (l : List (ℕ × SlotEntry B))
       → option_and_then array_of (option_map (λ object. object.body) (object_at n (living_in l))) ≡ stored_array n l
   array_view n l = ap (λ (v : Option (Body B)). option_and_then array_of v) (body_view n l) ∙ go (object_at n l)
     where
-      go : (v : Option (Placed B)) → option_and_then array_of (option_map (λ object. (object.item).body) v)
+      go : (v : Option (SlotEntry B)) → option_and_then array_of (option_map (λ object. (object.item).body) v)
           ≡ option_and_then (λ object. array_of (object.item).body) v
       go None = refl
       go (Some p) = refl
 
   -- and so are its elements
-  pub elements_view : (n : ℕ) (l : List (ℕ × Placed B)) (it : Item B)
+  pub elements_view : (n : ℕ) (l : List (ℕ × SlotEntry B)) (it : Item B)
       → IsSomeAnd (object_at n l) (λ object. object.item ≡ it)
       → option_and_then elements_of (option_map (λ object. object.body) (object_at n (living_in l)))
       ≡ elements_of it.body
   elements_view n l it mine =
       ap (λ (v : Option (Body B)). option_and_then elements_of v) (body_view n l ∙ body_item n l it mine)
 
-  pub found_array : (n : ℕ) (l : List (ℕ × Placed B))
+  pub found_array : (n : ℕ) (l : List (ℕ × SlotEntry B))
       → IsSome (option_and_then array_of (option_map (λ object. object.body) (object_at n (living_in l))))
       → (array : arrays.Array) × (stored_array n l ≡ Some array)
   found_array n l h = some_of (stored_array n l) (subst (λ (v : Option arrays.Array). IsSome v) (array_view n l) h)
 
-  face_refilled : (n m : ℕ) (ws : List Word) (l : List (ℕ × Placed B)) → face_at m (change_at n (refilled ws) l)
+  face_refilled : (n m : ℕ) (ws : List Word) (l : List (ℕ × SlotEntry B)) → face_at m (change_at n (refilled ws) l)
       ≡ cond (nat_eq n m) (option_map (with_elements ws) (face_at m l)) (face_at m l)
-  face_refilled n m ws l = ap (λ (v : Option (Placed B)). option_map face v) (object_at-change n (refilled ws) m l) ∙ each (nat_eq n m) (object_at m l)
+  face_refilled n m ws l = ap (λ (v : Option (SlotEntry B)). option_map face v) (object_at-change n (refilled ws) m l) ∙ each (nat_eq n m) (object_at m l)
     where
-      each : (b : Bool) (v : Option (Placed B)) → option_map face (cond b (option_map (refilled ws) v) v)
+      each : (b : Bool) (v : Option (SlotEntry B)) → option_map face (cond b (option_map (refilled ws) v) v)
           ≡ cond b (option_map (with_elements ws) (option_map face v)) (option_map face v)
       each false v = refl
       each true None = refl
       each true (Some p) = refl
 
-  array_face : (n : ℕ) (l : List (ℕ × Placed B))
+  array_face : (n : ℕ) (l : List (ℕ × SlotEntry B))
       → stored_array n l ≡ option_and_then (λ x. array_of x.body) (face_at n l)
   array_face n l = go (object_at n l)
     where
-      go : (v : Option (Placed B)) → option_and_then (λ object. array_of (object.item).body) v
+      go : (v : Option (SlotEntry B)) → option_and_then (λ object. array_of (object.item).body) v
           ≡ option_and_then (λ x. array_of x.body) (option_map face v)
       go None = refl
       go (Some p) = refl
 
-  pub array_refilled : (n : ℕ) (ws : List Word) (l : List (ℕ × Placed B)) (array : arrays.Array) → stored_array n l ≡ Some array → stored_array n (change_at n (refilled ws) l) ≡ Some (record array { elements = ws })
+  pub array_refilled : (n : ℕ) (ws : List Word) (l : List (ℕ × SlotEntry B)) (array : arrays.Array) → stored_array n l ≡ Some array → stored_array n (change_at n (refilled ws) l) ≡ Some (record array { elements = ws })
   array_refilled n ws l array there =
-      ap (λ (v : Option (Placed B)). option_and_then (λ object. array_of (object.item).body) v) (object_at-change n (refilled ws) n l ∙ ap (λ (b : Bool). cond b (option_map (refilled ws) (object_at n l)) (object_at n l)) (eq-eqb n n refl))
+      ap (λ (v : Option (SlotEntry B)). option_and_then (λ object. array_of (object.item).body) v) (object_at-change n (refilled ws) n l ∙ ap (λ (b : Bool). cond b (option_map (refilled ws) (object_at n l)) (object_at n l)) (eq-eqb n n refl))
       ∙ go (object_at n l) there
     where
       body : (b : Body B) → array_of b ≡ Some array → array_of (with_words ws b) ≡ Some (record array { elements = ws })
@@ -165,11 +149,11 @@ module _ {B : Type 0} where
       body (Array own) h = let same : own ≡ array = cc in ap (λ (a : arrays.Array). Some (record a { elements = ws })) same
       body (Host box) h = cc
 
-      go : (v : Option (Placed B)) → option_and_then (λ object. array_of (object.item).body) v ≡ Some array → option_and_then (λ object. array_of (object.item).body) (option_map (refilled ws) v) ≡ Some (record array { elements = ws })
+      go : (v : Option (SlotEntry B)) → option_and_then (λ object. array_of (object.item).body) v ≡ Some array → option_and_then (λ object. array_of (object.item).body) (option_map (refilled ws) v) ≡ Some (record array { elements = ws })
       go None h = cc
       go (Some p) h = body (p.item).body h
 
-  fields_refilled : (n m : ℕ) (ws : List Word) (l : List (ℕ × Placed B)) → IsInOrder l → (array : arrays.Array)
+  fields_refilled : (n m : ℕ) (ws : List Word) (l : List (ℕ × SlotEntry B)) → IsInOrder l → (array : arrays.Array)
       → stored_array n l ≡ Some array → fields_in m (change_at n (refilled ws) l) + handles_to m array.elements
       ≡ fields_in m l + handles_to m ws
   fields_refilled n m ws l o array there =
@@ -179,7 +163,7 @@ module _ {B : Type 0} where
       let now = at.1 in
       omega (arith, sums, was, now)
     where
-      go : (v : Option (Placed B)) → option_and_then (λ object. array_of (object.item).body) v ≡ Some array
+      go : (v : Option (SlotEntry B)) → option_and_then (λ object. array_of (object.item).body) v ≡ Some array
           → (option_map_or (holding m) v 0 ≡ handles_to m array.elements)
           × (option_map_or (λ x. holding m (refilled ws x)) v 0 ≡ handles_to m ws)
       go None h = cc
@@ -188,26 +172,26 @@ module _ {B : Type 0} where
         ap (λ (k : List Word). handles_to m k) (words_filled ws (p.item).body array h),
       )
 
-  given_released : (last : ℕ) (ws : List Word) (l : List (ℕ × Placed B)) → AreGiven last l
+  given_released : (last : ℕ) (ws : List Word) (l : List (ℕ × SlotEntry B)) → AreGiven last l
       → AreGiven last (release_all ws l)
   given_released last [] l given = given
-  given_released last (w ∷ ws) l given = given_released last ws (change_handle once_less (handle w) l) (go (handle w))
+  given_released last (w ∷ ws) l given = given_released last ws (change_handle decremented (handle w) l) (go (handle w))
     where
-      go : (h : Option ℕ) → AreGiven last (change_handle once_less h l)
+      go : (h : Option ℕ) → AreGiven last (change_handle decremented h l)
       go None = given
-      go (Some k) = given-change last k once_less l given
+      go (Some k) = given-change last k decremented l given
 
-  idle_waits : (p : Placed B) → 0 < (p.item).count → ((once_less p).item).count ≡ 0 → (once_less p).waiting ≡ true
+  idle_waits : (p : SlotEntry B) → 0 < (p.item).count → ((decremented p).item).count ≡ 0 → (decremented p).waiting ≡ true
   idle_waits p some none =
       let one : (p.item).count ≡ 1 = omega arith in
       ap (λ (b : Bool). cond b true p.waiting) (eq-eqb (p.item).count 1 one)
 
   -- The elements of an array were taken out, those that go were uncounted, and others were put in.
-  module _ (n : ℕ) (array : arrays.Array) (cut ws : List Word) (split : (m : ℕ) → handles_to m ws + handles_to m cut ≡ handles_to m array.elements) (few : length ws ≤ 4096) (l : List (ℕ × Placed B)) (o : IsInOrder l) (s : AreCounted l) (there : stored_array n l ≡ Some array) where
-    abbrev pub emptied : List (ℕ × Placed B)
+  module _ (n : ℕ) (array : arrays.Array) (cut ws : List Word) (split : (m : ℕ) → handles_to m ws + handles_to m cut ≡ handles_to m array.elements) (few : length ws ≤ 4096) (l : List (ℕ × SlotEntry B)) (o : IsInOrder l) (s : AreCounted l) (there : stored_array n l ≡ Some array) where
+    abbrev pub emptied : List (ℕ × SlotEntry B)
     emptied = change_at n (refilled []) l
 
-    abbrev pub after_refill : List (ℕ × Placed B)
+    abbrev pub after_refill : List (ℕ × SlotEntry B)
     after_refill = change_at n (refilled ws) (release_all cut (change_at n (refilled []) l))
 
     fields_emptied : (m : ℕ) → fields_in m emptied + handles_to m array.elements ≡ fields_in m l
@@ -302,16 +286,16 @@ module _ {B : Type 0} where
     }
 
   -- an array is no longer than it may be
-  pub array_short : (n : ℕ) (l : List (ℕ × Placed B)) → AreCounted l → (array : arrays.Array)
+  pub array_short : (n : ℕ) (l : List (ℕ × SlotEntry B)) → AreCounted l → (array : arrays.Array)
       → stored_array n l ≡ Some array → length array.elements ≤ 4096
   array_short n l s array there = go (object_at n l) (s.short n) there
     where
-      go : (v : Option (Placed B)) → IfSome v (λ object. length (words_of (object.item).body) ≤ 4096)
+      go : (v : Option (SlotEntry B)) → IfSome v (λ object. length (words_of (object.item).body) ≤ 4096)
           → option_and_then (λ object. array_of (object.item).body) v ≡ Some array → length array.elements ≤ 4096
       go None short h = cc
       go (Some p) short h = let same = ap length (words_array (p.item).body array h) in omega (arith, same, short)
 
-  module _ (n len : ℕ) (array : arrays.Array) (l : List (ℕ × Placed B)) (last settled : ℕ) (t : IsTable l last settled) (there : stored_array n l ≡ Some array) where
+  module _ (n len : ℕ) (array : arrays.Array) (l : List (ℕ × SlotEntry B)) (last settled : ℕ) (t : IsTable l last settled) (there : stored_array n l ≡ Some array) where
     short_cut : length (take len array.elements) ≤ 4096
     short_cut = omega (arith, take_short len array.elements, array_short n l t.counted array there)
 
@@ -373,73 +357,9 @@ module _ {B : Type 0} where
 
       pub table_longer : IsTable (change_at n (refilled (lengthened len array)) l) last settled
       table_longer =
-          subst (λ (k : List (ℕ × Placed B)). IsTable k last settled) at_once
+          subst (λ (k : List (ℕ × SlotEntry B)). IsTable k last settled) at_once
           (table_refill n array [] (lengthened len array) split_longer short_longer l t.in_order t.counted there
           last settled t)
-
-  -- an element was appended, and then written
-  module _ (n : ℕ) (t : Table B) (o : IsInOrder t.objects) (array : arrays.Array) (there : array_at n t ≡ Some array) (word first : Word) where
-    abbrev pub with_first : Table B
-    with_first = with_object n (with_elements (array.elements ++ first ∷ [])) t
-
-    it_is : (x : Living B) → object_at n t.objects ≡ Some x → array_of x.body ≡ Some array
-    it_is x is =
-        sym (ap (λ (v : Option (Living B)). option_and_then array_of (option_map (λ object. object.body) v)) is)
-        ∙ there
-
-    at_first : object_at n with_first.objects
-        ≡ option_map (with_elements (array.elements ++ first ∷ [])) (object_at n t.objects)
-    at_first =
-        object_at-change n (with_elements (array.elements ++ first ∷ [])) n t.objects
-        ∙ ap (λ (b : Bool). cond b
-        (option_map (with_elements (array.elements ++ first ∷ [])) (object_at n t.objects))
-        (object_at n t.objects)) (eq-eqb n n refl)
-
-    pub field_there : IsSome (field_of n (length array.elements) with_first)
-    field_there = subst (λ (v : Option (Living B)). IsSome (option_and_then (λ object. slice_get (words_of object.body) (length array.elements)) v)) (sym at_first) (go (object_at n t.objects) refl)
-      where
-        go : (v : Option (Living B)) → object_at n t.objects ≡ v
-            → IsSome (option_and_then (λ object. slice_get (words_of object.body) (length array.elements))
-            (option_map (with_elements (array.elements ++ first ∷ [])) v))
-        go None is = let none = sym (ap (λ (v : Option (Living B)). option_and_then array_of (option_map (λ object. object.body) v)) is) ∙ there in absurd (cc)
-        go (Some x) is =
-            subst (λ (ws : List Word). IsSome (slice_get ws (length array.elements)))
-            (sym (words_filled (array.elements ++ first ∷ []) x.body array (it_is x is)))
-            (got_last array.elements first)
-
-    pub slot_there : slot_of n with_first ≡ slot_of n t
-    slot_there = ap (λ (v : Option (Living B)). option_map (λ object. object.slot) v) at_first ∙ go (object_at n t.objects)
-      where
-        go : (v : Option (Living B))
-            → option_map (λ object. object.slot) (option_map (with_elements (array.elements ++ first ∷ [])) v)
-            ≡ option_map (λ object. object.slot) v
-        go None = refl
-        go (Some x) = refl
-
-    pub alive_there : (h : Option ℕ) → IfSome h (Lives t.objects) → IfSome h (Lives with_first.objects)
-    alive_there None h = tt
-    alive_there (Some m) h = subst (λ (v : Option (Living B)). IsSome v) (sym (object_at-change n (with_elements (array.elements ++ first ∷ [])) m t.objects)) (go (nat_eq n m) (object_at m t.objects) h)
-      where
-        go : (b : Bool) (v : Option (Living B)) → IsSome v
-            → IsSome (cond b (option_map (with_elements (array.elements ++ first ∷ [])) v) v)
-        go true None h = h
-        go true (Some x) h = refl
-        go false v h = h
-
-    pub written_there : with_object n (with_field (length array.elements) word) with_first
-        ≡ with_object n (with_elements (array.elements ++ word ∷ [])) t
-    written_there =
-        ap (λ (l : List (ℕ × Living B)). record t { objects = l })
-        (change_over n (with_field (length array.elements) word) (with_elements (array.elements ++ first ∷ [])) (λ x. with_field (length array.elements) word (with_elements (array.elements ++ first ∷ []) x)) (λ x. refl) t.objects
-        ∙ change_same n (λ x. with_field (length array.elements) word (with_elements (array.elements ++ first ∷ []) x)) (with_elements (array.elements ++ word ∷ [])) t.objects o (λ x is. ap (λ (b : Body B). record { slot = x.slot; holds = x.holds; touched = true; body = b }) (body x.body (it_is x is))))
-      where
-        body : (b : Body B) → array_of b ≡ Some array
-            → with_word (length array.elements) word (with_words (array.elements ++ first ∷ []) b)
-            ≡ with_words (array.elements ++ word ∷ []) b
-        body (Script script) h = cc
-        body (Array own) h =
-            ap (λ (ws : List Word). Array (record own { elements = ws })) (set_last array.elements first word)
-        body (Host box) h = cc
 
   pub elements_array : (n : ℕ) (t : Table B) (array : arrays.Array) → array_at n t ≡ Some array
       → elements_at n t ≡ Some array.elements
@@ -452,5 +372,5 @@ module _ {B : Type 0} where
       go (Some (Array own)) h = let same : own ≡ array = cc in ap (λ (a : arrays.Array). Some a.elements) same
       go (Some (Host box)) h = cc
 
-  pub order_view : (l : List (ℕ × Placed B)) → IsInOrder l → IsInOrder (living_in l)
+  pub order_view : (l : List (ℕ × SlotEntry B)) → IsInOrder l → IsInOrder (living_in l)
   order_view l o = rw (numbers-living l l) o

@@ -8,13 +8,13 @@ use Rattle.ash_host.specs.Objects.{object_at, numbers, Lives, IsInOrder, AreNumb
 use Rattle.ash_host.proofs.Order.{same_in_order}
 use Rattle.ash_slots.specs.declared.body.Body.{Body}
 use Rattle.ash_slots.specs.Bodies.{words_of}
-use Rattle.ash_slots.specs.Store.{Placed}
+use Rattle.ash_slots.specs.Store.{SlotEntry}
 use Rattle.ash_slots.specs.Counting.{counted}
-use Rattle.ash_objects.specs.declared.restoring.Stored.{Stored}
-use Rattle.ash_objects.specs.declared.restoring.Saved.{Saved}
+use Rattle.ash_objects.specs.declared.restoring.StoredObject.{StoredObject}
+use Rattle.ash_objects.specs.declared.restoring.SavedHostObject.{SavedHostObject}
 use Rattle.ash_objects.specs.Table.{Living}
 use Rattle.ash_objects.specs.Counting.{fields_in, living, living_in, words_at, AllLive, AreGiven, IsTable, face, face_at}
-use Rattle.ash_objects.specs.Restoring.{stored_in, IsFresh, ArePut, refer_objects, bodies_of}
+use Rattle.ash_objects.specs.Restoring.{stored_in, IsFresh, AreInserted, refer_objects, bodies_of}
 use Rattle.ash_objects.proofs.Counts.{object_at-living, numbers-living}
 use Rattle.ash_objects.proofs.Marks.{object_at-mapped, in_order-mapped}
 use Rattle.ash_objects.proofs.Referring.{words_at_face}
@@ -23,7 +23,7 @@ use Rattle.ash_objects.proofs.Putting.{put_numbers, put_length, put_words, put_f
 
 module _ {B : Type 0} where
   -- All objects of a state, put into slots.
-  module _ (objects : List Stored) (boxes : List (Option B)) (l : List (ℕ × Placed B)) (last : ℕ) (put : ArePut objects boxes l) (numbered : AreNumbered last (stored_in objects)) (few : length objects ≤ 4096) (short : (m : ℕ) → IfSome (object_at m (stored_in objects)) (λ body. length (words_of body) ≤ 4096)) (alive : (m : ℕ) → IfSome (object_at m (stored_in objects)) (λ body. All (λ word. IfSome (handle word) (Lives (stored_in objects))) (words_of body))) where
+  module _ (objects : List StoredObject) (boxes : List (Option B)) (l : List (ℕ × SlotEntry B)) (last : ℕ) (put : AreInserted objects boxes l) (numbered : AreNumbered last (stored_in objects)) (few : length objects ≤ 4096) (short : (m : ℕ) → IfSome (object_at m (stored_in objects)) (λ body. length (words_of body) ≤ 4096)) (alive : (m : ℕ) → IfSome (object_at m (stored_in objects)) (λ body. All (λ word. IfSome (handle word) (Lives (stored_in objects))) (words_of body))) where
     pub stock_order : IsInOrder l
     stock_order =
         subst (λ (ns : List ℕ). IsStrictlyIncreasing ns) (sym (put_numbers objects boxes l put)) numbered.in_order
@@ -32,7 +32,7 @@ module _ {B : Type 0} where
     lives_there : (m : ℕ) → Lives (stored_in objects) m → Lives l m
     lives_there m h = go (object_at m l) (object_at m (stored_in objects)) (put_words m objects boxes l put) h
       where
-        go : (v : Option (Placed B)) (u : Option (Body Saved)) → option_map (λ p. words_of (p.item).body) v
+        go : (v : Option (SlotEntry B)) (u : Option (Body SavedHostObject)) → option_map (λ p. words_of (p.item).body) v
             ≡ option_map (λ body. words_of body) u → IsSome u → IsSome v
         go v None same h = absurd (cc)
         go None (Some body) same h = absurd (cc)
@@ -41,7 +41,7 @@ module _ {B : Type 0} where
     lives_here : (m : ℕ) → Lives l m → Lives (stored_in objects) m
     lives_here m h = go (object_at m l) (object_at m (stored_in objects)) (put_words m objects boxes l put) h
       where
-        go : (v : Option (Placed B)) (u : Option (Body Saved)) → option_map (λ p. words_of (p.item).body) v
+        go : (v : Option (SlotEntry B)) (u : Option (Body SavedHostObject)) → option_map (λ p. words_of (p.item).body) v
             ≡ option_map (λ body. words_of body) u → IsSome v → IsSome u
         go None u same h = absurd (cc)
         go (Some p) None same h = absurd (cc)
@@ -52,7 +52,7 @@ module _ {B : Type 0} where
         → IfSome (object_at m (stored_in objects)) (λ body. P (words_of body)) → P (words_at m l)
     words_hold P none m h = go (object_at m l) (object_at m (stored_in objects)) (put_words m objects boxes l put) h
       where
-        go : (v : Option (Placed B)) (u : Option (Body Saved)) → option_map (λ p. words_of (p.item).body) v
+        go : (v : Option (SlotEntry B)) (u : Option (Body SavedHostObject)) → option_map (λ p. words_of (p.item).body) v
             ≡ option_map (λ body. words_of body) u → IfSome u (λ body. P (words_of body))
             → P (option_map_or (λ object. words_of (object.item).body) v [])
         go None u same h = none
@@ -74,7 +74,7 @@ module _ {B : Type 0} where
     pub stock_uncounted : (m : ℕ) → counted m l ≡ 0
     stock_uncounted m = go (object_at m l) (put_fresh m objects boxes l put)
       where
-        go : (v : Option (Placed B)) → IfSome v IsFresh → option_map_or (λ object. (object.item).count) v 0 ≡ 0
+        go : (v : Option (SlotEntry B)) → IfSome v IsFresh → option_map_or (λ object. (object.item).count) v 0 ≡ 0
         go None h = refl
         go (Some p) h = h.uncounted
 
@@ -85,7 +85,7 @@ module _ {B : Type 0} where
         all_numbers (λ number. Lives l number × AllLive l (words_at number l)
         × (length (words_at number l) ≤ 4096)) l stock_order (λ n h. (h, stock_alive n, stock_short n))
 
-    abbrev pub stocked : List (ℕ × Placed B)
+    abbrev pub stocked : List (ℕ × SlotEntry B)
     stocked = refer_objects (numbers l) l
 
     stocked_counted : (m : ℕ) → counted m stocked ≡ fields_in m stocked
@@ -95,16 +95,16 @@ module _ {B : Type 0} where
     stocked_waits : (m : ℕ) → IfSome (object_at m stocked) (λ p. p.waiting ≡ true)
     stocked_waits = referred_waits (numbers l) l (λ m. go (object_at m l) (put_fresh m objects boxes l put))
       where
-        go : (v : Option (Placed B)) → IfSome v IsFresh → IfSome v (λ p. p.waiting ≡ true)
+        go : (v : Option (SlotEntry B)) → IfSome v IsFresh → IfSome v (λ p. p.waiting ≡ true)
         go None h = tt
         go (Some p) h = h.waits
 
     -- what a contract sees of each object but its holds
-    seen : (P : Living B → Type 0) → ((p : Placed B) → IsFresh p → P (face p)) → (m : ℕ) → IfSome (face_at m stocked) P
+    seen : (P : Living B → Type 0) → ((p : SlotEntry B) → IsFresh p → P (face p)) → (m : ℕ) → IfSome (face_at m stocked) P
     seen P each m =
         subst (λ (v : Option (Living B)). IfSome v P) (sym (referred_face (numbers l) m l)) (go (object_at m l) (put_fresh m objects boxes l put))
       where
-        go : (v : Option (Placed B)) → IfSome v IsFresh → IfSome (option_map face v) P
+        go : (v : Option (SlotEntry B)) → IfSome v IsFresh → IfSome (option_map face v) P
         go None h = tt
         go (Some p) h = each p h
 
@@ -112,10 +112,10 @@ module _ {B : Type 0} where
     stocked_short m =
         go (object_at m stocked) refl
       where
-        go : (v : Option (Placed B)) → object_at m stocked ≡ v → IfSome v (λ p. length (words_of (p.item).body) ≤ 4096)
+        go : (v : Option (SlotEntry B)) → object_at m stocked ≡ v → IfSome v (λ p. length (words_of (p.item).body) ≤ 4096)
         go None is = tt
         go (Some p) is =
-            let mine = ap (λ (v : Option (Placed B)). option_map_or (λ object. words_of (object.item).body) v []) is in
+            let mine = ap (λ (v : Option (SlotEntry B)). option_map_or (λ object. words_of (object.item).body) v []) is in
             let words : words_of (p.item).body ≡ words_at m l = sym mine ∙ words_at_face m stocked l (referred_face (numbers l) m l) in
             let many = ap length words in
             omega (arith, many, stock_short m)
@@ -123,7 +123,7 @@ module _ {B : Type 0} where
     stocked_given : AreGiven last stocked
     stocked_given m h = numbered.given m (lives_here m (go (object_at m stocked) (object_at m l) (referred_face (numbers l) m l) h))
       where
-        go : (v u : Option (Placed B)) → option_map face v ≡ option_map face u → IsSome v → IsSome u
+        go : (v u : Option (SlotEntry B)) → option_map face v ≡ option_map face u → IsSome v → IsSome u
         go None u same h = absurd (cc)
         go (Some p) None same h = absurd (cc)
         go (Some p) (Some q) same h = refl
@@ -143,7 +143,7 @@ module _ {B : Type 0} where
       cleared = omega arith;
     }
       where
-        waits : (v : Option (Placed B)) → IfSome v (λ p. p.waiting ≡ true)
+        waits : (v : Option (SlotEntry B)) → IfSome v (λ p. p.waiting ≡ true)
             → IfSome v (λ p. (p.item).count ≡ 0 → p.waiting ≡ true)
         waits None h = tt
         waits (Some p) h = λ none. h
@@ -160,13 +160,13 @@ module _ {B : Type 0} where
         ∙ outer (object_at m l)
         ∙ sym (object_at-mapped (λ p. (p.item).body) m l))
       where
-        inner : (k : ℕ) (v : Option (Placed B)) → option_map (λ (x : Living B). x.body) (option_map (living k) v)
+        inner : (k : ℕ) (v : Option (SlotEntry B)) → option_map (λ (x : Living B). x.body) (option_map (living k) v)
             ≡ option_map (λ (x : Living B). x.body) (option_map face v)
         inner k None = refl
         inner k (Some p) = refl
 
-        outer : (v : Option (Placed B)) → option_map (λ (x : Living B). x.body) (option_map face v)
-            ≡ option_map (λ (p : Placed B). (p.item).body) v
+        outer : (v : Option (SlotEntry B)) → option_map (λ (x : Living B). x.body) (option_map face v)
+            ≡ option_map (λ (p : SlotEntry B). (p.item).body) v
         outer None = refl
         outer (Some p) = refl
 
@@ -175,18 +175,18 @@ module _ {B : Type 0} where
         ap (λ (v : Option (Living B)). option_map_or (λ object. object.holds) v 0) (object_at-living m stocked stocked)
         ∙ go (object_at m stocked) refl
       where
-        go : (v : Option (Placed B)) → object_at m stocked ≡ v
+        go : (v : Option (SlotEntry B)) → object_at m stocked ≡ v
             → option_map_or (λ object. object.holds) (option_map (living (fields_in m stocked)) v) 0 ≡ 0
         go None is = refl
         go (Some p) is =
-            let mine = ap (λ (v : Option (Placed B)). option_map_or (λ object. (object.item).count) v 0) is in
+            let mine = ap (λ (v : Option (SlotEntry B)). option_map_or (λ object. (object.item).count) v 0) is in
             omega (arith, mine, stocked_counted m)
 
     pub stock_unmarked : (m : ℕ) → IfSome (object_at m (living_in stocked)) (λ object. object.touched ≡ false)
     stock_unmarked m =
         subst (λ (v : Option (Living B)). IfSome v (λ object. object.touched ≡ false)) (sym (object_at-living m stocked stocked)) (go (object_at m stocked) (seen (λ object. object.touched ≡ false) (λ p h. h.unmarked) m))
       where
-        go : (v : Option (Placed B)) → IfSome (option_map face v) (λ object. object.touched ≡ false)
+        go : (v : Option (SlotEntry B)) → IfSome (option_map face v) (λ object. object.touched ≡ false)
             → IfSome (option_map (living (fields_in m stocked)) v) (λ object. object.touched ≡ false)
         go None h = tt
         go (Some p) h = h

@@ -6,13 +6,13 @@ use Rattle.ash_host.specs.declared.event.Event.TheVariants.{Dropped}
 use Rattle.ash_host.specs.Objects.{object_at, Lives, IsInOrder}
 use Rattle.ash_slots.specs.declared.entry.Entry.{Entry}
 use Rattle.ash_slots.specs.Bodies.{is_boxed}
-use Rattle.ash_slots.specs.Store.{Placed}
+use Rattle.ash_slots.specs.Store.{SlotEntry}
 use Rattle.ash_objects.specs.Counting.{fields_in, face_at}
 use Rattle.ash_slots.specs.Counting.{counted}
 
 module _ {B : Type 0} where
   -- the number of an object, and whether it is a host object
-  abbrev pub mark_of : ℕ × Placed B → ℕ × Bool
+  abbrev pub mark_of : ℕ × SlotEntry B → ℕ × Bool
   mark_of e = (e.0, is_boxed (e.1.item).body)
 
   abbrev pub entry_mark : Entry B → ℕ × Bool
@@ -20,7 +20,7 @@ module _ {B : Type 0} where
 
   -- Objects that went were counted nowhere, and the counts follow the words of those that are left. Whatever is summed
   -- over what was taken out and what is left is what it was over all.
-  pub record HaveGone (old now : List (ℕ × Placed B)) (taken : List (Entry B)) : Type 0 where
+  pub record HaveGone (old now : List (ℕ × SlotEntry B)) (taken : List (Entry B)) : Type 0 where
     pub in_order : IsInOrder now
     pub covered : (number : ℕ) → fields_in number now ≤ counted number now
     pub balance : (number : ℕ) → Lives now number → counted number now + fields_in number old

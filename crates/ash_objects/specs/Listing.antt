@@ -2,7 +2,7 @@
 use Rattle.std.specs.Prelude.{◌≡◌, ℕ, ◌+◌, ◌<◌, ◌≤◌, Bool, true, false}
 use Rattle.std.specs.Prelude.{not, List, length, IfSome, Contains, slice_index_or, count_by}
 use Rattle.ash_host.specs.Objects.{object_at}
-use Rattle.ash_slots.specs.Store.{Placed}
+use Rattle.ash_slots.specs.Store.{SlotEntry}
 use Rattle.ash_objects.specs.Counting.{IsTable}
 
 -- the slots that are listed, and how many there can be: each below that number can be listed
@@ -25,11 +25,11 @@ pub record Covers (old new : Marks) : Type 0 where
 
 module _ {B : Type 0} where
   -- each object is in a slot that can be listed, and in one that is where it was made or changed
-  abbrev pub AreListed : List (ℕ × Placed B) → Marks → Type 0
+  abbrev pub AreListed : List (ℕ × SlotEntry B) → Marks → Type 0
   AreListed objects marks = (number : ℕ) → IfSome (object_at number objects) (λ object. (object.slot < marks.room)
       × ((object.item).touched ≡ true → Contains marks.slots object.slot))
 
   -- what holds of the objects of a table and of the list of slots beside them
-  pub record IsListed (objects : List (ℕ × Placed B)) (last settled : ℕ) (marks : Marks) : Type 0 where
+  pub record IsListed (objects : List (ℕ × SlotEntry B)) (last settled : ℕ) (marks : Marks) : Type 0 where
     pub table : IsTable objects last settled
     pub listed : AreListed objects marks

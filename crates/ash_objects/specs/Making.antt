@@ -4,7 +4,8 @@ use Rattle.std.specs.List.{position}
 use Rattle.ash_host.specs.declared.host_object.HostObject.{Ghosts}
 use Rattle.ash_host.specs.Objects.{with_at}
 use Rattle.ash_slots.specs.declared.body.Body.{Body}
-use Rattle.ash_objects.specs.Table.{Living, Table, max_objects}
+use Rattle.ash_objects.specs.Table.{Living, Table}
+use Rattle.ash_host.specs.Limits.{max_objects}
 
 module _ {B : Type 0} where
   -- a new object, which nothing holds

@@ -2,7 +2,7 @@
 use Rattle.std.specs.Prelude.{◌≡◌, ℕ, false, List, [], ◌∷◌, IfSome, filter, map}
 use Rattle.std.specs.Map.{keys_of}
 use Rattle.ash_host.specs.Objects.{object_at}
-use Rattle.ash_slots.specs.Store.{Placed, change_at}
+use Rattle.ash_slots.specs.Store.{SlotEntry, change_at}
 use Rattle.ash_objects.specs.Table.{Living, Table}
 
 module _ {B : Type 0} where
@@ -23,18 +23,18 @@ module _ {B : Type 0} where
   }
 
   -- the numbers of those that have a mark, by ascending number
-  abbrev pub marked_in : List (ℕ × Placed B) → List ℕ
+  abbrev pub marked_in : List (ℕ × SlotEntry B) → List ℕ
   marked_in objects = keys_of (filter (λ e. (e.1.item).touched) objects)
 
   -- no object has a mark
-  abbrev pub NoneMarked : List (ℕ × Placed B) → Type 0
+  abbrev pub NoneMarked : List (ℕ × SlotEntry B) → Type 0
   NoneMarked objects = (number : ℕ) → IfSome (object_at number objects) (λ object. (object.item).touched ≡ false)
 
   -- an object in its slot without its mark
-  abbrev pub unmarked : Placed B → Placed B
+  abbrev pub unmarked : SlotEntry B → SlotEntry B
   unmarked object = record object { item = record object.item { touched = false } }
 
   -- the objects, these without their marks
-  abbrev pub unmark_all : List ℕ → List (ℕ × Placed B) → List (ℕ × Placed B)
+  abbrev pub unmark_all : List ℕ → List (ℕ × SlotEntry B) → List (ℕ × SlotEntry B)
   unmark_all [] objects = objects
   unmark_all (number ∷ numbers) objects = unmark_all numbers (change_at number unmarked objects)

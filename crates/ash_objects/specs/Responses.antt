@@ -1,5 +1,5 @@
 -- What host objects do at calls.
-use Rattle.std.specs.Prelude.{◌≡◌, ℕ, true, List, [], ◌∷◌, Option, Some, slice_get, slice_set}
+use Rattle.std.specs.Prelude.{◌≡◌, ℕ, true, List, [], ◌∷◌, Option, Some, IsSome, slice_get, slice_set}
 use Rattle.std.specs.Option.{option_and_then}
 use Rattle.ash_host.specs.declared.answer.HostAnswer.{HostAnswer}
 use Rattle.ash_host.specs.declared.answer.HostAnswer.TheVariants.{NoMemory}
@@ -11,12 +11,16 @@ use Rattle.ash_host.specs.Calls.{HostCall}
 use Rattle.ash_host.specs.Objects.{object_at}
 use Rattle.ash_slots.specs.declared.body.Body.TheVariants.{Host}
 use Rattle.ash_slots.specs.Responses.{Responds, box_of}
-use Rattle.ash_objects.specs.Table.{Living, Table, with_object}
+use Rattle.ash_objects.specs.Table.{Living, Table, slot_of, with_object}
 
 module _ {B : Type 0} where
   -- the box of the host object of a number
   abbrev pub box_at : ℕ → Table B → Option B
   box_at number table = option_and_then (λ object. box_of object.body) (object_at number table.objects)
+
+  -- The object in a slot is a host object.
+  abbrev pub IsHostIn : ℕ → Table B → Type 0
+  IsHostIn slot table = (number : ℕ) × (slot_of number table ≡ Some slot) × IsSome (box_at number table)
 
   -- an object with another box, which touches it
   abbrev pub with_box : B → Living B → Living B

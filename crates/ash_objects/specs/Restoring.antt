@@ -6,19 +6,20 @@ use Rattle.std.specs.List.{remove, position}
 use Rattle.std.specs.declared.vec.Vec.{Vec}
 use Rattle.std.specs.declared.alloc.Global.{Global}
 use Rattle.ash_host.specs.declared.host_object.HostObject.{Ghosts}
-use Rattle.ash_host.specs.Calls.{SameRelation, max_state}
+use Rattle.ash_host.specs.Calls.{SameRelation}
+use Rattle.ash_host.specs.Limits.{max_state_bytes}
 use Rattle.ash_host.specs.Objects.{object_at}
 use Rattle.ash_slots.specs.declared.body.Body.{Body}
 use Rattle.ash_slots.specs.declared.body.Body.TheVariants.{Script, Array, Host}
 use Rattle.ash_slots.specs.Responses.{box_of}
-use Rattle.ash_slots.specs.Store.{Placed}
-use Rattle.ash_objects.specs.declared.restoring.Stored.{Stored}
-use Rattle.ash_objects.specs.declared.restoring.Saved.{Saved}
+use Rattle.ash_slots.specs.Store.{SlotEntry}
+use Rattle.ash_objects.specs.declared.restoring.StoredObject.{StoredObject}
+use Rattle.ash_objects.specs.declared.restoring.SavedHostObject.{SavedHostObject}
 use Rattle.ash_objects.specs.Table.{Living, Table, holds_of}
 use Rattle.ash_objects.specs.Counting.{refer_all, words_at}
 
 -- the objects of a state by their numbers
-abbrev pub stored_in : List Stored → List (ℕ × Body Saved)
+abbrev pub stored_in : List StoredObject → List (ℕ × Body SavedHostObject)
 stored_in objects = map (λ object. (object.number, object.body)) objects
 
 -- the states of services
@@ -26,11 +27,11 @@ abbrev pub states_in : List (Vec ℕ Global) → List (List ℕ)
 states_in states = map (λ state. state.items) states
 
 -- the kind of a host object; what is none has none
-abbrev pub kind_wanted : Stored → Option ℕ
+abbrev pub kind_wanted : StoredObject → Option ℕ
 kind_wanted object = option_map (λ saved. saved.kind) (box_of object.body)
 
 -- the state of a host object; what is none has none
-abbrev pub bytes_of : Body Saved → List ℕ
+abbrev pub bytes_of : Body SavedHostObject → List ℕ
 bytes_of (Script _) = []
 bytes_of (Array _) = []
 bytes_of (Host saved) = saved.state.items
@@ -63,7 +64,7 @@ module _ {B : Type 0} where
   draw_then G (Some kind) pool others = draw_others kind (draw_box G kind pool) others
 
   -- each host object takes the first box of its kind that is left, in order
-  abbrev pub draw_boxes : Ghosts B → List Stored → List B → Drawn B
+  abbrev pub draw_boxes : Ghosts B → List StoredObject → List B → Drawn B
   draw_boxes G [] pool = Enough [] pool
   draw_boxes G (object ∷ objects) pool = draw_then G (kind_wanted object) pool (λ left. draw_boxes G objects left)
 
@@ -72,10 +73,10 @@ module _ {B : Type 0} where
     pub has : G.state after ≡ bytes
     pub same_kind : G.kind_of after ≡ G.kind_of before
     pub same_relation : SameRelation (G.allows before) (G.allows after)
-    pub bounded : length (G.state after) ≤ max_state
+    pub bounded : length (G.state after) ≤ max_state_bytes
 
   -- An object of a state is in a table what it was, with its box, which has its state, in place of its kind and state.
-  abbrev pub IsBody : Ghosts B → Body Saved → Option B → Body B → Type 0
+  abbrev pub IsBody : Ghosts B → Body SavedHostObject → Option B → Body B → Type 0
   IsBody G (Script script) box body = body ≡ Script script
   IsBody G (Array array) box body = body ≡ Array array
   IsBody G (Host saved) None body = ⊥
@@ -83,7 +84,7 @@ module _ {B : Type 0} where
       × RestoresState G before saved.state.items after
 
   -- the same of all, in order
-  abbrev pub AreBodies : Ghosts B → List Stored → List (Option B) → List (ℕ × Body B) → Type 0
+  abbrev pub AreBodies : Ghosts B → List StoredObject → List (Option B) → List (ℕ × Body B) → Type 0
   AreBodies G [] [] [] = Unit {0}
   AreBodies G (object ∷ objects) (box ∷ boxes) (e ∷ entries) = (e.0 ≡ object.number) × IsBody G object.body box e.1
       × AreBodies G objects boxes entries
@@ -98,7 +99,7 @@ module _ {B : Type 0} where
 
   -- A table has the objects of a state: each host object took the first box of its kind that was left, which has its
   -- state now; nothing is held but by fields and elements, and nothing is marked.
-  pub record IsRestored (G : Ghosts B) (objects : List Stored) (pool : List B) (table : Table B) : Type 0 where
+  pub record IsRestored (G : Ghosts B) (objects : List StoredObject) (pool : List B) (table : Table B) : Type 0 where
     pub boxes : List (Option B)
     pub drawn : draw_boxes G objects pool ≡ Enough boxes table.pool
     pub bodies : AreBodies G objects boxes (bodies_of table.objects)
@@ -112,14 +113,14 @@ module _ {B : Type 0} where
         → slice_get after place ≡ Some other → slice_get states place ≡ Some bytes → RestoresState G one bytes other
 
   -- The box that an object took, if it took one, has the object's state.
-  abbrev pub RestoresBox : Ghosts B → Body Saved → Option B → Option B → Type 0
+  abbrev pub RestoresBox : Ghosts B → Body SavedHostObject → Option B → Option B → Type 0
   RestoresBox G body None after = after ≡ None
   RestoresBox G body (Some before) after = (box : B) × (after ≡ Some box) × RestoresState G before (bytes_of body) box
 
   -- The boxes that objects took have the states of their objects.
-  pub record RestoresBoxes (G : Ghosts B) (objects : List Stored) (before after : List (Option B)) : Type 0 where
+  pub record RestoresBoxes (G : Ghosts B) (objects : List StoredObject) (before after : List (Option B)) : Type 0 where
     pub many : length after ≡ length before
-    pub each : (place : ℕ) (object : Stored) (one other : Option B) → slice_get objects place ≡ Some object
+    pub each : (place : ℕ) (object : StoredObject) (one other : Option B) → slice_get objects place ≡ Some object
         → slice_get before place ≡ Some one → slice_get after place ≡ Some other → RestoresBox G object.body one other
 
   -- The service at a place refused its state, and those before it took theirs.
@@ -134,9 +135,9 @@ module _ {B : Type 0} where
     pub refused : G.refuses service bytes
 
   -- The box that the object of a number took refused the object's state, and those before it took theirs.
-  pub record BoxRefused (G : Ghosts B) (objects : List Stored) (boxes : List (Option B)) (number : ℕ) : Type 0 where
+  pub record BoxRefused (G : Ghosts B) (objects : List StoredObject) (boxes : List (Option B)) (number : ℕ) : Type 0 where
     pub place : ℕ
-    pub object : Stored
+    pub object : StoredObject
     pub box : B
     pub back : List (Option B)
     pub there : slice_get objects place ≡ Some object
@@ -147,7 +148,7 @@ module _ {B : Type 0} where
 
   -- What was refused, once the pool was long enough: the state of the first service that refused; or, where all
   -- services took theirs, the state of the first host object, by number, whose box refused.
-  pub data IsRefused (G : Ghosts B) (objects : List Stored) (states : List (List ℕ))
+  pub data IsRefused (G : Ghosts B) (objects : List StoredObject) (states : List (List ℕ))
       (pool services : List B) : ℕ → Type 0 where
     Service : (boxes : List (Option B)) (left : List B) → draw_boxes G objects pool ≡ Enough boxes left
         → ServiceRefused G services states → IsRefused G objects states pool services 0
@@ -157,36 +158,36 @@ module _ {B : Type 0} where
 
   -- what an object is, with the box that it took in place of its kind and state; nothing where it needed one and took
   -- none
-  abbrev pub with_drawn : Body Saved → Option B → Option (Body B)
+  abbrev pub with_drawn : Body SavedHostObject → Option B → Option (Body B)
   with_drawn (Script script) box = Some (Script script)
   with_drawn (Array array) box = Some (Array array)
   with_drawn (Host saved) None = None
   with_drawn (Host saved) (Some box) = Some (Host box)
 
   -- each host object took a box
-  abbrev pub AreFit : List Stored → List (Option B) → Type 0
+  abbrev pub AreFit : List StoredObject → List (Option B) → Type 0
   AreFit [] [] = Unit {0}
   AreFit [] (box ∷ boxes) = ⊥
   AreFit (object ∷ objects) [] = ⊥
   AreFit (object ∷ objects) (box ∷ boxes) = IsSome (with_drawn object.body box) × AreFit objects boxes
 
   -- an object as it is put into its slot
-  pub record IsFresh (object : Placed B) : Type 0 where
+  pub record IsFresh (object : SlotEntry B) : Type 0 where
     pub uncounted : (object.item).count ≡ 0
     pub waits : object.waiting ≡ true
     pub unmarked : (object.item).touched ≡ false
 
   -- objects as they are put into their slots, with the boxes that they took
-  abbrev pub ArePut : List Stored → List (Option B) → List (ℕ × Placed B) → Type 0
-  ArePut [] [] [] = Unit {0}
-  ArePut (object ∷ objects) (box ∷ boxes) (e ∷ entries) = (e.0 ≡ object.number)
-      × (with_drawn object.body box ≡ Some ((e.1).item).body) × IsFresh e.1 × ArePut objects boxes entries
-  ArePut [] [] (e ∷ entries) = ⊥
-  ArePut [] (box ∷ boxes) entries = ⊥
-  ArePut (object ∷ objects) [] entries = ⊥
-  ArePut (object ∷ objects) (box ∷ boxes) [] = ⊥
+  abbrev pub AreInserted : List StoredObject → List (Option B) → List (ℕ × SlotEntry B) → Type 0
+  AreInserted [] [] [] = Unit {0}
+  AreInserted (object ∷ objects) (box ∷ boxes) (e ∷ entries) = (e.0 ≡ object.number)
+      × (with_drawn object.body box ≡ Some ((e.1).item).body) × IsFresh e.1 × AreInserted objects boxes entries
+  AreInserted [] [] (e ∷ entries) = ⊥
+  AreInserted [] (box ∷ boxes) entries = ⊥
+  AreInserted (object ∷ objects) [] entries = ⊥
+  AreInserted (object ∷ objects) (box ∷ boxes) [] = ⊥
 
   -- the objects, each counted once more for each word of these that is a handle to it
-  abbrev pub refer_objects : List ℕ → List (ℕ × Placed B) → List (ℕ × Placed B)
+  abbrev pub refer_objects : List ℕ → List (ℕ × SlotEntry B) → List (ℕ × SlotEntry B)
   refer_objects [] objects = objects
   refer_objects (number ∷ numbers) objects = refer_objects numbers (refer_all (words_at number objects) objects)

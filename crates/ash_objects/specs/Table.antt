@@ -1,5 +1,5 @@
 -- The table: objects by their numbers, and what else a host has of objects.
-use Rattle.std.specs.Prelude.{◌≡◌, ℕ, ◌+◌, ◌-◌, Bool, true, List, Option, Some, IfSome, sum_by, slice_get}
+use Rattle.std.specs.Prelude.{◌≡◌, ℕ, ◌+◌, ◌-◌, Bool, true, List, Option, Some, IsSome, IfSome, sum_by, slice_get}
 use Rattle.std.specs.Option.{option_map, option_map_or, option_and_then}
 use Rattle.std.specs.Map.{values_of}
 use Rattle.ash_host.specs.declared.word.Word.{Word}
@@ -25,14 +25,6 @@ pub record Table (B : Type 0) : Type 0 where
   pub last : ℕ
   pub settled : ℕ
   pub gone : List ℕ
-
--- how many objects may live at once
-abbrev pub max_objects : ℕ
-max_objects = 4096
-
--- how many words an object may hold, and how many elements an array may have
-abbrev pub max_elements : ℕ
-max_elements = 4096
 
 module _ {B : Type 0} where
   -- how many fields of these objects hold an object
@@ -63,6 +55,10 @@ module _ {B : Type 0} where
   abbrev pub field_of : ℕ → ℕ → Table B → Option Word
   field_of number place table = option_and_then (λ object. slice_get (words_of object.body) place)
       (object_at number table.objects)
+
+  -- The object in a slot has a word at a place.
+  abbrev pub HasFieldIn : ℕ → ℕ → Table B → Type 0
+  HasFieldIn slot place table = (number : ℕ) × (slot_of number table ≡ Some slot) × IsSome (field_of number place table)
 
   -- the object that a word is a handle to lives, if it is one
   abbrev pub IsAlive : Word → Table B → Type 0

@@ -3,15 +3,15 @@ ghost use Rattle.std.specs.Prelude.{◌≡◌, ◌<◌, ◌≤◌, ◌-◌, ◌+
 ghost use Rattle.std.specs.Prelude.{take, length, slice_get, Some, IsSome, IfSome, OnOk, OnErr, IsErrOf};
 ghost use Rattle.ash_objects.specs.declared.arrays.LengthFault.{LengthFault};
 ghost use Rattle.ash_host.specs.Objects.{IsInOrder};
-ghost use Rattle.ash_objects.specs.Table.{slot_of, IsAlive, with_object, with_field, max_elements};
-ghost use Rattle.ash_objects.specs.Arrays.{elements_at, array_at, with_elements};
+ghost use Rattle.ash_objects.specs.Table.{slot_of, IsAlive, with_object, with_field};
+ghost use Rattle.ash_host.specs.Limits.{max_elements};
+ghost use Rattle.ash_objects.specs.Arrays.{elements_at, array_at, HasElementsIn, IsArrayIn, with_elements};
 ghost use Rattle.ash_slots.specs.Arrays.{lengthened};
 
 use crate::counting::release_words;
-use crate::making::MAX_ELEMENTS;
 use crate::objects::Objects;
-use ash_host::{NoMemory, Word};
-use ash_slots::{Body, grow_elements, put_elements, take_elements};
+use ash_host::{MAX_ELEMENTS, NoMemory, Word};
+use ash_slots::{Body, grow_elements, set_elements, take_elements};
 
 /// An index is not below the length of an array.
 #[derive(Clone, Copy, Debug, PartialEq, Eq)]
@@ -29,8 +29,7 @@ pub enum LengthFault {
 impl<B> Objects<B> {
     // The elements of the array in a slot, in order.
     fn elements(&self, slot: usize) -> &[Word]
-        requires { (number : ℕ) × (slot_of number self.now ≡ Some slot)
-            × IsSome (elements_at number self.now) }
+        requires { HasElementsIn slot self.now }
         ensures { (number : ℕ) → slot_of number self.now ≡ Some slot → elements_at number self.now
             ≡ Some result.now }
     {
@@ -43,9 +42,8 @@ impl<B> Objects<B> {
 
     /// How many elements the array in a slot has. It takes no memory.
     pub fn length_at(&self, slot: usize) -> usize
-        requires { (number : ℕ) × (slot_of number self.now ≡ Some slot)
-            × IsSome (elements_at number self.now) }
-        ensures { (number : ℕ) → slot_of number self.now ≡ Some slot
+        requires array { HasElementsIn slot self.now }
+        ensures length { (number : ℕ) → slot_of number self.now ≡ Some slot
             → IfSome (elements_at number self.now) (λ elements. result ≡ length elements) }
     {
         self.elements(slot).len()
@@ -53,8 +51,9 @@ impl<B> Objects<B> {
 
     /// How many elements an array has. It takes no memory.
     pub fn length(&self, number: u64) -> usize
-        requires { IsSome (elements_at number self.now) }
-        ensures { IfSome (elements_at number self.now) (λ elements. result ≡ length elements) }
+        requires array { IsSome (elements_at number self.now) }
+        ensures length { IfSome (elements_at number self.now)
+            (λ elements. result ≡ length elements) }
     {
         let Some(slot) = self.slot(number) else {
             unreachable!()
@@ -64,9 +63,8 @@ impl<B> Objects<B> {
 
     /// The element of the array in a slot at an index, if there is one. It takes no memory.
     pub fn element_at(&self, slot: usize, index: usize) -> Option<Word>
-        requires { (number : ℕ) × (slot_of number self.now ≡ Some slot)
-            × IsSome (elements_at number self.now) }
-        ensures { (number : ℕ) → slot_of number self.now ≡ Some slot
+        requires array { HasElementsIn slot self.now }
+        ensures element { (number : ℕ) → slot_of number self.now ≡ Some slot
             → IfSome (elements_at number self.now) (λ elements. result ≡ slice_get elements index) }
     {
         self.elements(slot).get(index).copied()
@@ -74,8 +72,8 @@ impl<B> Objects<B> {
 
     /// The element of an array at an index, if there is one. It takes no memory.
     pub fn element(&self, number: u64, index: usize) -> Option<Word>
-        requires { IsSome (elements_at number self.now) }
-        ensures { IfSome (elements_at number self.now)
+        requires array { IsSome (elements_at number self.now) }
+        ensures element { IfSome (elements_at number self.now)
             (λ elements. result ≡ slice_get elements index) }
     {
         let Some(slot) = self.slot(number) else {
@@ -91,8 +89,7 @@ impl<B> Objects<B> {
         index: usize,
         word: Word,
     ) -> Result<(), IndexOutOfBounds>
-        requires array { (number : ℕ) × (slot_of number self.old ≡ Some slot)
-            × IsSome (elements_at number self.old) }
+        requires array { HasElementsIn slot self.old }
         requires alive { IsAlive word self.old }
         ensures within { OnOk result ((number : ℕ) → slot_of number self.old ≡ Some slot
             → IfSome (elements_at number self.old) (λ elements. index < length elements)) }
@@ -134,8 +131,7 @@ impl<B> Objects<B> {
 
     // Appends the initial value of its elements to the array in a slot until there are so many.
     fn lengthen(&mut self, slot: usize, len: usize) -> Result<(), NoMemory>
-        requires array { (number : ℕ) × (slot_of number self.old ≡ Some slot)
-            × IsSome (array_at number self.old) }
+        requires array { IsArrayIn slot self.old }
         requires short { len ≤ max_elements }
         ensures lengthened { OnOk result ((number : ℕ) → slot_of number self.old ≡ Some slot
             → IfSome (array_at number self.old) (λ array. self.new
@@ -150,8 +146,7 @@ impl<B> Objects<B> {
 
     // Cuts the elements of the array in a slot off from a length on, and gives up what they hold.
     fn shorten(&mut self, slot: usize, len: usize)
-        requires { (number : ℕ) × (slot_of number self.old ≡ Some slot)
-            × IsSome (array_at number self.old) }
+        requires { IsArrayIn slot self.old }
         ensures { (number : ℕ) → slot_of number self.old ≡ Some slot
             → IfSome (array_at number self.old) (λ array. self.new
             ≡ with_object number (with_elements (take len array.elements)) self.old) }
@@ -159,15 +154,14 @@ impl<B> Objects<B> {
         let mut words = take_elements(&mut self.store, slot);
         release_words(&mut self.store, words.suffix(len));
         words.truncate(len);
-        put_elements(&mut self.store, slot, words);
+        set_elements(&mut self.store, slot, words);
         self.marks.mark(slot);
     }
 
     /// Gives the array in a slot a length: what is beyond it goes, and what it holds is counted once less for each
     /// element that held it; what is added is zero or null. It takes memory only where the array has fewer elements.
     pub fn resize_at(&mut self, slot: usize, len: usize) -> Result<(), LengthFault>
-        requires { (number : ℕ) × (slot_of number self.old ≡ Some slot)
-            × IsSome (array_at number self.old) }
+        requires array { IsArrayIn slot self.old }
         ensures long { IsErrOf result LengthFault.TooLong ↔ (max_elements < len) }
         ensures shorter { OnOk result ((number : ℕ) → slot_of number self.old ≡ Some slot
             → IfSome (array_at number self.old) (λ array. len ≤ length array.elements
@@ -196,7 +190,7 @@ impl<B> Objects<B> {
     /// Gives an array a length: what is beyond it goes, and what it holds is counted once less for each element that
     /// held it; what is added is zero or null. It takes memory only where the array has fewer elements.
     pub fn resize(&mut self, number: u64, len: usize) -> Result<(), LengthFault>
-        requires { IsSome (array_at number self.old) }
+        requires array { IsSome (array_at number self.old) }
         ensures long { IsErrOf result LengthFault.TooLong ↔ (max_elements < len) }
         ensures shorter { OnOk result (IfSome (array_at number self.old)
             (λ array. len ≤ length array.elements
@@ -216,8 +210,7 @@ impl<B> Objects<B> {
 
     /// Appends an element to the array in a slot. What it is a handle to is counted once more.
     pub fn insert_last_at(&mut self, slot: usize, word: Word) -> Result<(), LengthFault>
-        requires array { (number : ℕ) × (slot_of number self.old ≡ Some slot)
-            × IsSome (array_at number self.old) }
+        requires array { IsArrayIn slot self.old }
         requires alive { IsAlive word self.old }
         ensures long { (number : ℕ) → slot_of number self.old ≡ Some slot
             → IfSome (array_at number self.old) (λ array. IsErrOf result LengthFault.TooLong
@@ -256,8 +249,7 @@ impl<B> Objects<B> {
 
     /// Takes the last element of the array in a slot away. What it held is counted once less. It takes no memory.
     pub fn remove_last_at(&mut self, slot: usize) -> Result<(), IndexOutOfBounds>
-        requires { (number : ℕ) × (slot_of number self.old ≡ Some slot)
-            × IsSome (array_at number self.old) }
+        requires array { IsArrayIn slot self.old }
         ensures empty { OnErr result ((number : ℕ) → slot_of number self.old ≡ Some slot
             → IfSome (array_at number self.old) (λ array. length array.elements ≡ 0)) }
         ensures some { OnOk result ((number : ℕ) → slot_of number self.old ≡ Some slot
@@ -277,7 +269,7 @@ impl<B> Objects<B> {
 
     /// Takes the last element of an array away. What it held is counted once less. It takes no memory.
     pub fn remove_last(&mut self, number: u64) -> Result<(), IndexOutOfBounds>
-        requires { IsSome (array_at number self.old) }
+        requires array { IsSome (array_at number self.old) }
         ensures empty { OnErr result (IfSome (array_at number self.old)
             (λ array. length array.elements ≡ 0)) }
         ensures some { OnOk result (IfSome (array_at number self.old)

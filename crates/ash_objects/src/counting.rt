@@ -6,7 +6,7 @@ ghost use Rattle.ash_slots.specs.Counting.{counted};
 ghost use Rattle.ash_objects.specs.Counting.{words_at, AllLive, refer_all, release_all};
 
 use ash_host::Word;
-use ash_slots::{Store, read_word, refer, release};
+use ash_slots::{Store, add_ref, read_word, remove_ref};
 
 /// Counts each object once more for each of the words of the object in a slot that is a handle to it.
 pub(crate) fn refer_words<B>(store: &mut Store<B>, slot: usize)
@@ -20,7 +20,7 @@ pub(crate) fn refer_words<B>(store: &mut Store<B>, slot: usize)
     let count = store.item(slot).body.words().len();
     for place in 0..count {
         let word = read_word(store, slot, place);
-        refer(store, word);
+        add_ref(store, word);
     }
 }
 
@@ -31,6 +31,6 @@ pub(crate) fn release_words<B>(store: &mut Store<B>, words: &[Word])
     ensures room { store.new.room ≡ store.old.room }
 {
     for word in words {
-        release(store, *word);
+        remove_ref(store, *word);
     }
 }

@@ -5,7 +5,7 @@ ghost use Rattle.ash_host.specs.declared.answer.HostAnswer.{HostAnswer};
 ghost use Rattle.ash_host.specs.declared.event.Target.{Target};
 ghost use Rattle.ash_host.specs.Calls.{Start, Invoke, Get, Set};
 ghost use Rattle.ash_objects.specs.Table.{slot_of};
-ghost use Rattle.ash_objects.specs.Responses.{Answers, ServiceAnswers, box_at, called};
+ghost use Rattle.ash_objects.specs.Responses.{Answers, ServiceAnswers, box_at, IsHostIn, called};
 
 use crate::objects::Objects;
 use ash_host::{Event, HostAnswer, HostObject, NoMemory, Target, Word};
@@ -14,8 +14,8 @@ use ash_slots::{box_in, invoke_in, set_in, start_in};
 impl<B: HostObject> Objects<B> {
     /// Begins the life of a host object with the arguments of a factory.
     pub fn start(&mut self, number: u64, args: &[Word]) -> HostAnswer
-        requires { IsSome (box_at number self.old) }
-        ensures { Answers B.HostObject number (Start args.now) result self.old self.new }
+        requires host { IsSome (box_at number self.old) }
+        ensures answered { Answers B.HostObject number (Start args.now) result self.old self.new }
     {
         let Some(slot) = self.slot(number) else {
             unreachable!()
@@ -24,8 +24,7 @@ impl<B: HostObject> Objects<B> {
     }
 
     fn start_at(&mut self, slot: usize, args: &[Word]) -> HostAnswer
-        requires { (number : ℕ) × (slot_of number self.old ≡ Some slot)
-            × IsSome (box_at number self.old) }
+        requires { IsHostIn slot self.old }
         ensures { (number : ℕ) → slot_of number self.old ≡ Some slot
             → Answers B.HostObject number (Start args.now) result self.old self.new }
     {
@@ -35,9 +34,8 @@ impl<B: HostObject> Objects<B> {
 
     /// The value of a property of the host object in a slot. It takes no memory.
     pub fn get_prop_at(&self, slot: usize, prop: u16) -> Word
-        requires { (number : ℕ) × (slot_of number self.now ≡ Some slot)
-            × IsSome (box_at number self.now) }
-        ensures { (number : ℕ) → slot_of number self.now ≡ Some slot
+        requires host { IsHostIn slot self.now }
+        ensures allowed { (number : ℕ) → slot_of number self.now ≡ Some slot
             → IsSomeAnd (box_at number self.now)
             (λ box. B.allows box (Get prop) (B.state box) (HostAnswer.Value result) (B.state box)) }
     {
@@ -46,8 +44,8 @@ impl<B: HostObject> Objects<B> {
 
     /// The value of a property of a host object. It takes no memory.
     pub fn get_prop(&self, number: u64, prop: u16) -> Word
-        requires { IsSome (box_at number self.now) }
-        ensures { IsSomeAnd (box_at number self.now)
+        requires host { IsSome (box_at number self.now) }
+        ensures allowed { IsSomeAnd (box_at number self.now)
             (λ box. B.allows box (Get prop) (B.state box) (HostAnswer.Value result) (B.state box)) }
     {
         let Some(slot) = self.slot(number) else {
@@ -58,9 +56,8 @@ impl<B: HostObject> Objects<B> {
 
     /// Writes a property of the host object in a slot. It takes no memory.
     pub fn set_prop_at(&mut self, slot: usize, prop: u16, value: Word)
-        requires { (number : ℕ) × (slot_of number self.old ≡ Some slot)
-            × IsSome (box_at number self.old) }
-        ensures { (number : ℕ) → slot_of number self.old ≡ Some slot
+        requires host { IsHostIn slot self.old }
+        ensures answered { (number : ℕ) → slot_of number self.old ≡ Some slot
             → Answers B.HostObject number (Set prop value) HostAnswer.Nothing self.old self.new }
     {
         self.marks.mark(slot);
@@ -69,8 +66,8 @@ impl<B: HostObject> Objects<B> {
 
     /// Writes a property of a host object. It takes no memory.
     pub fn set_prop(&mut self, number: u64, prop: u16, value: Word)
-        requires { IsSome (box_at number self.old) }
-        ensures { Answers B.HostObject number (Set prop value) HostAnswer.Nothing self.old
+        requires host { IsSome (box_at number self.old) }
+        ensures answered { Answers B.HostObject number (Set prop value) HostAnswer.Nothing self.old
             self.new }
     {
         let Some(slot) = self.slot(number) else {
@@ -88,8 +85,7 @@ impl<B: HostObject> Objects<B> {
         args: &[Word],
         events: &mut Vec<Event>,
     ) -> Result<HostAnswer, NoMemory>
-        requires { (number : ℕ) × (slot_of number self.old ≡ Some slot)
-            × IsSome (box_at number self.old) }
+        requires host { IsHostIn slot self.old }
         ensures answered { IfOk result (λ answer. (number : ℕ) → slot_of number self.old ≡ Some slot
             → Answers B.HostObject number (Invoke method args.now) answer self.old self.new) }
         ensures called { IfOk result (λ answer. (number : ℕ) → slot_of number self.old ≡ Some slot
@@ -120,7 +116,7 @@ impl<B: HostObject> Objects<B> {
         args: &[Word],
         events: &mut Vec<Event>,
     ) -> Result<HostAnswer, NoMemory>
-        requires { IsSome (box_at number self.old) }
+        requires host { IsSome (box_at number self.old) }
         ensures answered { IfOk result
             (λ answer. Answers B.HostObject number (Invoke method args.now) answer self.old
             self.new) }
@@ -146,7 +142,7 @@ impl<B: HostObject> Objects<B> {
         args: &[Word],
         events: &mut Vec<Event>,
     ) -> Result<HostAnswer, NoMemory>
-        requires { service < length self.old.services }
+        requires registered { service < length self.old.services }
         ensures answered { IfOk result
             (λ answer. ServiceAnswers B.HostObject service
             (Invoke function args.now) answer self.old self.new) }

@@ -1,5 +1,5 @@
 //! The objects of a host: those that live, by their numbers and with their counts; the boxes of the embedding program
-//! that are free; its services. It stands on `ash_slots`, where each object has a slot while it lives, and on
+//! that are free; its services. It uses `ash_slots`, where each object has a slot while it lives, and
 //! `ash_host`. It promises that a table is a map from numbers to objects, in which a count is the number of fields that
 //! hold the object and one for each hold that was not undone, and that a sweep takes away what no hold and no object
 //! that stays leads to.
@@ -21,8 +21,9 @@ mod restoring;
 mod sweeping;
 
 pub use arrays::{IndexOutOfBounds, LengthFault};
+pub use ash_host::{MAX_ELEMENTS, MAX_OBJECTS};
 pub use ash_slots::{Array, Body, Element, Script, Words};
-pub use making::{MAX_ELEMENTS, MAX_OBJECTS, MakeFault};
-pub use marking::Touched;
+pub use making::MakeFault;
+pub use marking::Changes;
 pub use objects::Objects;
-pub use restoring::{Saved, Stored, StoredObjects, TableFault};
+pub use restoring::{SavedHostObject, StoredObject, StoredObjects, TableFault};

@@ -7,19 +7,14 @@ ghost use Rattle.ash_host.specs.declared.event.Event.{Event};
 ghost use Rattle.ash_objects.specs.declared.making.MakeFault.{MakeFault};
 ghost use Rattle.ash_slots.specs.declared.body.Body.{Body};
 ghost use Rattle.ash_slots.specs.Bodies.{words_of, initial_of};
-ghost use Rattle.ash_objects.specs.Table.{slot_of, IsAlive, max_objects, max_elements};
+ghost use Rattle.ash_objects.specs.Table.{slot_of, IsAlive};
+ghost use Rattle.ash_host.specs.Limits.{max_objects, max_elements};
 ghost use Rattle.ash_objects.specs.Making.{IsFull, IsSpent, first_of_kind, with_new_object};
 
 use crate::counting::refer_words;
 use crate::objects::Objects;
-use ash_host::{Event, HostObject, NoMemory};
+use ash_host::{Event, HostObject, MAX_ELEMENTS, MAX_OBJECTS, NoMemory};
 use ash_slots::{Array, Body, Element, Item, Script, Words};
-
-/// How many objects may live at once.
-pub const MAX_OBJECTS: usize = 4096;
-
-/// How many elements an array may have.
-pub const MAX_ELEMENTS: usize = 4096;
 
 /// Why no object was made.
 #[derive(Clone, Copy, Debug, PartialEq, Eq)]

@@ -15,7 +15,7 @@ use std::mem;
 
 /// The numbers of the objects that a change concerns.
 #[derive(Drop)]
-pub struct Touched {
+pub struct Changes {
     /// Those that were made or changed, and live, by ascending number.
     pub living: Vec<u64>,
     /// Those that went, sweep by sweep, each by ascending number.
@@ -78,7 +78,7 @@ impl<B: HostObject> Objects<B> {
     /// were made and taken away since; and clears the marks. Where memory is refused the marks stay.
     ///
     /// It looks at what was made or changed since the last such call, and at nothing else of the table.
-    pub fn touched(&mut self) -> Result<Touched, NoMemory>
+    pub fn touched(&mut self) -> Result<Changes, NoMemory>
         ensures living { IfOk result (λ touched. touched.living.items ≡ marked_of self.old) }
         ensures gone { IfOk result (λ touched. touched.gone.items ≡ self.old.gone) }
         ensures cleared { OnOk result (self.new ≡ without_marks self.old) }
@@ -93,6 +93,6 @@ impl<B: HostObject> Objects<B> {
         sort_numbers(&mut living);
         self.settled = self.last;
         let gone = mem::replace(&mut self.gone, Vec::new(alloc));
-        Ok(Touched { living, gone })
+        Ok(Changes { living, gone })
     }
 }

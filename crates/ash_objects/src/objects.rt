@@ -3,11 +3,13 @@ ghost use Rattle.std.specs.Prelude.{◌≡◌, ◌<◌, ◌≤◌, ◌+◌, ◌^
 ghost use Rattle.std.specs.Option.{option_copied};
 ghost use Rattle.ash_host.specs.Objects.{Lives};
 ghost use Rattle.ash_objects.specs.Table.{slot_of, body_of, count_of, holds_of, field_of, IsInUse};
-ghost use Rattle.ash_objects.specs.Table.{IsAlive, held, unheld, with_object, with_field};
+ghost use Rattle.ash_objects.specs.Table.{HasFieldIn, IsAlive, held, unheld, with_object, with_field};
 
 use crate::marked_slots::MarkedSlots;
 use ash_host::{HostObject, Word};
-use ash_slots::{Body, Store, count_less, count_more, read_word, refer, release, write_word};
+use ash_slots::{
+    Body, Store, add_ref, decrement_count, increment_count, read_word, remove_ref, write_word,
+};
 use std::alloc::Global;
 use std::marker::Model;
 
@@ -69,22 +71,22 @@ impl<B> Objects<B> {
 
     /// The slot of an object, if it lives. It takes no memory.
     pub fn slot(&self, number: u64) -> Option<usize>
-        ensures { result ≡ slot_of number self.now }
+        ensures slot { result ≡ slot_of number self.now }
     {
         self.store.slot(number)
     }
 
     /// The number of the object in a slot. It takes no memory.
     pub fn number(&self, slot: usize) -> u64
-        requires { IsInUse slot self.now }
-        ensures { (number : ℕ) → slot_of number self.now ≡ Some slot → result ≡ number }
+        requires lives { IsInUse slot self.now }
+        ensures number { (number : ℕ) → slot_of number self.now ≡ Some slot → result ≡ number }
     {
         self.store.number(slot)
     }
 
     /// What an object is, if it lives. It takes no memory.
     pub fn body(&self, number: u64) -> Option<&Body<B>>
-        ensures { option_copied result ≡ body_of number self.now }
+        ensures body { option_copied result ≡ body_of number self.now }
     {
         match self.store.slot(number) {
             Some(slot) => Some(&self.store.item(slot).body),
@@ -95,7 +97,7 @@ impl<B> Objects<B> {
     /// The count of an object: the fields and elements that hold it, and one for each `hold` that was not undone. It
     /// is 0 where none lives. It takes no memory.
     pub fn count(&self, number: u64) -> u128
-        ensures { result ≡ count_of number self.now }
+        ensures count { result ≡ count_of number self.now }
     {
         match self.store.slot(number) {
             Some(slot) => self.store.item(slot).count,
@@ -105,19 +107,19 @@ impl<B> Objects<B> {
 
     /// Holds the object in a slot once more. It takes no memory.
     pub fn hold_at(&mut self, slot: usize)
-        requires { (number : ℕ) × (slot_of number self.old ≡ Some slot)
+        requires few { (number : ℕ) × (slot_of number self.old ≡ Some slot)
             × (count_of number self.old < 2 ^ 127) }
-        ensures { (number : ℕ) → slot_of number self.old ≡ Some slot
+        ensures held { (number : ℕ) → slot_of number self.old ≡ Some slot
             → self.new ≡ with_object number held self.old }
     {
-        count_more(&mut self.store, slot);
+        increment_count(&mut self.store, slot);
     }
 
     /// Holds an object once more. It takes no memory.
     pub fn hold(&mut self, number: u64)
         requires lives { Lives self.old.objects number }
         requires few { count_of number self.old < 2 ^ 127 }
-        ensures { self.new ≡ with_object number held self.old }
+        ensures held { self.new ≡ with_object number held self.old }
     {
         let Some(slot) = self.slot(number) else {
             unreachable!()
@@ -127,18 +129,18 @@ impl<B> Objects<B> {
 
     /// Undoes a hold of the object in a slot. It takes no memory.
     pub fn unhold_at(&mut self, slot: usize)
-        requires { (number : ℕ) × (slot_of number self.old ≡ Some slot)
+        requires held { (number : ℕ) × (slot_of number self.old ≡ Some slot)
             × (0 < holds_of number self.old) }
-        ensures { (number : ℕ) → slot_of number self.old ≡ Some slot
+        ensures unheld { (number : ℕ) → slot_of number self.old ≡ Some slot
             → self.new ≡ with_object number unheld self.old }
     {
-        count_less(&mut self.store, slot);
+        decrement_count(&mut self.store, slot);
     }
 
     /// Undoes a hold of an object. It takes no memory.
     pub fn unhold(&mut self, number: u64)
-        requires { 0 < holds_of number self.old }
-        ensures { self.new ≡ with_object number unheld self.old }
+        requires held { 0 < holds_of number self.old }
+        ensures unheld { self.new ≡ with_object number unheld self.old }
     {
         let Some(slot) = self.slot(number) else {
             unreachable!()
@@ -148,9 +150,8 @@ impl<B> Objects<B> {
 
     /// The word at a place of the object in a slot. It takes no memory.
     pub fn field_at(&self, slot: usize, place: usize) -> Word
-        requires { (number : ℕ) × (slot_of number self.now ≡ Some slot)
-            × IsSome (field_of number place self.now) }
-        ensures { (number : ℕ) → slot_of number self.now ≡ Some slot
+        requires there { HasFieldIn slot place self.now }
+        ensures field { (number : ℕ) → slot_of number self.now ≡ Some slot
             → field_of number place self.now ≡ Some result }
     {
         read_word(&self.store, slot, place)
@@ -158,8 +159,8 @@ impl<B> Objects<B> {
 
     /// The word at a place of an object. It takes no memory.
     pub fn field(&self, number: u64, place: usize) -> Word
-        requires { IsSome (field_of number place self.now) }
-        ensures { field_of number place self.now ≡ Some result }
+        requires there { IsSome (field_of number place self.now) }
+        ensures field { field_of number place self.now ≡ Some result }
     {
         let Some(slot) = self.slot(number) else {
             unreachable!()
@@ -169,23 +170,22 @@ impl<B> Objects<B> {
 
     /// Writes a word at a place of the object in a slot. It takes no memory.
     pub fn set_field_at(&mut self, slot: usize, place: usize, word: Word)
-        requires there { (number : ℕ) × (slot_of number self.old ≡ Some slot)
-            × IsSome (field_of number place self.old) }
+        requires there { HasFieldIn slot place self.old }
         requires alive { IsAlive word self.old }
-        ensures { (number : ℕ) → slot_of number self.old ≡ Some slot
+        ensures written { (number : ℕ) → slot_of number self.old ≡ Some slot
             → self.new ≡ with_object number (with_field place word) self.old }
     {
-        refer(&mut self.store, word);
+        add_ref(&mut self.store, word);
         let before = write_word(&mut self.store, slot, place, word);
         self.marks.mark(slot);
-        release(&mut self.store, before);
+        remove_ref(&mut self.store, before);
     }
 
     /// Writes a word at a place of an object. It takes no memory.
     pub fn set_field(&mut self, number: u64, place: usize, word: Word)
         requires there { IsSome (field_of number place self.old) }
         requires alive { IsAlive word self.old }
-        ensures { self.new ≡ with_object number (with_field place word) self.old }
+        ensures written { self.new ≡ with_object number (with_field place word) self.old }
     {
         let Some(slot) = self.slot(number) else {
             unreachable!()

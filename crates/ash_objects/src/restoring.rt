@@ -5,16 +5,16 @@ ghost use Rattle.ash_host.specs.Objects.{object_at, numbers, Lives, IsInOrder, A
 ghost use Rattle.ash_slots.specs.Bodies.{words_of};
 ghost use Rattle.ash_slots.specs.Counting.{counted};
 ghost use Rattle.ash_objects.specs.declared.restoring.TableFault.{TableFault};
-ghost use Rattle.ash_objects.specs.declared.restoring.Stored.{Stored};
+ghost use Rattle.ash_objects.specs.declared.restoring.StoredObject.{StoredObject};
 ghost use Rattle.ash_objects.specs.Counting.{words_at, AllLive};
-ghost use Rattle.ash_objects.specs.Table.{max_objects, max_elements};
+ghost use Rattle.ash_host.specs.Limits.{max_objects, max_elements};
 ghost use Rattle.ash_objects.specs.Listing.{AreListed};
 ghost use Rattle.ash_objects.specs.Restoring.{stored_in, states_in, kind_wanted, bytes_of, Drawn};
 ghost use Rattle.ash_objects.specs.Restoring.{Enough, Short, draw_then, draw_boxes, with_box_first};
 ghost use Rattle.ash_objects.specs.Restoring.{RestoresState, RestoresBox, RestoresServices};
 ghost use Rattle.ash_objects.specs.Restoring.{RestoresBoxes, ServiceRefused};
 ghost use Rattle.ash_objects.specs.Restoring.{BoxRefused, IsRefused, IsRestored, with_drawn, AreFit};
-ghost use Rattle.ash_objects.specs.Restoring.{ArePut, refer_objects};
+ghost use Rattle.ash_objects.specs.Restoring.{AreInserted, refer_objects};
 
 use crate::counting::refer_words;
 use crate::making::place_of_kind;
@@ -26,7 +26,7 @@ use std::alloc::Global;
 
 /// A host object as a state has it.
 #[derive(Drop)]
-pub struct Saved {
+pub struct SavedHostObject {
     /// The number of its kind.
     pub kind: u16,
     /// Its state in bytes.
@@ -35,16 +35,16 @@ pub struct Saved {
 
 /// An object as a state has it: a host object with its kind and its state in place of its box.
 #[derive(Drop)]
-pub struct Stored {
+pub struct StoredObject {
     pub number: u64,
-    pub body: Body<Saved>,
+    pub body: Body<SavedHostObject>,
 }
 
 /// The objects of a state, and the last number that was given to one.
 #[derive(Drop)]
 pub struct StoredObjects {
     /// By ascending number.
-    pub objects: Vec<Stored>,
+    pub objects: Vec<StoredObject>,
     pub last: u64,
 }
 
@@ -59,7 +59,7 @@ pub enum TableFault {
     NoMemory,
 }
 
-impl Stored {
+impl StoredObject {
     // The state of a host object; none of what is none.
     fn bytes(&self) -> &[u8]
         ensures { result.now ≡ bytes_of self.now.body }
@@ -72,7 +72,10 @@ impl Stored {
 }
 
 // Takes the first box of an object's kind from the pool, if it is a host object.
-fn take_box<B: HostObject>(pool: &mut Vec<B>, object: &Stored) -> Result<Option<B>, TableFault>
+fn take_box<B: HostObject>(
+    pool: &mut Vec<B>,
+    object: &StoredObject,
+) -> Result<Option<B>, TableFault>
     ensures taken { IfOk result (λ taken. (others : List B → Drawn B)
         → draw_then B.HostObject (kind_wanted object.now) pool.old.items others
         ≡ with_box_first taken (others pool.new.items)) }
@@ -95,7 +98,7 @@ fn take_box<B: HostObject>(pool: &mut Vec<B>, object: &Stored) -> Result<Option<
 // Takes the boxes of these objects from the pool, in order.
 fn take_boxes<B: HostObject>(
     alloc: Global,
-    objects: &[Stored],
+    objects: &[StoredObject],
     pool: &mut Vec<B>,
 ) -> Result<Vec<Option<B>>, TableFault>
     ensures enough { IfOk result (λ boxes. draw_boxes B.HostObject objects.now pool.old.items
@@ -148,7 +151,10 @@ fn restore_services<B: HostObject>(
 }
 
 // Restores the box that an object took, if it took one, from the object's state.
-fn restore_box<B: HostObject>(object: &Stored, taken: &mut Option<B>) -> Result<(), TableFault>
+fn restore_box<B: HostObject>(
+    object: &StoredObject,
+    taken: &mut Option<B>,
+) -> Result<(), TableFault>
     ensures restored { OnOk result (RestoresBox B.HostObject object.now.body taken.old taken.new) }
     ensures refused { (number : ℕ) → IsErrOf result (TableFault.RestoreRefused number)
         → (number ≡ object.now.number)
@@ -163,7 +169,7 @@ fn restore_box<B: HostObject>(object: &Stored, taken: &mut Option<B>) -> Result<
 
 // Restores the box that each object took from the object's state, in order.
 fn restore_boxes<B: HostObject>(
-    objects: &[Stored],
+    objects: &[StoredObject],
     boxes: &mut Vec<Option<B>>,
 ) -> Result<(), TableFault>
     requires { length objects.now ≡ vec_len boxes.old }
@@ -180,7 +186,7 @@ fn restore_boxes<B: HostObject>(
 }
 
 // What an object is, with the box that it took in place of its kind and state.
-fn join<B: HostObject>(body: Body<Saved>, taken: Option<B>) -> Body<B>
+fn join<B: HostObject>(body: Body<SavedHostObject>, taken: Option<B>) -> Body<B>
     requires { IsSome (with_drawn body taken) }
     ensures { with_drawn body taken ≡ Some result }
 {
@@ -196,16 +202,16 @@ fn join<B: HostObject>(body: Body<Saved>, taken: Option<B>) -> Body<B>
 
 // Puts these objects into slots, each with the box that it took, the last first. Nothing is counted, and nothing is
 // listed.
-fn put_objects<B: HostObject>(
+fn insert_objects<B: HostObject>(
     store: &mut Store<B>,
     marks: &mut MarkedSlots,
-    mut objects: Vec<Stored>,
+    mut objects: Vec<StoredObject>,
     mut boxes: Vec<Option<B>>,
 ) -> Result<(), TableFault>
     requires empty { store.old.objects ≡ [] }
     requires in_order { IsInOrder (stored_in objects.items) }
     requires fit { AreFit objects.items boxes.items }
-    ensures put { OnOk result (ArePut objects.items boxes.items store.new.objects) }
+    ensures inserted { OnOk result (AreInserted objects.items boxes.items store.new.objects) }
     ensures listed { OnOk result (AreListed store.new.objects marks.new) }
     ensures memory { (fault : TableFault) → IsErrOf result fault → fault ≡ TableFault.NoMemory }
 {
@@ -229,7 +235,7 @@ fn put_objects<B: HostObject>(
 }
 
 // The numbers of these objects, in order.
-fn numbers_of(alloc: Global, objects: &[Stored]) -> Result<Vec<u64>, TableFault>
+fn numbers_of(alloc: Global, objects: &[StoredObject]) -> Result<Vec<u64>, TableFault>
     ensures numbers { IfOk result (λ list. list.items ≡ numbers (stored_in objects.now)) }
     ensures memory { (fault : TableFault) → IsErrOf result fault → fault ≡ TableFault.NoMemory }
 {
@@ -301,7 +307,7 @@ impl<B: HostObject> Objects<B> {
         let list = numbers_of(alloc, &objects)?;
         let mut store = Store::new(alloc);
         let mut marks = MarkedSlots::new(alloc);
-        put_objects(&mut store, &mut marks, objects, boxes)?;
+        insert_objects(&mut store, &mut marks, objects, boxes)?;
         refer_from(&mut store, &list);
         Ok(Objects {
             store,

@@ -60,7 +60,7 @@ fn sort_taken<B>(taken: &mut Vec<Entry<B>>)
 }
 
 // Appends the numbers of those that had been given when the marks were cleared, and an event for each host object.
-fn report<B>(taken: &[Entry<B>], settled: u64, gone: &mut Vec<u64>, events: &mut Vec<Event>)
+fn push_dropped<B>(taken: &[Entry<B>], settled: u64, gone: &mut Vec<u64>, events: &mut Vec<Event>)
     requires numbers_fit { vec_len gone.old + length taken.now ≤ vec_capacity gone.old }
     requires events_fit { vec_len events.old + length taken.now ≤ vec_capacity events.old }
     ensures gone { gone.new.items ≡ gone.old.items ++ marked_since settled
@@ -121,7 +121,7 @@ impl<B: HostObject> Objects<B> {
         }
         collect(&mut self.store, &mut taken);
         sort_taken(&mut taken);
-        report(&taken, self.settled, &mut self.gone, events);
+        push_dropped(&taken, self.settled, &mut self.gone, events);
         Ok(())
     }
 }

@@ -3,7 +3,7 @@ use Rattle.std.specs.Prelude.{◌≡◌, ◌≤◌, ℕ, List, length, Some}
 use Rattle.std.specs.List.{AllByRecursion}
 use Rattle.ash_host.specs.declared.event.Target.{Target}
 use Rattle.ash_host.specs.declared.host_object.HostObject.{Ghosts}
-use Rattle.ash_host.specs.Calls.{max_state}
+use Rattle.ash_host.specs.Limits.{max_state_bytes}
 use Rattle.ash_host.specs.Objects.{Plain, Script, Array, Host, object_at}
 use Rattle.ash_host.specs.Records.{HostRecord, IsValidRecord}
 use Rattle.ash_phrases.specs.Activity.{FreeBox, World}
@@ -18,7 +18,7 @@ abbrev pub AreValid : {B : Type 0} → Ghosts B → Answerers B → List HostRec
 AreValid host answerers records = AllByRecursion (λ (r : HostRecord). IsValidRecord host (answerers r.target) r) records
 
 abbrev pub StateFits : List ℕ → Type 0
-StateFits state = length state ≤ max_state
+StateFits state = length state ≤ max_state_bytes
 
 -- only host objects have a state
 abbrev pub ObjectFits : Plain (List ℕ) → Type 0

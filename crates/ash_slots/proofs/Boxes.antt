@@ -7,21 +7,21 @@ use Rattle.ash_slots.specs.declared.entry.Item.{Item}
 use Rattle.ash_slots.specs.declared.body.Body.TheVariants.{Script, Array, Host}
 use Rattle.ash_slots.specs.declared.body.Script as scripts
 use Rattle.ash_slots.specs.declared.body.Array as arrays
-use Rattle.ash_slots.specs.Store.{Placed, AreStored, IsIn, change_in, with_item, change_at}
+use Rattle.ash_slots.specs.Store.{SlotEntry, AreStored, IsIn, change_in, with_item, change_at}
 use Rattle.ash_slots.specs.Responses.{box_of, stored_box, boxed}
 use Rattle.ash_slots.proofs.Changing.{change_in_is}
 use Rattle.ash_slots.proofs.Steps.{change_same}
 
 module _ {B : Type 0} where
-  item_same : (n : ℕ) (l : List (ℕ × Placed B)) (it : Item B) → IsSomeAnd (object_at n l) (λ object. object.item ≡ it)
-      → (p : Placed B) → object_at n l ≡ Some p → p.item ≡ it
-  item_same n l it h p is = subst (λ (v : Option (Placed B)). IsSomeAnd v (λ object. object.item ≡ it)) is h
+  item_same : (n : ℕ) (l : List (ℕ × SlotEntry B)) (it : Item B) → IsSomeAnd (object_at n l) (λ object. object.item ≡ it)
+      → (p : SlotEntry B) → object_at n l ≡ Some p → p.item ≡ it
+  item_same n l it h p is = subst (λ (v : Option (SlotEntry B)). IsSomeAnd v (λ object. object.item ≡ it)) is h
 
-  module _ (n : ℕ) (l : List (ℕ × Placed B)) (it : Item B) (mine : IsSomeAnd (object_at n l) (λ object. object.item ≡ it)) where
+  module _ (n : ℕ) (l : List (ℕ × SlotEntry B)) (it : Item B) (mine : IsSomeAnd (object_at n l) (λ object. object.item ≡ it)) where
     stored_is : stored_box n l ≡ box_of it.body
     stored_is = go (object_at n l) mine
       where
-        go : (v : Option (Placed B)) → IsSomeAnd v (λ object. object.item ≡ it)
+        go : (v : Option (SlotEntry B)) → IsSomeAnd v (λ object. object.item ≡ it)
             → option_and_then (λ object. box_of (object.item).body) v ≡ box_of it.body
         go None h = absurd h
         go (Some p) h = ap (λ (i : Item B). box_of i.body) h

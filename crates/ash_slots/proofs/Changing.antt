@@ -7,7 +7,7 @@ use Rattle.std.proofs.lemmas.Bool.{eqb-true, eq-eqb}
 use Rattle.std.proofs.lemmas.List.Sums.{sum_by-cons}
 use Rattle.ash_host.specs.Objects.{object_at, numbers, IsInOrder}
 use Rattle.ash_host.proofs.Order.{none_after, in_order_after, same_in_order}
-use Rattle.ash_slots.specs.Store.{Placed, AreStored, IsIn, change_in, change_at}
+use Rattle.ash_slots.specs.Store.{SlotEntry, AreStored, IsIn, change_in, change_at}
 
 module _ {A : Type 0} where
   -- what is at each number after a change at one
@@ -111,7 +111,7 @@ module _ {A : Type 0} where
 
 module _ {B : Type 0} where
   -- what is at each number after a change in a slot
-  pub object_at-change_in : (slot : ℕ) (f : Placed B → Placed B) (m : ℕ) (l : List (ℕ × Placed B))
+  pub object_at-change_in : (slot : ℕ) (f : SlotEntry B → SlotEntry B) (m : ℕ) (l : List (ℕ × SlotEntry B))
       → object_at m (change_in slot f l) ≡ option_map (λ object. cond (nat_eq slot object.slot) (f object) object)
       (object_at m l)
   object_at-change_in slot f m [] = refl
@@ -126,36 +126,36 @@ module _ {B : Type 0} where
       go true later = refl
       go false later = later
 
-  pub numbers-change_in : (slot : ℕ) (f : Placed B → Placed B) (l : List (ℕ × Placed B))
+  pub numbers-change_in : (slot : ℕ) (f : SlotEntry B → SlotEntry B) (l : List (ℕ × SlotEntry B))
       → numbers (change_in slot f l) ≡ numbers l
   numbers-change_in slot f [] = refl
   numbers-change_in slot f (e ∷ l) = ap (λ (ns : List ℕ). e.0 ∷ ns) (numbers-change_in slot f l)
 
   -- a change in a slot is one at the number of the object there
-  pub change_in_is : (slot n : ℕ) (f : Placed B → Placed B) (l : List (ℕ × Placed B)) → AreStored l → IsIn n slot l
+  pub change_in_is : (slot n : ℕ) (f : SlotEntry B → SlotEntry B) (l : List (ℕ × SlotEntry B)) → AreStored l → IsIn n slot l
       → change_in slot f l ≡ change_at n f l
   change_in_is slot n f l s here =
       same_in_order (change_in slot f l) (change_at n f l) (rw (numbers-change_in slot f l) s.in_order) (in_order-change n f l s.in_order) (λ m. object_at-change_in slot f m l ∙ each m (object_at m l) refl ∙ sym (object_at-change n f m l))
     where
-      each : (m : ℕ) (o : Option (Placed B)) → object_at m l ≡ o
+      each : (m : ℕ) (o : Option (SlotEntry B)) → object_at m l ≡ o
           → option_map (λ object. cond (nat_eq slot object.slot) (f object) object) o
           ≡ cond (nat_eq n m) (option_map f o) o
       each m None is = none (nat_eq n m)
         where
-          none : (b : Bool) → None ≡ cond {A = Option (Placed B)} b None None
+          none : (b : Bool) → None ≡ cond {A = Option (SlotEntry B)} b None None
           none true = refl
           none false = refl
       each m (Some x) is = some (nat_eq n m) refl (nat_eq slot x.slot) refl
         where
           in_slot : x.slot ≡ slot → IsIn m slot l
-          in_slot at = subst (λ (o : Option (Placed B)). IsSomeAnd o (λ object. object.slot ≡ slot)) (sym is) at
+          in_slot at = subst (λ (o : Option (SlotEntry B)). IsSomeAnd o (λ object. object.slot ≡ slot)) (sym is) at
 
-          some : (b : Bool) → nat_eq n m ≡ b → (c : Bool) → nat_eq slot x.slot ≡ c → Some (cond c (f x) x) ≡ cond {A = Option (Placed B)} b (Some (f x)) (Some x)
+          some : (b : Bool) → nat_eq n m ≡ b → (c : Bool) → nat_eq slot x.slot ≡ c → Some (cond c (f x) x) ≡ cond {A = Option (SlotEntry B)} b (Some (f x)) (Some x)
           some true p true q = refl
           some false p false q = refl
           some true p false q =
               let n_is : n ≡ m = eqb-true n m p in
-              let at : x.slot ≡ slot = subst (λ (o : Option (Placed B)). IsSomeAnd o (λ object. object.slot ≡ slot)) (ap (λ (k : ℕ). object_at k l) n_is ∙ is) here in
+              let at : x.slot ≡ slot = subst (λ (o : Option (SlotEntry B)). IsSomeAnd o (λ object. object.slot ≡ slot)) (ap (λ (k : ℕ). object_at k l) n_is ∙ is) here in
               let yes = eq-eqb slot x.slot (sym at) in
               absurd (cc)
           some false p true q =

@@ -1,6 +1,7 @@
 pub mod Options
 pub mod Placing
 pub mod Writing
+pub mod Removing
 pub mod Moving
 pub mod Changing
 pub mod Steps

@@ -3,91 +3,23 @@ use Rattle.std.proofs.Common.{◌≡◌, ◌≢◌, ℕ, Bool, true, false, cond
 use Rattle.std.specs.Prelude.{IsSomeAnd, IsSome, IfSome, is_some}
 use Rattle.std.specs.List.{Contains}
 use Rattle.std.specs.Map.{remove_entry}
-use Rattle.std.specs.BTreeMap.{is_at}
 use Rattle.std.specs.Ordering.{nat_cmp, match_ordering}
 use Rattle.std.specs.declared.cmp.Ordering.{Ordering}
 use Rattle.std.proofs.Common.{Less, Equal, Greater}
 use Rattle.std.proofs.lemmas.Bool.{eqb-true, eq-eqb}
-use Rattle.std.proofs.lemmas.Bool.Decides.{nat_tests}
 use Rattle.std.proofs.lemmas.List.Sums.{sum_by-set, sum_by-cons}
 use Rattle.std.proofs.lemmas.List.{length-append}
 use Rattle.std.proofs.lemmas.List.Elements.{Contains-append_left, Contains-append_right}
 use Rattle.slab.specs.Slab.{Slab, get, slab_len, Updates}
 use Rattle.slab.proofs.SlabLemmas.{ContainsKey-within}
 use Rattle.ash_host.specs.Objects.{object_at, with_at, IsInOrder}
-use Rattle.ash_host.proofs.Order.{none_after, in_order_after, in_order-with_at, object_at-with_at}
+use Rattle.ash_host.proofs.Order.{in_order_after, in_order-with_at, object_at-with_at}
 use Rattle.ash_slots.specs.declared.entry.Entry.{Entry}
-use Rattle.ash_slots.specs.Store.{Placed, placed, with_entry, placed_in, ArePlaced, IsStored, is_unlisted}
+use Rattle.ash_slots.specs.Store.{SlotEntry, placed, with_entry, placed_in, ArePlaced, IsStored, is_unlisted}
+use Rattle.ash_slots.proofs.Removing.{level, not_first, none_later, object_at-removed}
 
 apart_from : (x y : ℕ) → nat_eq x y ≡ false → y ≢ x
 apart_from x y h = λ same. let yes = eq-eqb x y (sym same) in cc
-
-is_at_eq : (x y : ℕ) → is_at (nat_cmp x) y ≡ nat_eq x y
-is_at_eq x y = grind (arith, nat_tests)
-
--- what a map is without a number
-pub removed_by_number : {A : Type 0} (n : ℕ) (l : List (ℕ × A)) → remove_entry (is_at (nat_cmp n)) l
-    ≡ remove_entry (nat_eq n) l
-removed_by_number n [] = refl
-removed_by_number n (e ∷ l) =
-    ap (λ (b : Bool). cond b l (e ∷ remove_entry (is_at (nat_cmp n)) l)) (is_at_eq n e.0)
-    ∙ ap (λ (t : List (ℕ × _)). cond (nat_eq n e.0) l (e ∷ t)) (removed_by_number n l)
-
-level : (x y : ℕ) → nat_cmp x y ≡ Equal → nat_eq x y ≡ true
-level x y h = grind (arith, nat_tests)
-
--- a number at which nothing is is not that of the first entry, nor of a later one
-not_first : {A : Type 0} (n : ℕ) (e : ℕ × A) (l : List (ℕ × A)) → object_at n (e ∷ l) ≡ None → (nat_eq n e.0 ≡ false)
-    × (object_at n l ≡ None)
-not_first {A} n e l h = go (nat_eq n e.0) refl
-  where
-    go : (b : Bool) → nat_eq n e.0 ≡ b → (nat_eq n e.0 ≡ false) × (object_at n l ≡ None)
-    go true is = let here = ap (λ (b : Bool). cond b (Some e.1) (object_at n l)) is in let both : Some e.1 ≡ None = sym here ∙ h in absurd (cc)
-    go false is = (is, sym (ap (λ (b : Bool). cond b (Some e.1) (object_at n l)) is) ∙ h)
-
-none_later : {A : Type 0} (n : ℕ) (e : ℕ × A) (l : List (ℕ × A)) → IsInOrder (e ∷ l) → nat_eq n e.0 ≡ true
-    → object_at n l ≡ None
-none_later {A} n e l o same = go (object_at n l) refl
-  where
-    go : (v : Option A) → object_at n l ≡ v → object_at n l ≡ None
-    go None is = is
-    go (Some x) is = let not_here = none_after e l n o (subst (λ (v : Option A). IsSome v) (sym is) refl) in absurd (cc)
-
--- what is at each number once one was taken out
-pub object_at-removed : {A : Type 0} (n m : ℕ) (l : List (ℕ × A)) → IsInOrder l
-    → object_at m (remove_entry (nat_eq n) l) ≡ cond (nat_eq n m) None (object_at m l)
-object_at-removed {A} n m [] o = go (nat_eq n m)
-  where
-    go : (b : Bool) → None ≡ cond {A = Option A} b None None
-    go true = refl
-    go false = refl
-object_at-removed {A} n m (e ∷ l) o =
-    go (nat_eq n e.0) refl (object_at-removed n m l (in_order_after e l o))
-  where
-    split : (b : Bool) → nat_eq n m ≡ b → nat_eq n e.0 ≡ true
-        → object_at m l ≡ cond b None (cond (nat_eq m e.0) (Some e.1) (object_at m l))
-    split true p is =
-        let same : n ≡ m = eqb-true n m p in
-        ap (λ (k : ℕ). object_at k l) (sym same) ∙ none_later n e l o is
-    split false p is =
-        let apart : nat_eq m e.0 ≡ false = grind (arith, nat_tests) in
-        sym (ap (λ (b : Bool). cond b (Some e.1) (object_at m l)) apart)
-
-    other : (b c : Bool) → nat_eq n m ≡ b → nat_eq m e.0 ≡ c → nat_eq n e.0 ≡ false
-        → cond c (Some e.1) (cond b None (object_at m l)) ≡ cond b None (cond c (Some e.1) (object_at m l))
-    other false c p q is = refl
-    other true false p q is = refl
-    other true true p q is =
-        let same : n ≡ e.0 = eqb-true n m p ∙ eqb-true m e.0 q in
-        let yes = eq-eqb n e.0 same in
-        absurd (cc)
-
-    go : (b : Bool) → nat_eq n e.0 ≡ b → object_at m (remove_entry (nat_eq n) l)
-        ≡ cond (nat_eq n m) None (object_at m l) → object_at m (cond b l (e ∷ remove_entry (nat_eq n) l))
-        ≡ cond (nat_eq n m) None (cond (nat_eq m e.0) (Some e.1) (object_at m l))
-    go true is later = split (nat_eq n m) refl is
-    go false is later =
-        ap (λ (v : Option A). cond (nat_eq m e.0) (Some e.1) v) later ∙ other (nat_eq n m) (nat_eq m e.0) refl refl is
 
 -- lists of slots that are alike for a test that an empty slot fails have as many that pass
 pub count_same : {A : Type 0} (p : Option A → Bool) → p None ≡ false → (xs ys : List (Option A))
@@ -130,11 +62,11 @@ module _ {B : Type 0} where
   module _ {old new : Slab (Entry B)} {slot : ℕ} (others : SameBut old new slot) where
     -- an entry in another slot is where it was
     at_other : (e : ℕ × ℕ) → (e.1 ≢ slot) → IsSomeAnd (get old e.1) (λ entry. entry.number ≡ e.0)
-        → (rest rest' : List (ℕ × Placed B)) → rest' ≡ rest
+        → (rest rest' : List (ℕ × SlotEntry B)) → rest' ≡ rest
         → (with_entry e.0 e.1 (get new e.1) rest' ≡ with_entry e.0 e.1 (get old e.1) rest)
         × IsSomeAnd (get new e.1) (λ entry. entry.number ≡ e.0)
     at_other e apart p rest rest' same = (
-      ap (λ (o : Option (Entry B)). with_entry e.0 e.1 o rest') (others.same e.1 apart) ∙ ap (λ (l : List (ℕ × Placed B)). with_entry e.0 e.1 (get old e.1) l) same,
+      ap (λ (o : Option (Entry B)). with_entry e.0 e.1 o rest') (others.same e.1 apart) ∙ ap (λ (l : List (ℕ × SlotEntry B)). with_entry e.0 e.1 (get old e.1) l) same,
       subst (λ (o : Option (Entry B)). IsSomeAnd o (λ entry. entry.number ≡ e.0)) (sym (others.same e.1 apart)) p,
     )
 
@@ -178,7 +110,7 @@ module _ {B : Type 0} where
       removed_in (e ∷ index) o a =
           go (nat_eq n e.0) refl (get old e.1) refl a.0 (removed_in index (in_order_after e index o) a.1)
         where
-          rest : List (ℕ × Placed B)
+          rest : List (ℕ × SlotEntry B)
           rest = placed_in old index
 
           Goal : Bool → Option (Entry B) → Type 0
@@ -206,7 +138,7 @@ module _ {B : Type 0} where
               )
 
     module _ (n : ℕ) (entry : Entry B) (was : get old slot ≡ None) (now : get new slot ≡ Some entry) (number : entry.number ≡ n) where
-      new_here : (rest : List (ℕ × Placed B)) → with_entry n slot (get new slot) rest ≡ (n, placed slot entry) ∷ rest
+      new_here : (rest : List (ℕ × SlotEntry B)) → with_entry n slot (get new slot) rest ≡ (n, placed slot entry) ∷ rest
       new_here rest = ap (λ (o : Option (Entry B)). with_entry n slot o rest) now
 
       new_placed : IsSomeAnd (get new slot) (λ x. x.number ≡ n)
@@ -220,7 +152,7 @@ module _ {B : Type 0} where
       inserted_in (e ∷ index) a none =
           go (nat_cmp n e.0) refl (get old e.1) refl a.0 (inserted_in index a.1 (not_first n e index none).1)
         where
-          rest : List (ℕ × Placed B)
+          rest : List (ℕ × SlotEntry B)
           rest = placed_in old index
 
           stay : (placed_in new (e ∷ index) ≡ placed_in old (e ∷ index)) × ArePlaced new (e ∷ index)
@@ -244,7 +176,7 @@ module _ {B : Type 0} where
           go b is None at p later = absurd p
           go Less is (Some x) at p later =
               let as_was : placed_in new (e ∷ index) ≡ (e.0, placed e.1 x) ∷ rest = stay.0 ∙ ap (λ (v : Option (Entry B)). with_entry e.0 e.1 v rest) at in (
-                new_here (placed_in new (e ∷ index)) ∙ ap (λ (l : List (ℕ × Placed B)). (n, placed slot entry) ∷ l) as_was
+                new_here (placed_in new (e ∷ index)) ∙ ap (λ (l : List (ℕ × SlotEntry B)). (n, placed slot entry) ∷ l) as_was
                     ∙ sym (ap (λ (b : Ordering). match_ordering b ((n, placed slot entry) ∷ (e.0, placed e.1 x) ∷ rest) ((e.0, placed slot entry) ∷ rest) ((e.0, placed e.1 x) ∷ with_at n (placed slot entry) rest)) is),
                 (new_placed, stay.1),
               )
@@ -383,7 +315,7 @@ module _ {B : Type 0} where
   pub placed_regrown : (entries : Slab (Entry B)) (capacity : ℕ) (index : List (ℕ × ℕ)) → placed_in (record entries { capacity = capacity }) index ≡ placed_in entries index
   placed_regrown entries capacity [] = refl
   placed_regrown entries capacity (e ∷ index) =
-      ap (λ (l : List (ℕ × Placed B)). with_entry e.0 e.1 (get entries e.1) l) (placed_regrown entries capacity index)
+      ap (λ (l : List (ℕ × SlotEntry B)). with_entry e.0 e.1 (get entries e.1) l) (placed_regrown entries capacity index)
 
   still_placed_regrown : (entries : Slab (Entry B)) (capacity : ℕ) (index : List (ℕ × ℕ)) → ArePlaced entries index → ArePlaced (record entries { capacity = capacity }) index
   still_placed_regrown entries capacity [] a = tt

@@ -11,7 +11,7 @@ use Rattle.std.proofs.lemmas.Bool.Decides.{nat_tests}
 use Rattle.slab.specs.Slab.{Slab, get}
 use Rattle.ash_host.specs.Objects.{object_at, numbers, IsInOrder}
 use Rattle.ash_slots.specs.declared.entry.Entry.{Entry}
-use Rattle.ash_slots.specs.Store.{Placed, placed, with_entry, placed_in, ArePlaced, AreStored, NoneWaits, IsIdle, IsIn, IsOccupied}
+use Rattle.ash_slots.specs.Store.{SlotEntry, placed, with_entry, placed_in, ArePlaced, AreStored, NoneWaits, IsIdle, IsIn, IsOccupied}
 
 is_at_eq : (x y : ℕ) → is_at (nat_cmp x) y ≡ nat_eq x y
 is_at_eq x y = grind (arith, nat_tests)
@@ -31,7 +31,7 @@ module _ {B : Type 0} where
   slots_of n entries (e ∷ index) a =
       go (get entries e.1) a.0 (slots_of n entries index a.1)
     where
-      rest : List (ℕ × Placed B)
+      rest : List (ℕ × SlotEntry B)
       rest = placed_in entries index
 
       go : (o : Option (Entry B)) → IsSomeAnd o (λ entry. entry.number ≡ e.0)
@@ -46,19 +46,19 @@ module _ {B : Type 0} where
           ]
 
   -- what a number's object is in its slot
-  pub record Found (n : ℕ) (entries : Slab (Entry B)) (object : Placed B) : Type 0 where
+  pub record Found (n : ℕ) (entries : Slab (Entry B)) (object : SlotEntry B) : Type 0 where
     pub entry : Entry B
     pub there : get entries object.slot ≡ Some entry
     pub same : placed object.slot entry ≡ object
     pub number : entry.number ≡ n
 
-  pub found_in : (n : ℕ) (entries : Slab (Entry B)) (index : List (ℕ × ℕ)) (object : Placed B)
+  pub found_in : (n : ℕ) (entries : Slab (Entry B)) (index : List (ℕ × ℕ)) (object : SlotEntry B)
       → ArePlaced entries index → object_at n (placed_in entries index) ≡ Some object → Found n entries object
   found_in n entries [] object a h = cc
   found_in n entries (e ∷ index) object a h =
       go (get entries e.1) refl a.0 (nat_eq n e.0) refl h (λ later. found_in n entries index object a.1 later)
     where
-      rest : List (ℕ × Placed B)
+      rest : List (ℕ × SlotEntry B)
       rest = placed_in entries index
 
       go : (o : Option (Entry B)) → get entries e.1 ≡ o → IsSomeAnd o (λ entry. entry.number ≡ e.0) → (b : Bool)
@@ -68,7 +68,7 @@ module _ {B : Type 0} where
       go (Some x) is p true same h later =
           let here : Some (placed e.1 x) ≡ Some object = sym (ap (λ (b : Bool). cond b (Some (placed e.1 x)) (object_at n rest)) same) ∙ h in
           let one : placed e.1 x ≡ object = cc in
-          let slot : e.1 ≡ object.slot = ap (λ (p : Placed B). p.slot) one in
+          let slot : e.1 ≡ object.slot = ap (λ (p : SlotEntry B). p.slot) one in
           let n_is : n ≡ e.0 = eqb-true n e.0 same in
           record {
             entry = x;
@@ -86,7 +86,7 @@ module _ {B : Type 0} where
   entry_in n slot entries index a h =
       go (object_at n (placed_in entries index)) refl h
     where
-      go : (o : Option (Placed B)) → object_at n (placed_in entries index) ≡ o
+      go : (o : Option (SlotEntry B)) → object_at n (placed_in entries index) ≡ o
           → IsSomeAnd o (λ object. object.slot ≡ slot) → (entry : Entry B) × (get entries slot ≡ Some entry)
           × (object_at n (placed_in entries index) ≡ Some (placed slot entry)) × (entry.number ≡ n)
       go None is h = absurd h
@@ -151,17 +151,17 @@ module _ {B : Type 0} where
   none_waits_at n entries index a listed =
       go (object_at n (placed_in entries index)) refl
     where
-      flag : (object : Placed B) (f : Found n entries object) → (b : Bool) → (f.entry).waiting ≡ b → object.waiting ≡ b
-      flag object f b is = sym (ap (λ (p : Placed B). p.waiting) f.same) ∙ is
+      flag : (object : SlotEntry B) (f : Found n entries object) → (b : Bool) → (f.entry).waiting ≡ b → object.waiting ≡ b
+      flag object f b is = sym (ap (λ (p : SlotEntry B). p.waiting) f.same) ∙ is
 
-      unflagged : (object : Placed B) (f : Found n entries object) → (b : Bool) → (f.entry).waiting ≡ b
+      unflagged : (object : SlotEntry B) (f : Found n entries object) → (b : Bool) → (f.entry).waiting ≡ b
           → object.waiting ≡ false
       unflagged object f false is = flag object f false is
       unflagged object f true is =
           let here = subst (λ (o : Option (Entry B)). IfSome o (λ entry. entry.waiting ≡ true → Contains [] object.slot)) f.there (listed object.slot) in
           absurd (let k = here is in omega (arith, k.1))
 
-      go : (o : Option (Placed B)) → object_at n (placed_in entries index) ≡ o
+      go : (o : Option (SlotEntry B)) → object_at n (placed_in entries index) ≡ o
           → IfSome o (λ object. object.waiting ≡ false)
       go None is = tt
       go (Some object) is = let f = found_in n entries index object a is in unflagged object f (f.entry).waiting refl
@@ -172,11 +172,11 @@ module _ {B : Type 0} where
       → NoneWaits (placed_in entries index)
   none_waits entries index a listed n = none_waits_at n entries index a listed
 
-  pub in_from_idle : (n slot : ℕ) (l : List (ℕ × Placed B))
+  pub in_from_idle : (n slot : ℕ) (l : List (ℕ × SlotEntry B))
       → IsSomeAnd (object_at n l) (λ object. (object.slot ≡ slot) × ((object.item).count ≡ 0)) → IsIn n slot l
   in_from_idle n slot l h = go (object_at n l) h
     where
-      go : (v : Option (Placed B)) → IsSomeAnd v (λ object. (object.slot ≡ slot) × ((object.item).count ≡ 0))
+      go : (v : Option (SlotEntry B)) → IsSomeAnd v (λ object. (object.slot ≡ slot) × ((object.item).count ≡ 0))
           → IsSomeAnd v (λ object. object.slot ≡ slot)
       go None h = absurd h
       go (Some p) h = h.0
@@ -187,7 +187,7 @@ module _ {B : Type 0} where
       → (entry.item).count ≡ 0
   idle_entry slot entries index entry a there h =
       let found = item_in h.0 slot entries index entry a there (in_from_idle h.0 slot (placed_in entries index) h.1) in
-      let at = subst (λ (v : Option (Placed B)). IsSomeAnd v (λ object. (object.slot ≡ slot) × ((object.item).count ≡ 0))) found.0 h.1 in
+      let at = subst (λ (v : Option (SlotEntry B)). IsSomeAnd v (λ object. (object.slot ≡ slot) × ((object.item).count ≡ 0))) found.0 h.1 in
       at.1
 
   -- an entry is that of the object of its number
@@ -198,7 +198,7 @@ module _ {B : Type 0} where
       let led : object_at entry.number index ≡ Some slot = subst (λ (o : Option (Entry B)). IfSome o (λ e. object_at e.number index ≡ Some slot)) there (whole slot) in
       slot_from (object_at entry.number (placed_in entries index)) (slots_of entry.number entries index a ∙ led)
     where
-      slot_from : (v : Option (Placed B)) → option_map (λ object. object.slot) v ≡ Some slot
+      slot_from : (v : Option (SlotEntry B)) → option_map (λ object. object.slot) v ≡ Some slot
           → IsSomeAnd v (λ object. object.slot ≡ slot)
       slot_from None h = cc
       slot_from (Some p) h = cc
@@ -209,4 +209,4 @@ module _ {B : Type 0} where
       → get entries slot ≡ Some entry → (entry.item).count ≡ 0 → IsIdle slot (placed_in entries index)
   entry_idle slot entries index entry a whole there none =
       let found = item_in entry.number slot entries index entry a there (entry_here slot entries index entry a whole there) in
-      (entry.number, subst (λ (v : Option (Placed B)). IsSomeAnd v (λ object. (object.slot ≡ slot) × ((object.item).count ≡ 0))) (sym found.0) (refl, none))
+      (entry.number, subst (λ (v : Option (SlotEntry B)). IsSomeAnd v (λ object. (object.slot ≡ slot) × ((object.item).count ≡ 0))) (sym found.0) (refl, none))

@@ -12,8 +12,8 @@ use Rattle.ash_slots.specs.declared.body.Body.TheVariants.{Script, Array}
 use Rattle.ash_slots.specs.declared.body.Script as scripts
 use Rattle.ash_slots.specs.declared.body.Array as arrays
 use Rattle.ash_slots.specs.Bodies.{with_word}
-use Rattle.ash_slots.specs.Store.{Placed, AreStored, IsIn, IsOccupied, change_in, with_item, with_waiting, change_at}
-use Rattle.ash_slots.specs.Counting.{counted, once_more, once_less, with_count, written}
+use Rattle.ash_slots.specs.Store.{SlotEntry, AreStored, IsIn, IsOccupied, change_in, with_item, with_waiting, change_at}
+use Rattle.ash_slots.specs.Counting.{counted, incremented, decremented, with_count, written}
 use Rattle.ash_slots.proofs.Changing.{object_at-change, object_at-change_in, in_order-change, change_in_is}
 
 module _ {A : Type 0} where
@@ -31,39 +31,39 @@ module _ {A : Type 0} where
 
 module _ {B : Type 0} where
   -- what an object's item is, once the object is named
-  item_is : (n : ℕ) (l : List (ℕ × Placed B)) (it : Item B) → IsSomeAnd (object_at n l) (λ object. object.item ≡ it)
-      → (p : Placed B) → object_at n l ≡ Some p → p.item ≡ it
-  item_is n l it h p is = subst (λ (v : Option (Placed B)). IsSomeAnd v (λ object. object.item ≡ it)) is h
+  item_is : (n : ℕ) (l : List (ℕ × SlotEntry B)) (it : Item B) → IsSomeAnd (object_at n l) (λ object. object.item ≡ it)
+      → (p : SlotEntry B) → object_at n l ≡ Some p → p.item ≡ it
+  item_is n l it h p is = subst (λ (v : Option (SlotEntry B)). IsSomeAnd v (λ object. object.item ≡ it)) is h
 
   -- the count of an object is that of its item
-  pub counted_item : (n : ℕ) (l : List (ℕ × Placed B)) (it : Item B)
+  pub counted_item : (n : ℕ) (l : List (ℕ × SlotEntry B)) (it : Item B)
       → IsSomeAnd (object_at n l) (λ object. object.item ≡ it) → counted n l ≡ it.count
   counted_item n l it h = go (object_at n l) h
     where
-      go : (v : Option (Placed B)) → IsSomeAnd v (λ object. object.item ≡ it)
+      go : (v : Option (SlotEntry B)) → IsSomeAnd v (λ object. object.item ≡ it)
           → option_map_or (λ object. (object.item).count) v 0 ≡ it.count
       go None h = absurd h
       go (Some p) h = ap (λ (i : Item B). i.count) h
 
   -- the items in a slot, before and after a change that leaves slots
-  pub occupied-change : (slot s : ℕ) (f : Placed B → Placed B) (l : List (ℕ × Placed B))
-      → ((p : Placed B) → (f p).slot ≡ p.slot) → IsOccupied slot l → IsOccupied slot (change_in s f l)
+  pub occupied-change : (slot s : ℕ) (f : SlotEntry B → SlotEntry B) (l : List (ℕ × SlotEntry B))
+      → ((p : SlotEntry B) → (f p).slot ≡ p.slot) → IsOccupied slot l → IsOccupied slot (change_in s f l)
   occupied-change slot s f l keeps h =
-      (h.0, subst (λ (v : Option (Placed B)). IsSomeAnd v (λ object. object.slot ≡ slot)) (sym (object_at-change_in s f h.0 l)) (go (object_at h.0 l) h.1))
+      (h.0, subst (λ (v : Option (SlotEntry B)). IsSomeAnd v (λ object. object.slot ≡ slot)) (sym (object_at-change_in s f h.0 l)) (go (object_at h.0 l) h.1))
     where
-      both : (b : Bool) (p : Placed B) → p.slot ≡ slot → (cond b (f p) p).slot ≡ slot
+      both : (b : Bool) (p : SlotEntry B) → p.slot ≡ slot → (cond b (f p) p).slot ≡ slot
       both true p is = keeps p ∙ is
       both false p is = is
 
-      go : (v : Option (Placed B)) → IsSomeAnd v (λ object. object.slot ≡ slot)
+      go : (v : Option (SlotEntry B)) → IsSomeAnd v (λ object. object.slot ≡ slot)
           → IsSomeAnd (option_map (λ object. cond (nat_eq s object.slot) (f object) object) v)
           (λ object. object.slot ≡ slot)
       go None h = h
       go (Some p) h = both (nat_eq s p.slot) p h
 
   -- two changes in one slot are one
-  pub change_twice : (slot : ℕ) (f g : Placed B → Placed B) → ((p : Placed B) → (f p).slot ≡ p.slot)
-      → (l : List (ℕ × Placed B)) → change_in slot g (change_in slot f l) ≡ change_in slot (λ p. g (f p)) l
+  pub change_twice : (slot : ℕ) (f g : SlotEntry B → SlotEntry B) → ((p : SlotEntry B) → (f p).slot ≡ p.slot)
+      → (l : List (ℕ × SlotEntry B)) → change_in slot g (change_in slot f l) ≡ change_in slot (λ p. g (f p)) l
   change_twice slot f g keeps [] = refl
   change_twice slot f g keeps (e ∷ l) =
       go (nat_eq slot (e.1).slot) refl (change_twice slot f g keeps l)
@@ -74,27 +74,27 @@ module _ {B : Type 0} where
           ∷ change_in slot g (change_in slot f l) ≡ (e.0, cond b (g (f e.1)) e.1) ∷ change_in slot (λ p. g (f p)) l
       go true is later =
           let at : nat_eq slot (f e.1).slot ≡ true = ap (λ (s : ℕ). nat_eq slot s) (keeps e.1) ∙ is in
-          ap (λ (b : Bool). (e.0, cond b (g (f e.1)) (f e.1)) ∷ change_in slot g (change_in slot f l)) at ∙ ap (λ (t : List (ℕ × Placed B)). (e.0, g (f e.1)) ∷ t) later
+          ap (λ (b : Bool). (e.0, cond b (g (f e.1)) (f e.1)) ∷ change_in slot g (change_in slot f l)) at ∙ ap (λ (t : List (ℕ × SlotEntry B)). (e.0, g (f e.1)) ∷ t) later
       go false is later =
-          ap (λ (b : Bool). (e.0, cond b (g e.1) e.1) ∷ change_in slot g (change_in slot f l)) is ∙ ap (λ (t : List (ℕ × Placed B)). (e.0, e.1) ∷ t) later
+          ap (λ (b : Bool). (e.0, cond b (g e.1) e.1) ∷ change_in slot g (change_in slot f l)) is ∙ ap (λ (t : List (ℕ × SlotEntry B)). (e.0, e.1) ∷ t) later
 
-  module _ (slot n : ℕ) (l : List (ℕ × Placed B)) (it : Item B) (s : AreStored l) (here : IsIn n slot l) (mine : IsSomeAnd (object_at n l) (λ object. object.item ≡ it)) where
-    pub more_at : change_in slot (with_item (with_count (it.count + 1) it)) l ≡ change_at n once_more l
+  module _ (slot n : ℕ) (l : List (ℕ × SlotEntry B)) (it : Item B) (s : AreStored l) (here : IsIn n slot l) (mine : IsSomeAnd (object_at n l) (λ object. object.item ≡ it)) where
+    pub more_at : change_in slot (with_item (with_count (it.count + 1) it)) l ≡ change_at n incremented l
     more_at =
         change_in_is slot n _ l s here
-        ∙ change_same n _ once_more l s.in_order (λ p is. ap (λ (i : Item B). with_item (with_count (i.count + 1) i) p) (sym (item_is n l it mine p is)))
+        ∙ change_same n _ incremented l s.in_order (λ p is. ap (λ (i : Item B). with_item (with_count (i.count + 1) i) p) (sym (item_is n l it mine p is)))
 
     -- nothing is left
     pub none_at : 0 < it.count → it.count - 1 ≡ 0
         → change_in slot (with_waiting true) (change_in slot (with_item (with_count (it.count - 1) it)) l)
-        ≡ change_at n once_less l
+        ≡ change_at n decremented l
     none_at some none =
         change_twice slot (with_item (with_count (it.count - 1) it)) (with_waiting true) (λ p. refl) l
         ∙ change_in_is slot n _ l s here
-        ∙ change_same n _ once_less l s.in_order (λ p is. each p (item_is n l it mine p is))
+        ∙ change_same n _ decremented l s.in_order (λ p is. each p (item_is n l it mine p is))
       where
-        each : (p : Placed B) → p.item ≡ it → with_waiting true (with_item (with_count (it.count - 1) it) p)
-            ≡ once_less p
+        each : (p : SlotEntry B) → p.item ≡ it → with_waiting true (with_item (with_count (it.count - 1) it) p)
+            ≡ decremented p
         each p is =
             let one : it.count ≡ 1 = omega arith in
             let test : (p.item).count == 1 ≡ true = eq-eqb (p.item).count 1 (ap (λ (i : Item B). i.count) is ∙ one) in
@@ -103,13 +103,13 @@ module _ {B : Type 0} where
 
     -- something is left
     pub some_at : (it.count - 1 ≡ 0 → ⊥) → change_in slot (with_item (with_count (it.count - 1) it)) l
-        ≡ change_at n once_less l
+        ≡ change_at n decremented l
     some_at some =
         change_in_is slot n _ l s here
-        ∙ change_same n _ once_less l s.in_order (λ p is. each p (item_is n l it mine p is) ((p.item).count == 1) refl)
+        ∙ change_same n _ decremented l s.in_order (λ p is. each p (item_is n l it mine p is) ((p.item).count == 1) refl)
       where
-        each : (p : Placed B) → p.item ≡ it → (b : Bool) → (p.item).count == 1 ≡ b
-            → with_item (with_count (it.count - 1) it) p ≡ once_less p
+        each : (p : SlotEntry B) → p.item ≡ it → (b : Bool) → (p.item).count == 1 ≡ b
+            → with_item (with_count (it.count - 1) it) p ≡ decremented p
         each p is true test =
             let one : (p.item).count ≡ 1 = eqb-true (p.item).count 1 test in
             let same = ap (λ (i : Item B). i.count) is in
@@ -129,7 +129,7 @@ module _ {B : Type 0} where
             ap (λ (fs : List Word). Script (record script { fields = fs })) now
             ∙ sym (ap (λ (b : Body B). with_word place word b) is)
 
-        each : (p : Placed B) → p.item ≡ it → with_item (record { count = it.count; touched = true; body = Script (record script { fields = fields }) }) p ≡ written place word p
+        each : (p : SlotEntry B) → p.item ≡ it → with_item (record { count = it.count; touched = true; body = Script (record script { fields = fields }) }) p ≡ written place word p
         each p same =
             ap (λ (b : Body B). with_item (record { count = it.count; touched = true; body = b }) p) body_is
             ∙ ap (λ (i : Item B). with_item (record { count = i.count; touched = true; body = with_word place word i.body }) p) (sym same)
@@ -144,25 +144,25 @@ module _ {B : Type 0} where
             ap (λ (es : List Word). Array (record array { elements = es })) now
             ∙ sym (ap (λ (b : Body B). with_word place word b) is)
 
-        each : (p : Placed B) → p.item ≡ it → with_item (record { count = it.count; touched = true; body = Array (record array { elements = elements }) }) p ≡ written place word p
+        each : (p : SlotEntry B) → p.item ≡ it → with_item (record { count = it.count; touched = true; body = Array (record array { elements = elements }) }) p ≡ written place word p
         each p same =
             ap (λ (b : Body B). with_item (record { count = it.count; touched = true; body = b }) p) body_is
             ∙ ap (λ (i : Item B). with_item (record { count = i.count; touched = true; body = with_word place word i.body }) p) (sym same)
 
   -- the slot that a look-up gives has the object
-  pub is_in_from : (n slot : ℕ) (l : List (ℕ × Placed B)) → option_map (λ object. object.slot) (object_at n l)
+  pub is_in_from : (n slot : ℕ) (l : List (ℕ × SlotEntry B)) → option_map (λ object. object.slot) (object_at n l)
       ≡ Some slot → IsIn n slot l
   is_in_from n slot l h = go (object_at n l) h
     where
-      go : (v : Option (Placed B)) → option_map (λ object. object.slot) v ≡ Some slot
+      go : (v : Option (SlotEntry B)) → option_map (λ object. object.slot) v ≡ Some slot
           → IsSomeAnd v (λ object. object.slot ≡ slot)
       go None h = cc
       go (Some p) h = cc
 
-  pub none_from : (n : ℕ) (l : List (ℕ × Placed B)) → option_map (λ object. object.slot) (object_at n l) ≡ None
+  pub none_from : (n : ℕ) (l : List (ℕ × SlotEntry B)) → option_map (λ object. object.slot) (object_at n l) ≡ None
       → object_at n l ≡ None
   none_from n l h = go (object_at n l) h
     where
-      go : (v : Option (Placed B)) → option_map (λ object. object.slot) v ≡ None → v ≡ None
+      go : (v : Option (SlotEntry B)) → option_map (λ object. object.slot) v ≡ None → v ≡ None
       go None h = refl
       go (Some p) h = absurd (cc)

@@ -10,7 +10,7 @@ use Rattle.slab.proofs.SlabLemmas.{Updates-with_value, ContainsKey-within}
 use Rattle.std.proofs.lemmas.List.{length-append}
 use Rattle.ash_host.specs.Objects.{object_at}
 use Rattle.ash_slots.specs.declared.entry.Entry.{Entry}
-use Rattle.ash_slots.specs.Store.{Placed, placed, with_entry, placed_in, ArePlaced, IsStored, is_unlisted, change_in}
+use Rattle.ash_slots.specs.Store.{SlotEntry, placed, with_entry, placed_in, ArePlaced, IsStored, is_unlisted, change_in}
 
 apart_from : (x y : ℕ) → nat_eq x y ≡ false → y ≢ x
 apart_from x y h = λ same. let yes = eq-eqb x y (sym same) in cc
@@ -39,13 +39,13 @@ module _ {B : Type 0} where
 
   module _ {old new : Slab (Entry B)} {slot : ℕ} {before after : Entry B} (w : Writes old new slot before after) where
     -- the object in the slot is changed so, and no other
-    pub written_in : (change : Placed B → Placed B) → ((s : ℕ) → placed s after ≡ change (placed s before))
+    pub written_in : (change : SlotEntry B → SlotEntry B) → ((s : ℕ) → placed s after ≡ change (placed s before))
         → (index : List (ℕ × ℕ)) → placed_in new index ≡ change_in slot change (placed_in old index)
     written_in change same [] = refl
     written_in change same (e ∷ index) =
         go (nat_eq slot e.1) refl (get old e.1) refl (written_in change same index)
       where
-        rest : List (ℕ × Placed B)
+        rest : List (ℕ × SlotEntry B)
         rest = placed_in old index
 
         go : (b : Bool) → nat_eq slot e.1 ≡ b → (o : Option (Entry B)) → get old e.1 ≡ o → placed_in new index
@@ -57,8 +57,8 @@ module _ {B : Type 0} where
             let then : o ≡ Some before = sym at ∙ sym (ap (λ (s : ℕ). get old s) slot_is) ∙ w.was in
             let head : placed e.1 after ≡ cond (nat_eq slot e.1) (change (placed e.1 before)) (placed e.1 before) = same e.1 ∙ sym (ap (λ (b : Bool). cond b (change (placed e.1 before)) (placed e.1 before)) is) in
             ap (λ (v : Option (Entry B)). with_entry e.0 e.1 v (placed_in new index)) now
-            ∙ ap (λ (p : Placed B). (e.0, p) ∷ placed_in new index) head
-            ∙ ap (λ (l : List (ℕ × Placed B)). (e.0, cond (nat_eq slot e.1) (change (placed e.1 before)) (placed e.1 before)) ∷ l) later
+            ∙ ap (λ (p : SlotEntry B). (e.0, p) ∷ placed_in new index) head
+            ∙ ap (λ (l : List (ℕ × SlotEntry B)). (e.0, cond (nat_eq slot e.1) (change (placed e.1 before)) (placed e.1 before)) ∷ l) later
             ∙ sym (ap (λ (v : Option (Entry B)). change_in slot change (with_entry e.0 e.1 v rest)) then)
         go false is None at later =
             let now : get new e.1 ≡ None = w.updates.others e.1 (apart_from slot e.1 is) ∙ at in
@@ -67,8 +67,8 @@ module _ {B : Type 0} where
             let now : get new e.1 ≡ Some x = w.updates.others e.1 (apart_from slot e.1 is) ∙ at in
             let head : placed e.1 x ≡ cond (nat_eq slot e.1) (change (placed e.1 x)) (placed e.1 x) = sym (ap (λ (b : Bool). cond b (change (placed e.1 x)) (placed e.1 x)) is) in
             ap (λ (v : Option (Entry B)). with_entry e.0 e.1 v (placed_in new index)) now
-            ∙ ap (λ (p : Placed B). (e.0, p) ∷ placed_in new index) head
-            ∙ ap (λ (l : List (ℕ × Placed B)). (e.0, cond (nat_eq slot e.1) (change (placed e.1 x)) (placed e.1 x)) ∷ l) later
+            ∙ ap (λ (p : SlotEntry B). (e.0, p) ∷ placed_in new index) head
+            ∙ ap (λ (l : List (ℕ × SlotEntry B)). (e.0, cond (nat_eq slot e.1) (change (placed e.1 x)) (placed e.1 x)) ∷ l) later
 
     -- each number stays in its slot
     pub still_placed : (index : List (ℕ × ℕ)) → ArePlaced old index → ArePlaced new index
@@ -236,14 +236,14 @@ module _ {B : Type 0} where
       }
 
   -- no object is in an empty slot
-  pub change_empty : (change : Placed B → Placed B) (entries : Slab (Entry B)) (slot : ℕ) → get entries slot ≡ None
+  pub change_empty : (change : SlotEntry B → SlotEntry B) (entries : Slab (Entry B)) (slot : ℕ) → get entries slot ≡ None
       → (index : List (ℕ × ℕ)) → ArePlaced entries index → change_in slot change (placed_in entries index)
       ≡ placed_in entries index
   change_empty change entries slot none [] a = refl
   change_empty change entries slot none (e ∷ index) a =
       go (get entries e.1) refl a.0 (nat_eq slot e.1) refl (change_empty change entries slot none index a.1)
     where
-      rest : List (ℕ × Placed B)
+      rest : List (ℕ × SlotEntry B)
       rest = placed_in entries index
 
       go : (o : Option (Entry B)) → get entries e.1 ≡ o → IsSomeAnd o (λ entry. entry.number ≡ e.0) → (b : Bool)
@@ -256,4 +256,4 @@ module _ {B : Type 0} where
           cc
       go (Some x) at h false is later =
           let head : cond (nat_eq slot e.1) (change (placed e.1 x)) (placed e.1 x) ≡ placed e.1 x = ap (λ (b : Bool). cond b (change (placed e.1 x)) (placed e.1 x)) is in
-          ap (λ (p : Placed B). (e.0, p) ∷ change_in slot change rest) head ∙ ap (λ (l : List (ℕ × Placed B)). (e.0, placed e.1 x) ∷ l) later
+          ap (λ (p : SlotEntry B). (e.0, p) ∷ change_in slot change rest) head ∙ ap (λ (l : List (ℕ × SlotEntry B)). (e.0, placed e.1 x) ∷ l) later

@@ -53,7 +53,7 @@ pub enum Element {
 impl Element {
     /// What an element is before anything is written to it.
     pub fn initial(self) -> Word
-        ensures { result ≡ initial_of self }
+        ensures initial { result ≡ initial_of self }
     {
         match self {
             Element::Bool => Word::Bool(false),
@@ -69,14 +69,14 @@ impl Element {
 impl<B> Body<B> {
     /// Whether it is a host object.
     pub fn is_host(&self) -> bool
-        ensures { result ≡ is_boxed self.now }
+        ensures boxed { result ≡ is_boxed self.now }
     {
         matches!(self, Body::Host(_))
     }
 
     /// The words that it holds, in order; a host object holds none.
     pub fn words(&self) -> &[Word]
-        ensures { result.now ≡ words_of self.now }
+        ensures words { result.now ≡ words_of self.now }
     {
         match self {
             Body::Script(script) => script.fields.as_slice(),

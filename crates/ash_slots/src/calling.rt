@@ -3,7 +3,7 @@ ghost use Rattle.std.specs.Prelude.{◌≡◌, ℕ, IsSome, Some};
 ghost use Rattle.ash_host.specs.declared.answer.HostAnswer.{HostAnswer};
 ghost use Rattle.ash_host.specs.Calls.{Start, Invoke, Get, Set};
 ghost use Rattle.ash_slots.specs.Store.{IsIn, IsOccupied, AreStored};
-ghost use Rattle.ash_slots.specs.Responses.{AnswersIn, stored_box};
+ghost use Rattle.ash_slots.specs.Responses.{AnswersIn, stored_box, IsHostIn};
 
 use crate::body::Body;
 use crate::store::Store;
@@ -11,9 +11,8 @@ use ash_host::{HostAnswer, HostObject, Word};
 
 /// Begins the life of the host object in a slot.
 pub fn start_in<B: HostObject>(store: &mut Store<B>, slot: usize, args: &[Word]) -> HostAnswer
-    requires { (number : ℕ) × IsIn number slot store.old.objects
-        × IsSome (stored_box number store.old.objects) }
-    ensures { (number : ℕ) → IsIn number slot store.old.objects
+    requires host { IsHostIn slot store.old.objects }
+    ensures answered { (number : ℕ) → IsIn number slot store.old.objects
         → AnswersIn B.HostObject number (Start args.now) result store.old.objects
         store.new.objects }
 {
@@ -33,9 +32,8 @@ pub fn invoke_in<B: HostObject>(
     method: u16,
     args: &[Word],
 ) -> HostAnswer
-    requires { (number : ℕ) × IsIn number slot store.old.objects
-        × IsSome (stored_box number store.old.objects) }
-    ensures { (number : ℕ) → IsIn number slot store.old.objects
+    requires host { IsHostIn slot store.old.objects }
+    ensures answered { (number : ℕ) → IsIn number slot store.old.objects
         → AnswersIn B.HostObject number (Invoke method args.now) result store.old.objects
         store.new.objects }
 {
@@ -50,9 +48,8 @@ pub fn invoke_in<B: HostObject>(
 
 /// Writes a property of the host object in a slot.
 pub fn set_in<B: HostObject>(store: &mut Store<B>, slot: usize, prop: u16, value: Word)
-    requires { (number : ℕ) × IsIn number slot store.old.objects
-        × IsSome (stored_box number store.old.objects) }
-    ensures { (number : ℕ) → IsIn number slot store.old.objects
+    requires host { IsHostIn slot store.old.objects }
+    ensures answered { (number : ℕ) → IsIn number slot store.old.objects
         → AnswersIn B.HostObject number (Set prop value) HostAnswer.Nothing store.old.objects
         store.new.objects }
 {
@@ -67,9 +64,8 @@ pub fn set_in<B: HostObject>(store: &mut Store<B>, slot: usize, prop: u16, value
 
 /// The box of the host object in a slot.
 pub fn box_in<B>(store: &Store<B>, slot: usize) -> &B
-    requires { (number : ℕ) × IsIn number slot store.now.objects
-        × IsSome (stored_box number store.now.objects) }
-    ensures { (number : ℕ) → IsIn number slot store.now.objects
+    requires host { IsHostIn slot store.now.objects }
+    ensures stored { (number : ℕ) → IsIn number slot store.now.objects
         → stored_box number store.now.objects ≡ Some result.now }
 {
     match &store.item(slot).body {

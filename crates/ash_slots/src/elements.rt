@@ -1,7 +1,7 @@
 //! The elements of the array in a slot.
 ghost use Rattle.std.specs.Prelude.{◌≡◌, ◌≤◌, ℕ, [], Some, IsSome, IfSome, OnOk, OnErr};
 ghost use Rattle.ash_slots.specs.Store.{IsIn, AreStored, change_at};
-ghost use Rattle.ash_slots.specs.Arrays.{stored_array, refilled, lengthened};
+ghost use Rattle.ash_slots.specs.Arrays.{stored_array, IsArrayIn, refilled, lengthened};
 
 use crate::body::Body;
 use crate::store::Store;
@@ -11,8 +11,7 @@ use ash_host::NoMemory;
 /// Appends the initial value of its elements to the array in a slot until there are so many, which touches it. Where
 /// memory is refused it is as it was.
 pub fn grow_elements<B>(store: &mut Store<B>, slot: usize, len: usize) -> Result<(), NoMemory>
-    requires { (number : ℕ) × IsIn number slot store.old.objects
-        × IsSome (stored_array number store.old.objects) }
+    requires array { IsArrayIn slot store.old.objects }
     ensures grown { OnOk result ((number : ℕ) → IsIn number slot store.old.objects
         → IfSome (stored_array number store.old.objects) (λ array. store.new.objects
         ≡ change_at number (refilled (lengthened len array)) store.old.objects)) }
@@ -33,8 +32,7 @@ pub fn grow_elements<B>(store: &mut Store<B>, slot: usize, len: usize) -> Result
 
 /// Takes the elements out of the array in a slot, which touches it.
 pub fn take_elements<B>(store: &mut Store<B>, slot: usize) -> Words
-    requires { (number : ℕ) × IsIn number slot store.old.objects
-        × IsSome (stored_array number store.old.objects) }
+    requires array { IsArrayIn slot store.old.objects }
     ensures elements { (number : ℕ) → IsIn number slot store.old.objects
         → IfSome (stored_array number store.old.objects) (λ array. result ≡ array.elements) }
     ensures taken { (number : ℕ) → IsIn number slot store.old.objects
@@ -50,10 +48,9 @@ pub fn take_elements<B>(store: &mut Store<B>, slot: usize) -> Words
 }
 
 /// Gives the array in a slot these elements, which touches it.
-pub fn put_elements<B>(store: &mut Store<B>, slot: usize, elements: Words)
-    requires { (number : ℕ) × IsIn number slot store.old.objects
-        × IsSome (stored_array number store.old.objects) }
-    ensures { (number : ℕ) → IsIn number slot store.old.objects
+pub fn set_elements<B>(store: &mut Store<B>, slot: usize, elements: Words)
+    requires array { IsArrayIn slot store.old.objects }
+    ensures refilled { (number : ℕ) → IsIn number slot store.old.objects
         → store.new.objects ≡ change_at number (refilled elements) store.old.objects }
 {
     let item = store.item_mut(slot);

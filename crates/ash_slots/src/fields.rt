@@ -2,6 +2,7 @@
 ghost use Rattle.std.specs.Prelude.{◌≡◌, ◌<◌, ℕ, Some, IsSomeAnd, slice_get, length};
 ghost use Rattle.ash_host.specs.Objects.{object_at};
 ghost use Rattle.ash_slots.specs.Bodies.{words_of};
+ghost use Rattle.ash_slots.specs.Counting.{HasWordIn};
 ghost use Rattle.ash_slots.specs.Store.{IsIn, AreStored, change_at};
 ghost use Rattle.ash_slots.specs.Counting.{written};
 
@@ -11,10 +12,8 @@ use ash_host::Word;
 
 /// The word at a place of the object in a slot.
 pub fn read_word<B>(store: &Store<B>, slot: usize, place: usize) -> Word
-    requires { (number : ℕ) × IsIn number slot store.now.objects
-        × IsSomeAnd (object_at number store.now.objects)
-        (λ object. place < length (words_of (object.item).body)) }
-    ensures { (number : ℕ) → IsIn number slot store.now.objects
+    requires there { HasWordIn slot place store.now.objects }
+    ensures word { (number : ℕ) → IsIn number slot store.now.objects
         → IsSomeAnd (object_at number store.now.objects)
         (λ object. slice_get (words_of (object.item).body) place ≡ Some result) }
 {
@@ -27,9 +26,7 @@ pub fn read_word<B>(store: &Store<B>, slot: usize, place: usize) -> Word
 
 /// Writes a word at a place of the object in a slot, which touches it, and returns the word before.
 pub fn write_word<B>(store: &mut Store<B>, slot: usize, place: usize, word: Word) -> Word
-    requires { (number : ℕ) × IsIn number slot store.old.objects
-        × IsSomeAnd (object_at number store.old.objects)
-        (λ object. place < length (words_of (object.item).body)) }
+    requires there { HasWordIn slot place store.old.objects }
     ensures before { (number : ℕ) → IsIn number slot store.old.objects
         → IsSomeAnd (object_at number store.old.objects)
         (λ object. slice_get (words_of (object.item).body) place ≡ Some result) }

@@ -1,5 +1,5 @@
 //! Objects in slots, found by their numbers: what an object is, and what is read and written of one by its slot. It
-//! stands on `ash_host`, for words and host objects, and on a slab. It promises that a store is a list of objects by
+//! uses `ash_host`, for words and host objects, and a slab. It promises that a store is a list of objects by
 //! ascending number, each in a slot of its own, that each call changes of that list exactly what its contract names,
 //! and that each object which lost its last count, or is new, is on the list of slots that the next sweep looks at.
 //!
@@ -18,8 +18,8 @@ mod words;
 
 pub use body::{Array, Body, Element, Script};
 pub use calling::{box_in, invoke_in, set_in, start_in};
-pub use counting::{count_less, count_more, refer, release};
-pub use elements::{grow_elements, put_elements, take_elements};
+pub use counting::{add_ref, decrement_count, increment_count, remove_ref};
+pub use elements::{grow_elements, set_elements, take_elements};
 pub use entry::{Entry, Item};
 pub use fields::{read_word, write_word};
 pub use store::Store;

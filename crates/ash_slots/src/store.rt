@@ -1,5 +1,6 @@
 //! Objects in slots, found by their numbers.
-ghost use Rattle.std.specs.Prelude.{◌≡◌, ◌≤◌, ◌+◌, ◌↔◌, IsTrue, ℕ, [], true, false, length, option_map};
+ghost use Rattle.std.specs.Prelude.{◌≡◌, ◌≤◌, ◌+◌, ◌↔◌, []};
+ghost use Rattle.std.specs.Prelude.{IsTrue, ℕ, true, false, length, option_map};
 ghost use Rattle.std.specs.Prelude.{nat_eq, IsSomeAnd, IfSome, IfNone, OnSome, IfOk, IfErr, OnErr, Some, None};
 ghost use Rattle.std.specs.Map.{remove_entry};
 ghost use Rattle.ash_host.specs.Objects.{object_at, with_at, IsInOrder};
@@ -54,15 +55,16 @@ impl<B> Store<B> {
 
     /// The slot of the object of a number.
     pub fn slot(&self, number: u64) -> Option<usize>
-        ensures { result ≡ option_map (λ object. object.slot) (object_at number self.now.objects) }
+        ensures slot { result
+            ≡ option_map (λ object. object.slot) (object_at number self.now.objects) }
     {
         self.index.get(&number).copied()
     }
 
     /// The object in a slot.
     pub fn item(&self, slot: usize) -> &Item<B>
-        requires { IsOccupied slot self.now.objects }
-        ensures { (number : ℕ) → IsIn number slot self.now.objects
+        requires occupied { IsOccupied slot self.now.objects }
+        ensures value { (number : ℕ) → IsIn number slot self.now.objects
             → IsSomeAnd (object_at number self.now.objects) (λ object. object.item ≡ result.now) }
     {
         let Some(entry) = self.entries.get(slot) else {
@@ -73,7 +75,7 @@ impl<B> Store<B> {
 
     /// The object in a slot, to change it.
     pub fn item_mut(&mut self, slot: usize) -> &mut Item<B>
-        requires { IsOccupied slot self.old.objects }
+        requires occupied { IsOccupied slot self.old.objects }
         ensures* writes_back { sem 𝓛 (lends_item B.row self.entry slot result) }
         ensures value { (number : ℕ) → IsIn number slot self.old.objects
             → IsSomeAnd (object_at number self.old.objects) (λ object. object.item ≡ result.now) }
@@ -95,8 +97,8 @@ impl<B> Store<B> {
 
     /// The number of the object in a slot.
     pub fn number(&self, slot: usize) -> u64
-        requires { IsOccupied slot self.now.objects }
-        ensures { (number : ℕ) → IsIn number slot self.now.objects → result ≡ number }
+        requires occupied { IsOccupied slot self.now.objects }
+        ensures number { (number : ℕ) → IsIn number slot self.now.objects → result ≡ number }
     {
         let Some(entry) = self.entries.get(slot) else {
             unreachable!()
@@ -117,7 +119,7 @@ impl<B> Store<B> {
 
     /// Whether the object in a slot is counted nowhere. The slot may be empty.
     pub fn is_idle(&self, slot: usize) -> bool
-        ensures { IsTrue result ↔ IsIdle slot self.now.objects }
+        ensures idle { IsTrue result ↔ IsIdle slot self.now.objects }
     {
         match self.entries.get(slot) {
             Some(entry) => entry.item.count == 0,
@@ -126,8 +128,8 @@ impl<B> Store<B> {
     }
 
     /// Has the next sweep look at a slot.
-    pub fn await_sweep(&mut self, slot: usize)
-        requires { IsOccupied slot self.old.objects }
+    pub fn queue_for_sweep(&mut self, slot: usize)
+        requires occupied { IsOccupied slot self.old.objects }
         ensures objects { self.new.objects ≡ change_in slot (with_waiting true) self.old.objects }
         ensures room { self.new.room ≡ self.old.room }
         ensures fits { self.new.pending ≤ self.new.room }
@@ -144,7 +146,7 @@ impl<B> Store<B> {
 
     /// Whether no slot is listed for the next sweep.
     pub fn none_waits(&self) -> bool
-        ensures { IsTrue result → NoneWaits self.now.objects }
+        ensures none { IsTrue result → NoneWaits self.now.objects }
     {
         self.idle.is_empty()
     }
@@ -172,14 +174,14 @@ impl<B> Store<B> {
 
     /// The slot that the next object is put into.
     pub fn vacant(&self) -> usize
-        ensures { result ≡ self.now.vacant }
+        ensures slot { result ≡ self.now.vacant }
     {
         self.entries.vacant_key()
     }
 
     /// Puts an object of a new number into the vacant slot. The next sweep looks at it.
     pub fn insert(&mut self, number: u64, item: Item<B>) -> Result<usize, AllocFailed<Item<B>>>
-        requires { object_at number self.old.objects ≡ None }
+        requires unused { object_at number self.old.objects ≡ None }
         ensures objects { IfOk result
             (λ slot. self.new.objects
             ≡ with_at number (record { slot = slot; waiting = true; item = item })
@@ -210,7 +212,7 @@ impl<B> Store<B> {
 
     /// Takes the object out of a slot.
     pub fn remove(&mut self, slot: usize) -> Entry<B>
-        requires { IsOccupied slot self.old.objects }
+        requires occupied { IsOccupied slot self.old.objects }
         ensures number { IsIn result.number slot self.old.objects }
         ensures item { IsSomeAnd (object_at result.number self.old.objects)
             (λ object. object.item ≡ result.item) }

@@ -24,28 +24,28 @@ impl Model for Words {
 impl Words {
     /// These words. It takes no memory.
     pub fn new(words: Vec<Word>) -> Words
-        ensures { result ≡ words.items }
+        ensures words { result ≡ words.items }
     {
         Words { words }
     }
 
     /// The same words again. It takes no memory.
     pub fn into_vec(self) -> Vec<Word>
-        ensures { result.items ≡ self }
+        ensures words { result.items ≡ self }
     {
         self.words
     }
 
     /// The words, in order.
     pub fn as_slice(&self) -> &[Word]
-        ensures { result.now ≡ self.now }
+        ensures words { result.now ≡ self.now }
     {
         self.words.as_slice()
     }
 
     /// The words from a place on, in order; none where the place is beyond them.
     pub fn suffix(&self, place: usize) -> &[Word]
-        ensures { result.now ≡ drop place self.now }
+        ensures suffix { result.now ≡ drop place self.now }
     {
         match self.words.get(place..) {
             Some(words) => words,
@@ -55,23 +55,23 @@ impl Words {
 
     /// How many there are.
     pub fn len(&self) -> usize
-        ensures { result ≡ length self.now }
+        ensures len { result ≡ length self.now }
     {
         self.words.len()
     }
 
     /// The word at a place.
     pub fn get(&self, place: usize) -> Word
-        requires { place < length self.now }
-        ensures { slice_get self.now place ≡ Some result }
+        requires within { place < length self.now }
+        ensures word { slice_get self.now place ≡ Some result }
     {
         self.words[place]
     }
 
     /// Writes a word at a place.
     pub fn set(&mut self, place: usize, word: Word)
-        requires { place < length self.old }
-        ensures { self.new ≡ slice_set self.old place word }
+        requires within { place < length self.old }
+        ensures written { self.new ≡ slice_set self.old place word }
     {
         self.words[place] = word;
     }
@@ -92,7 +92,7 @@ impl Words {
 
     /// Cuts off what is beyond a length. It takes no memory.
     pub fn truncate(&mut self, len: usize)
-        ensures { self.new ≡ take len self.old }
+        ensures shortened { self.new ≡ take len self.old }
     {
         self.words.truncate(len);
     }

@@ -1,7 +1,7 @@
 //! Hosts over disks in memory, and their calls. Each call of a host is in a function of its own, which promises
 //! nothing: so its contract is seen once, and not in every test.
 
-use ash_disk::{Disk, FuseDisk, MemoryDisk, Survives};
+use ash_disk::{Disk, FailingDisk, MemoryDisk, Survives};
 use ash_durable::{Host, StoreFault};
 use ash_host::Word;
 use ash_meaning::refusal::Refusal;
@@ -31,11 +31,11 @@ pub fn disk(alloc: Global, bytes: &[u8]) -> Result<MemoryDisk, AllocError> {
 }
 
 /// An empty disk that fails after so many calls.
-pub fn fuse(alloc: Global, calls: u64) -> FuseDisk<MemoryDisk> {
-    FuseDisk::new(MemoryDisk::new(alloc), calls)
+pub fn fuse(alloc: Global, calls: u64) -> FailingDisk<MemoryDisk> {
+    FailingDisk::new(MemoryDisk::new(alloc), calls)
 }
 
-pub fn inner(disk: FuseDisk<MemoryDisk>) -> MemoryDisk {
+pub fn inner(disk: FailingDisk<MemoryDisk>) -> MemoryDisk {
     disk.into_inner()
 }
 

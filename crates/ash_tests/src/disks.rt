@@ -2,7 +2,7 @@
 //! crash.
 
 use crate::hosts::{check, check_text, closed, created, new_host, opened, replies};
-use ash_disk::{FuseDisk, MemoryDisk, Survives};
+use ash_disk::{FailingDisk, MemoryDisk, Survives};
 use ash_durable::{Host, StoreFault};
 use ash_registry::Registry;
 use std::alloc::{AllocError, Global};
@@ -13,9 +13,13 @@ const FIRST: &[u8] =
     b"load m 45\nint n = 2; int f(int k) { n += k; return n; }\ncall m f 5\nget m n\nseq\n";
 
 /// A host over disks in memory, each of which fails after so many calls.
-fn fused(alloc: Global, first: u64, second: u64) -> Result<Host<FuseDisk<MemoryDisk>>, StoreFault> {
-    let a = FuseDisk::new(MemoryDisk::new(alloc), first);
-    let b = FuseDisk::new(MemoryDisk::new(alloc), second);
+fn fused(
+    alloc: Global,
+    first: u64,
+    second: u64,
+) -> Result<Host<FailingDisk<MemoryDisk>>, StoreFault> {
+    let a = FailingDisk::new(MemoryDisk::new(alloc), first);
+    let b = FailingDisk::new(MemoryDisk::new(alloc), second);
     created(alloc, a, b, Registry::new(alloc))
 }
 

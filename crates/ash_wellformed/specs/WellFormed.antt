@@ -7,7 +7,7 @@ use Rattle.ash_host.specs.declared.word.Word.{Word}
 use Rattle.ash_host.specs.declared.word.Word.TheVariants as words
 use Rattle.ash_host.specs.declared.answer.HostAnswer.{HostAnswer}
 use Rattle.ash_host.specs.declared.answer.HostAnswer.TheVariants as answers
-use Rattle.ash_host.specs.Calls.{max_state}
+use Rattle.ash_host.specs.Limits.{max_state_bytes}
 use Rattle.ash_host.specs.Objects.{Element, Plain, Script, Array, Host, Objects, object_at, Lives, AreNumbered}
 use Rattle.ash_host.specs.Records.{HostRecord}
 use Rattle.ash_tree.specs.declared.tree.types.Primitive.{Primitive}
@@ -182,7 +182,7 @@ pub record IsArray (modules : Known) (all : Objects (List ℕ)) (of : Element (L
 
 -- no state is longer than a state may be
 abbrev pub IsState : List ℕ → Type 0
-IsState state = length state ≤ max_state
+IsState state = length state ≤ max_state_bytes
 
 pub data IsObject (modules : Known) (all : Objects (List ℕ)) : Plain (List ℕ) → Type 0 where
   is_script : {owner : List ℕ} {place : ℕ} {fields : List Word}

@@ -5,7 +5,7 @@ ghost use Rattle.ash_journal.specs.Journal.{Holds, IsReady};
 
 use crate::compare::{check_bytes, check_number};
 use ash_disk::{Disk, MemoryDisk};
-use ash_journal::{Journal, Opened};
+use ash_journal::{Journal, OpenedJournal};
 use std::alloc::Global;
 use std::test::Fail;
 
@@ -54,7 +54,7 @@ fn reopened<D: Disk + Drop>(
     mut journal: Journal<D>,
     image: &[u8],
     body: &[u8],
-) -> Result<Opened<D>, CallerError>
+) -> Result<OpenedJournal<D>, CallerError>
     requires image_short { length image.now < 2 ^ 32 }
     requires body_short { length body.now < 2 ^ 32 }
     requires ready { IsReady journal }

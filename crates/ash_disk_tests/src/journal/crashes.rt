@@ -3,8 +3,8 @@
 use super::{PlacedRecord, Step, append, count_passed, has_contents, open_bytes};
 use crate::compare::check_number;
 use crate::disks::image;
-use ash_disk::{Disk, FuseDisk, MemoryDisk, Survives};
-use ash_journal::{AppendError, Journal, OpenFault, Opened};
+use ash_disk::{Disk, FailingDisk, MemoryDisk, Survives};
+use ash_journal::{AppendError, Journal, OpenFault, OpenedJournal};
 use std::alloc::{AllocError, Global};
 use std::process::Abort;
 use std::test::Fail;
@@ -74,8 +74,8 @@ fn run<D: Disk>(alloc: Global, first: D, second: D) -> (usize, D, D) {
 
 // A run over two disks that fail after so many calls.
 fn stop_run(alloc: Global, first_calls: u64, second_calls: u64) -> StoppedRun {
-    let first = FuseDisk::new(MemoryDisk::new(alloc), first_calls);
-    let second = FuseDisk::new(MemoryDisk::new(alloc), second_calls);
+    let first = FailingDisk::new(MemoryDisk::new(alloc), first_calls);
+    let second = FailingDisk::new(MemoryDisk::new(alloc), second_calls);
     let (acknowledged, first, second) = run(alloc, first, second);
     StoppedRun {
         acknowledged,
@@ -85,7 +85,7 @@ fn stop_run(alloc: Global, first_calls: u64, second_calls: u64) -> StoppedRun {
 }
 
 // Whether what was found is the state of a number, from 1 on.
-fn is_state(found: &Opened<MemoryDisk>, number: usize) -> bool {
+fn is_state(found: &OpenedJournal<MemoryDisk>, number: usize) -> bool {
     match STATES.get(number.wrapping_sub(1)) {
         Some((image, records)) => has_contents(found, image, records),
         None => false,

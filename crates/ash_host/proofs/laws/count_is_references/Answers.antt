@@ -2,4 +2,4 @@ use Rattle.ash_host.proofs.ObjectLaws as laws
 use Rattle.ash_host.proofs.laws.count_is_references.Goals as goal
 
 pub returns : goal.returns
-returns g c = laws.count_is_references _
+returns g c = record { counted = laws.count_is_references _ }

@@ -2,7 +2,7 @@ use Rattle.std.proofs.Common.{subst, arith}
 use Rattle.ash_disk.specs.Image.{TornFrom}
 use Rattle.ash_disk.proofs.MomentLaws.{weaker}
 use Rattle.ash_journal.specs.Reading.{ShutIs}
-use Rattle.ash_journal.specs.Writes.{IsIdle}
+use Rattle.ash_journal.specs.Writes.{IsUnused}
 use Rattle.ash_journal.proofs.GateLaws.{torn_idle}
 use Rattle.ash_journal.proofs.creation.clear.Goals as goal
 
@@ -11,6 +11,6 @@ returns-clause-moments g c honest shut idle =
     let d = g.D.Disk in
     let disk = c.args.disk.now in
     let not_shut = subst (λ s. ShutIs s (d.seen disk)) c.if-gate.false shut in
-    weaker _ _ _ _ (TornFrom 0 1 (d.leaves disk (d.clock disk))) IsIdle
+    weaker _ _ _ _ (TornFrom 0 1 (d.leaves disk (d.clock disk))) IsUnused
     (torn_idle (d.leaves disk (d.clock disk)) (d.seen disk) (g.met.D.Disk.seen_may_stay disk honest) not_shut idle)
     (c.write_durably.ensures.moments honest (omega arith))

@@ -1,9 +1,9 @@
 use Rattle.std.proofs.Common.{◌≡◌, ◌∙◌, ◌∷◌, ◌++◌, [], ℕ, List, IsTrue, length, drop, inl, sym, subst}
-use Rattle.ash_disk.specs.Device.{Throughout}
+use Rattle.ash_disk.specs.Device.{HoldsThroughout}
 use Rattle.ash_disk.proofs.MomentLaws.{weaker}
 use Rattle.ash_journal.specs.Layout.{mark, block}
 use Rattle.ash_journal.specs.Reading.{ShutIs}
-use Rattle.ash_journal.specs.Writes.{IsOn, IsIdle, WhileStarted, WhileCreated}
+use Rattle.ash_journal.specs.Writes.{IsOn, IsUnused, WhileStarted, WhileCreated}
 use Rattle.ash_journal.proofs.ReadLaws.{read_idle, idle_throughout, started_created}
 use Rattle.ash_journal.proofs.creation.create_both.Goals as goal
 
@@ -75,7 +75,7 @@ returns-in-Ok-start-clause-first_moments g c honest_first honest_second idle =
     (read_idle d one c.read_headers.new.first honest_first first_read idle) in
     let call' = subst
     (λ (l : List ℕ).
-    Throughout d c.read_headers.new.first c.start.new.first (WhileStarted l (d.seen c.read_headers.new.first)))
+    HoldsThroughout d c.read_headers.new.first c.start.new.first (WhileStarted l (d.seen c.read_headers.new.first)))
     bytes_are call in
     idle_throughout d one c.read_headers.new.first c.start.new.first (WhileCreated c.args.image.now) honest_first
     first_read idle (λ image is. inl is)
@@ -103,7 +103,7 @@ returns-clause-first_moments g c honest_first honest_second idle =
     (read_idle d one c.read_headers.new.first honest_first first_read idle) in
     let call' = subst
     (λ (l : List ℕ).
-    Throughout d c.read_headers.new.first c.start.new.first (WhileStarted l (d.seen c.read_headers.new.first)))
+    HoldsThroughout d c.read_headers.new.first c.start.new.first (WhileStarted l (d.seen c.read_headers.new.first)))
     bytes_are call in
     idle_throughout d one c.read_headers.new.first c.start.new.first (WhileCreated c.args.image.now) honest_first
     first_read idle (λ image is. inl is)
@@ -129,7 +129,7 @@ returns-in-Ok-start-clause-second_moments g c honest_first honest_second idle =
     let honest_second' = subst IsTrue (sym second_read.honesty) honest_second in
     let call = c.start.ensures.second_moments honest_second' second_shut
     (read_idle d two c.read_headers.new.second honest_second second_read idle) in
-    idle_throughout d two c.read_headers.new.second c.start.new.second IsIdle honest_second second_read idle
+    idle_throughout d two c.read_headers.new.second c.start.new.second IsUnused honest_second second_read idle
     (λ image is. is) call
 
 pub returns-clause-second_moments : goal.returns-clause-second_moments
@@ -151,5 +151,5 @@ returns-clause-second_moments g c honest_first honest_second idle =
     let honest_second' = subst IsTrue (sym second_read.honesty) honest_second in
     let call = c.start.ensures.second_moments honest_second' second_shut
     (read_idle d two c.read_headers.new.second honest_second second_read idle) in
-    idle_throughout d two c.read_headers.new.second c.start.new.second IsIdle honest_second second_read idle
+    idle_throughout d two c.read_headers.new.second c.start.new.second IsUnused honest_second second_read idle
     (λ image is. is) call

@@ -1,6 +1,6 @@
 use Rattle.std.proofs.Common.{◌∙◌, [], IsTrue, drop, refl, sym, subst, inl}
 use Rattle.std.proofs.lemmas.Result.{on_ok_weaker}
-use Rattle.ash_disk.specs.Device.{Throughout}
+use Rattle.ash_disk.specs.Device.{HoldsThroughout}
 use Rattle.ash_disk.proofs.MomentLaws.{goes_on_either, weaker}
 use Rattle.ash_journal.specs.OtherState.{is_older}
 use Rattle.ash_journal.specs.Writes.{WhileRepaired, WhileCommitted, WhileReplaced}
@@ -15,7 +15,7 @@ returns-in_err-repair-clause-moments g c honest only shut =
     (record { honest_disk = honest; long = refl; bytes = refl; durable = only }) in
     weaker _ _ _ _ (WhileRepaired (is_older c.args.state) [] file)
     (WhileReplaced (is_older c.args.state) c.args.bytes.now file) (λ image p. inl p)
-    (subst (λ stray. Throughout d c.args.disk.now c.repair.new.disk (WhileRepaired stray [] file))
+    (subst (λ stray. HoldsThroughout d c.args.disk.now c.repair.new.disk (WhileRepaired stray [] file))
     c.is_older.ensures call)
 
 pub returns-clause-replaced : goal.returns-clause-replaced
@@ -43,7 +43,7 @@ returns-clause-moments g c honest only shut =
     (record { honest_disk = honest; long = refl; bytes = refl; durable = only }) in
     goes_on_either _ _ _ _ _ _ (WhileRepaired (is_older c.args.state) [] file)
     (WhileCommitted [] c.args.bytes.now (drop 1 file))
-    (subst (λ stray. Throughout d c.args.disk.now c.repair.new.disk (WhileRepaired stray [] file))
+    (subst (λ stray. HoldsThroughout d c.args.disk.now c.repair.new.disk (WhileRepaired stray [] file))
     c.is_older.ensures call)
     (c.commit.ensures.moments [] (drop 1 file) (record {
       honest_disk = subst IsTrue (sym c.repair.ensures.honesty) honest;

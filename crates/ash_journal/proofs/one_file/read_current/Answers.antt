@@ -1,5 +1,5 @@
 use Rattle.std.proofs.Common.{◌≡◌, ◌∙◌, ◌+◌, [], ℕ, List, IsTrue, length, sym, ap, subst, arith}
-use Rattle.ash_journal.specs.Layout.{solid}
+use Rattle.ash_journal.specs.Layout.{committed_bytes}
 use Rattle.ash_journal.specs.Reading.{IsRead, IsCutFault}
 use Rattle.ash_journal.proofs.ReadLaws.{image_cut, image_read, length-no_records}
 use Rattle.ash_journal.proofs.one_file.read_current.Goals as goal
@@ -20,7 +20,7 @@ returns-in-Ok-clause-answer g c generation honest len_is marked =
     let read = image_read generation file image c.in-Ok-Some.block.gate marked block in
     let same = c.in-Ok-Some.ensures.only_read.seen honest in
     let honest' = subst IsTrue (sym c.in-Ok-Some.ensures.only_read.honesty) honest in
-    let at_is : 21 + c.len.result ≡ length (solid generation image []) =
+    let at_is : 21 + c.len.result ≡ length (committed_bytes generation image []) =
     omega (arith, c.len.ensures, c.in-Ok-Some.block.body.ok.0, length-no_records generation image) in
     let answer =
     c.in-Ok.ensures.answer generation image read.1 honest' (len_is ∙ ap length (sym same)) read.0 (same ∙ read.2)
@@ -38,7 +38,7 @@ returns-in-Err-read_records-clause-answer g c generation honest len_is marked =
     let read = image_read generation file image c.in-Ok-Some.block.gate marked block in
     let same = c.in-Ok-Some.ensures.only_read.seen honest in
     let honest' = subst IsTrue (sym c.in-Ok-Some.ensures.only_read.honesty) honest in
-    let at_is : 21 + c.len.result ≡ length (solid generation image []) =
+    let at_is : 21 + c.len.result ≡ length (committed_bytes generation image []) =
     omega (arith, c.len.ensures, c.in-Ok-Some.block.body.ok.0, length-no_records generation image) in
     let answer =
     c.in-Err-read_records.ensures.answer generation image read.1 honest' (len_is ∙ ap length (sym same)) read.0

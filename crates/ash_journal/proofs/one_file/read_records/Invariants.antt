@@ -1,6 +1,6 @@
 use Rattle.std.proofs.Common.{◌≡◌, ◌-◌, ◌<◌, ◌≤◌, ◌∷◌, ◌++◌, [], ℕ, List, IsTrue, length}
 use Rattle.ash_disk.specs.Device.{IsOnlyRead}
-use Rattle.ash_journal.specs.Layout.{solid, FieldsFit}
+use Rattle.ash_journal.specs.Layout.{committed_bytes, FieldsFit}
 use Rattle.ash_journal.specs.Reading.{IsReadTo}
 use Rattle.ash_journal.proofs.one_file.read_records.Given as goal
 
@@ -13,8 +13,8 @@ invariant-loop-gate g l =
       goes_on : l.at ≤ l.end;
       answer : (generation : ℕ) (image rest : List ℕ) → IsTrue (g.D.Disk.honest l.fn.disk)
           → l.len ≡ length (g.D.Disk.seen l.fn.disk) → FieldsFit generation image []
-          → g.D.Disk.seen l.fn.disk ≡ solid generation image [] ++ l.first ∷ rest
-          → l.at ≡ length (solid generation image [])
+          → g.D.Disk.seen l.fn.disk ≡ committed_bytes generation image [] ++ l.first ∷ rest
+          → l.at ≡ length (committed_bytes generation image [])
           → IsReadTo generation image l.records.items l.end l.gate (g.D.Disk.seen l.fn.disk);
     }
 

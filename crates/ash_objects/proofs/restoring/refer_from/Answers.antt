@@ -14,7 +14,7 @@ loop-number-preserved g c =
     let n = get_or list k 0 in
     let next = rest_got list k 0 c.loop-number-test.true in
     let there = c.requires.there k 0 c.loop-number-test.true in
-    let here = is_in_from n c.in-Some.slot cur (sym c.slot.ensures ∙ c.in-Some.is) in
+    let here = is_in_from n c.in-Some.slot cur (sym c.slot.ensures.slot ∙ c.in-Some.is) in
     let now = c.refer_words.ensures n here in
     record {
       rest =

@@ -1,6 +1,7 @@
 use Rattle.std.proofs.Common.{◌≡◌, ◌+◌, length, ap, ◌∙◌, arith, ◌∷◌, []}
 use Rattle.std.proofs.lemmas.List.{length-append}
-use Rattle.ash_objects.proofs.Collecting.{skipped, one_more, seen_stored, seen_covered, seen_length, smaller_taken, smaller_popped}
+use Rattle.ash_objects.proofs.Popping.{seen_stored, seen_covered, seen_length}
+use Rattle.ash_objects.proofs.Collecting.{skipped, one_more, smaller_taken, smaller_popped}
 use Rattle.ash_objects.proofs.sweeping.collect.Goals as goal
 
 pub take_idle-requires-clause-stored : goal.take_idle-requires-clause-stored

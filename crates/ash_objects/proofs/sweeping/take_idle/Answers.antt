@@ -12,4 +12,4 @@ release_words-requires g c = λ m.
     let idle = c.requires.idle in
     let one = c.requires.stored.apart c.args.slot idle.0 e.number (in_from_idle idle.0 c.args.slot l idle.1) c.remove-entry.ensures.number in
     let none : counted e.number l ≡ 0 = ap (λ (k : ℕ). counted k l) (sym one) ∙ idle_zero c.args.slot (object_at idle.0 l) idle.1 in
-    rw (c.words.ensures, c.remove-entry.ensures.objects) (taken_covers l e.number e.item c.requires.stored.in_order c.requires.covered c.remove-entry.ensures.item none m)
+    rw (c.words.ensures.words, c.remove-entry.ensures.objects) (taken_covers l e.number e.item c.requires.stored.in_order c.requires.covered c.remove-entry.ensures.item none m)

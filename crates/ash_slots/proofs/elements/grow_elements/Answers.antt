@@ -12,13 +12,13 @@ returns-clause-grown g c = λ number is_in.
     let mine = c.item_mut-item.ensures.value number is_in in
     let s = c.item_mut-item.ensures.stored in
     let array = c.in-Array.array in
-    let now = c.in_ok-grow-in-Array.ensures.grown ∙ ap (λ (w : Word). array.elements ++ replicate (c.args.len - length array.elements) w) c.initial-initial.ensures in
+    let now = c.in_ok-grow-in-Array.ensures.grown ∙ ap (λ (w : Word). array.elements ++ replicate (c.args.len - length array.elements) w) c.initial-initial.ensures.initial in
     if_some _ _ array (array_mine c.args.slot number l it s is_in mine array c.in-Array.is)
     (refilled_at c.args.slot number l it s is_in mine array (lengthened c.args.len array) c.grow.new.self c.in-Array.is now)
 
 pub returns-in_err-grow-in-Array-clause-unchanged : goal.returns-in_err-grow-in-Array-clause-unchanged
 returns-in_err-grow-in-Array-clause-unchanged g c =
-    let n = c.requires.0 in
-    let is_in = c.requires.1 in
+    let n = c.requires.array.0 in
+    let is_in = c.requires.array.1 in
     on_err _ c.from_residual.result
     (item_same c.args.slot n c.args.store.now.objects c.item_mut-item.result.now c.item_mut-item.ensures.stored is_in (c.item_mut-item.ensures.value n is_in) c.in-Array.array c.grow.new.self c.in-Array.is c.in_err-grow-in-Array.ensures.unchanged)

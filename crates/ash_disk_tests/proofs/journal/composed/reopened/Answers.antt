@@ -1,9 +1,9 @@
 use Rattle.std.proofs.Common.{◌≡◌, ◌∷◌, [], List, ℕ, IsTrue, Bool, true, false, sym, ap, subst}
 use Rattle.ash_journal.specs.OtherState.{first_of, second_of}
-use Rattle.ash_journal.specs.Current.{Contents, Is}
+use Rattle.ash_journal.specs.Current.{Contents, IsContents}
 use Rattle.ash_journal.specs.Journal.{second_disk, Holds}
 use Rattle.ash_journal.specs.Reading.{bodies_of}
-use Rattle.ash_journal.specs.Runs.{Run}
+use Rattle.ash_journal.specs.Runs.{HoldsSince}
 use Rattle.ash_journal.proofs.RunLaws.{represented}
 use Rattle.ash_disk_tests.proofs.journal.composed.reopened.Goals as goal
 
@@ -14,7 +14,7 @@ both_honest honest false c o honest_c honest_o = (honest_c, honest_o)
 both_honest honest true c o honest_c honest_o = (honest_o, honest_c)
 
 -- an image and records by their parts
-the_one : (image other : List ℕ) (bodies others : List (List ℕ)) → Is (other, others) (image, bodies)
+the_one : (image other : List ℕ) (bodies others : List (List ℕ)) → IsContents (other, others) (image, bodies)
     → (image ≡ other) × (bodies ≡ others)
 the_one image other bodies others same = (ap (λ (p : Contents). p.0) same, ap (λ (p : Contents). p.1) same)
 
@@ -31,14 +31,14 @@ returns-in-Ok-settle-clause-found g c was bodies holds =
     let second = c.close-first.result.1 in
     let first_honest = subst (λ x. IsTrue (d.honest x)) (sym c.close-first.ensures.first) honest.0 in
     let second_honest = subst (λ x. IsTrue (d.honest x)) (sym c.close-first.ensures.second) honest.1 in
-    let run = subst (λ x. Run d (d.clock x) (d.clock (second_disk j)) x (second_disk j) (Is (image, body ∷ [])))
+    let run = subst (λ x. HoldsSince d (d.clock x) (d.clock (second_disk j)) x (second_disk j) (IsContents (image, body ∷ [])))
     (sym c.close-first.ensures.first) one.run in
-    let run' = subst (λ y. Run d (d.clock first) (d.clock y) first y (Is (image, body ∷ [])))
+    let run' = subst (λ y. HoldsSince d (d.clock first) (d.clock y) first y (IsContents (image, body ∷ [])))
     (sym c.close-first.ensures.second) run in
     let o = c.in-Ok-open.found in
     let is = c.in-Ok-open.ensures.represented first_honest second_honest in
     the_one o.image.items image (bodies_of o.records.items) (body ∷ [])
-    (represented d (d.clock first) (d.clock second) first second (Is (image, body ∷ []))
+    (represented d (d.clock first) (d.clock second) first second (IsContents (image, body ∷ []))
     (o.image.items, bodies_of o.records.items) (d.seen first) (d.seen second)
     (g.met.D.Disk.seen_may_stay first first_honest) (g.met.D.Disk.seen_may_stay second second_honest) run' is)
 

@@ -1,8 +1,8 @@
 use Rattle.std.proofs.Common.{◌≡◌, ◌+◌, ◌∙◌, ◌∷◌, ◌++◌, [], List, ℕ, length, drop, sym, subst, ap, arith}
-use Rattle.ash_disk.specs.Device.{Throughout}
-use Rattle.ash_journal.specs.Current.{Is}
+use Rattle.ash_disk.specs.Device.{HoldsThroughout}
+use Rattle.ash_journal.specs.Current.{IsContents}
 use Rattle.ash_journal.specs.Journal.{first_disk, second_disk}
-use Rattle.ash_journal.specs.Layout.{block, solid}
+use Rattle.ash_journal.specs.Layout.{block, committed_bytes}
 use Rattle.ash_journal.specs.Writes.{IsOn, WhileCommitted}
 use Rattle.ash_journal.proofs.FilesLaws.{at_rest, append_files, append_extends, ready_run, record_long}
 use Rattle.ash_journal.proofs.RunLaws.{same_extends}
@@ -11,7 +11,7 @@ use Rattle.ash_journal.proofs.journal.Journal.append.Goals as goal
 pub returns-in-Err-clause-extends : goal.returns-in-Err-clause-extends
 returns-in-Err-clause-extends g c image bodies holds =
     same_extends g.D.Disk (first_disk c.args.self.now) (second_disk c.args.self.now)
-    (Is (image, bodies ++ c.args.body.now ∷ []))
+    (IsContents (image, bodies ++ c.args.body.now ∷ []))
 
 pub returns-in-Err-commit-clause-extends : goal.returns-in-Err-commit-clause-extends
 returns-in-Err-commit-clause-extends g c image bodies holds =
@@ -19,7 +19,7 @@ returns-in-Err-commit-clause-extends g c image bodies holds =
     let j = c.args.self.now in
     let f = holds.files in
     let bytes_are : c.deref.result.now ≡ block c.args.body.now ++ 0 ∷ [] = c.deref.ensures.value ∙ c.in-Ok.ensures in
-    let prefix = solid j.generation image bodies in
+    let prefix = committed_bytes j.generation image bodies in
     let rests = at_rest d j.generation j.end j.record_bytes j.stray j.other_state j.current c.commit.new.disk j.other
     image bodies c.args.body.now f holds.repaired c.requires.short in
     let call = c.commit.ensures.moments prefix f.after
@@ -27,7 +27,7 @@ returns-in-Err-commit-clause-extends g c image bodies holds =
     append_extends d j.generation j.end j.record_bytes j.stray j.other_state j.current c.commit.new.disk j.other image
     bodies c.args.body.now f holds.repaired c.requires.short j.swapped
     (g.met.D.Disk.seen_may_stay j.current f.current_honest) (g.met.D.Disk.seen_may_stay j.other f.other_honest)
-    (subst (λ (l : List ℕ). Throughout d j.current c.commit.new.disk (WhileCommitted prefix l f.after)) bytes_are call)
+    (subst (λ (l : List ℕ). HoldsThroughout d j.current c.commit.new.disk (WhileCommitted prefix l f.after)) bytes_are call)
 
 pub returns-clause-acknowledged : goal.returns-clause-acknowledged
 returns-clause-acknowledged g c image bodies holds =
@@ -35,7 +35,7 @@ returns-clause-acknowledged g c image bodies holds =
     let j = c.args.self.now in
     let f = holds.files in
     let bytes_are : c.deref.result.now ≡ block c.args.body.now ++ 0 ∷ [] = c.deref.ensures.value ∙ c.in-Ok.ensures in
-    let prefix = solid j.generation image bodies in
+    let prefix = committed_bytes j.generation image bodies in
     let rests = at_rest d j.generation j.end j.record_bytes j.stray j.other_state j.current c.commit.new.disk j.other
     image bodies c.args.body.now f holds.repaired c.requires.short in
     let on = c.in-Ok-commit.ensures.committed prefix f.after
@@ -60,7 +60,7 @@ returns-clause-extends g c image bodies holds =
     let j = c.args.self.now in
     let f = holds.files in
     let bytes_are : c.deref.result.now ≡ block c.args.body.now ++ 0 ∷ [] = c.deref.ensures.value ∙ c.in-Ok.ensures in
-    let prefix = solid j.generation image bodies in
+    let prefix = committed_bytes j.generation image bodies in
     let rests = at_rest d j.generation j.end j.record_bytes j.stray j.other_state j.current c.commit.new.disk j.other
     image bodies c.args.body.now f holds.repaired c.requires.short in
     let call = c.commit.ensures.moments prefix f.after
@@ -68,7 +68,7 @@ returns-clause-extends g c image bodies holds =
     append_extends d j.generation j.end j.record_bytes j.stray j.other_state j.current c.commit.new.disk j.other image
     bodies c.args.body.now f holds.repaired c.requires.short j.swapped
     (g.met.D.Disk.seen_may_stay j.current f.current_honest) (g.met.D.Disk.seen_may_stay j.other f.other_honest)
-    (subst (λ (l : List ℕ). Throughout d j.current c.commit.new.disk (WhileCommitted prefix l f.after)) bytes_are call)
+    (subst (λ (l : List ℕ). HoldsThroughout d j.current c.commit.new.disk (WhileCommitted prefix l f.after)) bytes_are call)
 
 pub returns-clause-longer : goal.returns-clause-longer
 returns-clause-longer g c =

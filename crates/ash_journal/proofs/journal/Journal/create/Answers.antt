@@ -1,7 +1,7 @@
 use Rattle.std.proofs.Common.{inl, ◌+◌, ◌∷◌, ◌++◌, [], IsTrue, false, length, drop, refl, sym, subst, arith}
 use Rattle.ash_journal.specs.declared.other_state.OtherState.TheVariants.{Shut}
 use Rattle.ash_journal.specs.Layout.{mark, block, IsShut}
-use Rattle.ash_journal.specs.Writes.{IsIdle, WhileCreated}
+use Rattle.ash_journal.specs.Writes.{IsUnused, WhileCreated}
 use Rattle.ash_journal.proofs.FilesLaws.{create_files, ready_run}
 use Rattle.ash_journal.proofs.ReadLaws.{since_rested}
 use Rattle.ash_journal.proofs.InstallLaws.{create_settles}
@@ -16,7 +16,7 @@ returns-in-Ok-clause-created g c honest_first honest_second =
     let on = c.in-Ok.ensures.created honest_first honest_second in
     let second_cleared = c.in-Ok.ensures.second_cleared honest_first honest_second in
     let rest = drop (length (mark 1 ++ (block image ++ 0 ∷ []))) (drop 1 (d.seen c.args.first)) in
-    let files = create_files d one two image rest (21 + length image) refl c.requires
+    let files = create_files d one two image rest (21 + length image) refl c.requires.short
     (subst IsTrue (sym c.in-Ok.ensures.honesty_first) honest_first)
     (subst IsTrue (sym c.in-Ok.ensures.honesty_second) honest_second) on
     (subst IsShut (sym second_cleared.bytes) refl) second_cleared.durable in
@@ -35,10 +35,10 @@ returns-in-Ok-clause-moments g c a b honest_first honest_second rested_first res
     (rested_first.idle (d.clock c.args.first) rested_first.began (omega arith)) in
     let two = c.create_both.ensures.second_moments honest_first honest_second
     (rested_second.idle (d.clock c.args.second) rested_second.began (omega arith)) in
-    create_settles image x y c.requires
+    create_settles image x y c.requires.short
     (since_rested d a c.args.first c.create_both.new.first (WhileCreated image) rested_first
     (λ left is. inl is) one s x from_a to_a left_x)
-    (since_rested d b c.args.second c.create_both.new.second IsIdle rested_second
+    (since_rested d b c.args.second c.create_both.new.second IsUnused rested_second
     (λ left is. is) two t y from_b to_b left_y)
 
 pub returns-in-Err-clause-moments : goal.returns-in-Err-clause-moments
@@ -50,8 +50,8 @@ returns-in-Err-clause-moments g c a b honest_first honest_second rested_first re
     (rested_first.idle (d.clock c.args.first) rested_first.began (omega arith)) in
     let two = c.create_both.ensures.second_moments honest_first honest_second
     (rested_second.idle (d.clock c.args.second) rested_second.began (omega arith)) in
-    create_settles image x y c.requires
+    create_settles image x y c.requires.short
     (since_rested d a c.args.first c.create_both.new.first (WhileCreated image) rested_first
     (λ left is. inl is) one s x from_a to_a left_x)
-    (since_rested d b c.args.second c.create_both.new.second IsIdle rested_second
+    (since_rested d b c.args.second c.create_both.new.second IsUnused rested_second
     (λ left is. is) two t y from_b to_b left_y)

@@ -1,13 +1,13 @@
 use Rattle.std.proofs.Common.{◌≡◌, ◌∙◌, ◌+◌, ◌^◌, ◌<◌, ◌∷◌, ◌++◌, [], List, ℕ, length, drop, not, false, refl}
 use Rattle.std.proofs.Common.{sym, subst, arith}
-use Rattle.ash_disk.specs.Device.{Throughout}
+use Rattle.ash_disk.specs.Device.{HoldsThroughout}
 use Rattle.ash_journal.specs.declared.other_state.OtherState.TheVariants.{Older}
 use Rattle.ash_journal.specs.Layout.{mark, block}
 use Rattle.ash_journal.specs.Writes.{IsOn, WhileReplaced}
 use Rattle.ash_journal.specs.OtherState.{is_older, first_of, second_of}
-use Rattle.ash_journal.specs.Current.{Is, Either}
+use Rattle.ash_journal.specs.Current.{IsContents, HoldsOneOf}
 use Rattle.ash_journal.specs.Journal.{FilesAre}
-use Rattle.ash_journal.specs.Runs.{Run}
+use Rattle.ash_journal.specs.Runs.{HoldsSince}
 use Rattle.ash_journal.proofs.RunLaws.{run_swapped}
 use Rattle.ash_journal.proofs.FilesLaws.{shut_other, install_files, install_run, ready_run}
 use Rattle.ash_journal.proofs.journal.Journal.install.Goals as goal
@@ -25,7 +25,7 @@ returns-in-Err-replace-clause-run g c was bodies holds =
     let call = c.replace.ensures.moments f.other_honest f.other_durable shut in
     let call' =
     subst (λ (l : List ℕ).
-    Throughout d j.other c.replace.new.disk (WhileReplaced (is_older j.other_state) l (d.seen j.other))) bytes_are
+    HoldsThroughout d j.other c.replace.new.disk (WhileReplaced (is_older j.other_state) l (d.seen j.other))) bytes_are
     call in
     let run = install_run d j.generation j.end j.record_bytes j.stray j.other_state j.current j.other c.replace.new.disk
     was bodies image f holds.repaired higher c.requires.short j.swapped call' in
@@ -74,17 +74,17 @@ returns-clause-run g c was bodies holds =
     let call = c.replace.ensures.moments f.other_honest f.other_durable shut in
     let call' =
     subst (λ (l : List ℕ).
-    Throughout d j.other c.replace.new.disk (WhileReplaced (is_older j.other_state) l (d.seen j.other))) bytes_are
+    HoldsThroughout d j.other c.replace.new.disk (WhileReplaced (is_older j.other_state) l (d.seen j.other))) bytes_are
     call in
     let run = install_run d j.generation j.end j.record_bytes j.stray j.other_state j.current j.other c.replace.new.disk
     was bodies image f holds.repaired higher c.requires.short j.swapped call' in
     let swapped =
-    run_swapped d j.swapped _ _ j.current c.replace.new.disk (Either (Is (image, [])) (Is (was, bodies))) run in
+    run_swapped d j.swapped _ _ j.current c.replace.new.disk (HoldsOneOf (IsContents (image, [])) (IsContents (was, bodies))) run in
     let swapped' =
-    subst (λ x. Run d (d.clock (first_of j.swapped j.current j.other))
+    subst (λ x. HoldsSince d (d.clock (first_of j.swapped j.current j.other))
     (d.clock (second_of j.swapped j.current j.other)) (first_of (not j.swapped) x j.current)
-    (second_of (not j.swapped) x j.current) (Either (Is (image, [])) (Is (was, bodies))))
+    (second_of (not j.swapped) x j.current) (HoldsOneOf (IsContents (image, [])) (IsContents (was, bodies))))
     (sym c.swap.ensures.x_after) swapped in
-    subst (λ y. Run d (d.clock (first_of j.swapped j.current j.other)) (d.clock (second_of j.swapped j.current j.other))
+    subst (λ y. HoldsSince d (d.clock (first_of j.swapped j.current j.other)) (d.clock (second_of j.swapped j.current j.other))
     (first_of (not j.swapped) c.swap.new.x y) (second_of (not j.swapped) c.swap.new.x y)
-    (Either (Is (image, [])) (Is (was, bodies)))) (sym c.swap.ensures.y_after) swapped'
+    (HoldsOneOf (IsContents (image, [])) (IsContents (was, bodies)))) (sym c.swap.ensures.y_after) swapped'

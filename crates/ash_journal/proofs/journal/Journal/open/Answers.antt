@@ -1,6 +1,6 @@
 use Rattle.std.proofs.Common.{◌≡◌, ◌-◌, IsTrue, length, sym, subst, arith}
 use Rattle.ash_journal.specs.OtherState.{first_of}
-use Rattle.ash_journal.specs.Runs.{Extends, Nothing}
+use Rattle.ash_journal.specs.Runs.{Extends, NoContents}
 use Rattle.ash_journal.proofs.OpenLaws.{open_files, open_represented, placed}
 use Rattle.ash_journal.proofs.RunLaws.{read_extends}
 use Rattle.ash_journal.proofs.journal.Journal.open.Goals as goal
@@ -58,5 +58,5 @@ returns-clause-extends g c honest_first honest_second =
     honest_second e.first_read e.second_read in
     let is = placed swapped c.read_both.new.first c.read_both.new.second current other c.arrange-current.ensures.current
     c.arrange-current.ensures.other in
-    let one = subst (λ x. Extends d c.args.first c.args.second x c.read_both.new.second Nothing) (sym is.0) read in
-    subst (λ y. Extends d c.args.first c.args.second (first_of swapped current other) y Nothing) (sym is.1) one
+    let one = subst (λ x. Extends d c.args.first c.args.second x c.read_both.new.second NoContents) (sym is.0) read in
+    subst (λ y. Extends d c.args.first c.args.second (first_of swapped current other) y NoContents) (sym is.1) one

@@ -1,7 +1,7 @@
 use Rattle.std.proofs.Common.{◌∷◌, [], false, refl, sym, subst, inl}
-use Rattle.ash_disk.specs.Device.{Throughout}
+use Rattle.ash_disk.specs.Device.{HoldsThroughout}
 use Rattle.ash_disk.proofs.MomentLaws.{at_start}
-use Rattle.ash_journal.specs.Layout.{solid}
+use Rattle.ash_journal.specs.Layout.{committed_bytes}
 use Rattle.ash_journal.specs.Writes.{IsOn, WhileRepaired, repaired}
 use Rattle.ash_journal.specs.OtherState.{is_stray}
 use Rattle.ash_journal.specs.Journal.{FilesAre, NeedsNoRepair}
@@ -13,7 +13,7 @@ pub returns-in-Err-clause-extends : goal.returns-in-Err-clause-extends
 returns-in-Err-clause-extends g c image bodies f =
     let d = g.D.Disk in
     let j = c.args.self.now in
-    let one = c.repair.ensures.moments (solid j.generation image bodies) (f.gate ∷ f.after)
+    let one = c.repair.ensures.moments (committed_bytes j.generation image bodies) (f.gate ∷ f.after)
     (record {
       honest_disk = f.current_honest;
       long = sym f.end_is;
@@ -30,7 +30,7 @@ pub returns-in-Err-repair-clause-extends : goal.returns-in-Err-repair-clause-ext
 returns-in-Err-repair-clause-extends g c image bodies f =
     let d = g.D.Disk in
     let j = c.args.self.now in
-    let one = c.repair.ensures.moments (solid j.generation image bodies) (f.gate ∷ f.after)
+    let one = c.repair.ensures.moments (committed_bytes j.generation image bodies) (f.gate ∷ f.after)
     (record {
       honest_disk = f.current_honest;
       long = sym f.end_is;
@@ -42,14 +42,14 @@ returns-in-Err-repair-clause-extends g c image bodies f =
     settle_extends d j.generation j.end j.record_bytes j.stray j.other_state j.current c.repair.new.disk j.other
     c.repair-2.new.disk image bodies f j.swapped
     (g.met.D.Disk.seen_may_stay j.current f.current_honest) (g.met.D.Disk.seen_may_stay j.other f.other_honest) one
-    (subst (λ stray. Throughout d j.other c.repair-2.new.disk (WhileRepaired stray [] (d.seen j.other)))
+    (subst (λ stray. HoldsThroughout d j.other c.repair-2.new.disk (WhileRepaired stray [] (d.seen j.other)))
     c.is_stray.ensures two)
 
 pub returns-clause-settled : goal.returns-clause-settled
 returns-clause-settled g c image bodies f =
     let d = g.D.Disk in
     let j = c.args.self.now in
-    let on_c = c.in-Ok.ensures.repaired (solid j.generation image bodies) (f.gate ∷ f.after)
+    let on_c = c.in-Ok.ensures.repaired (committed_bytes j.generation image bodies) (f.gate ∷ f.after)
     (record {
       honest_disk = f.current_honest;
       long = sym f.end_is;
@@ -78,7 +78,7 @@ pub returns-clause-extends : goal.returns-clause-extends
 returns-clause-extends g c image bodies f =
     let d = g.D.Disk in
     let j = c.args.self.now in
-    let one = c.repair.ensures.moments (solid j.generation image bodies) (f.gate ∷ f.after)
+    let one = c.repair.ensures.moments (committed_bytes j.generation image bodies) (f.gate ∷ f.after)
     (record {
       honest_disk = f.current_honest;
       long = sym f.end_is;
@@ -90,14 +90,14 @@ returns-clause-extends g c image bodies f =
     settle_extends d j.generation j.end j.record_bytes j.stray j.other_state j.current c.repair.new.disk j.other
     c.repair-2.new.disk image bodies f j.swapped
     (g.met.D.Disk.seen_may_stay j.current f.current_honest) (g.met.D.Disk.seen_may_stay j.other f.other_honest) one
-    (subst (λ stray. Throughout d j.other c.repair-2.new.disk (WhileRepaired stray [] (d.seen j.other)))
+    (subst (λ stray. HoldsThroughout d j.other c.repair-2.new.disk (WhileRepaired stray [] (d.seen j.other)))
     c.is_stray.ensures two)
 
 pub returns-in-Err-clause-gates : goal.returns-in-Err-clause-gates
 returns-in-Err-clause-gates g c image bodies f =
     let d = g.D.Disk in
     let j = c.args.self.now in
-    let one = c.repair.ensures.only_gate (solid j.generation image bodies) (f.gate ∷ f.after)
+    let one = c.repair.ensures.only_gate (committed_bytes j.generation image bodies) (f.gate ∷ f.after)
     (record {
       honest_disk = f.current_honest;
       long = sym f.end_is;
@@ -112,7 +112,7 @@ pub returns-in-Err-repair-clause-gates : goal.returns-in-Err-repair-clause-gates
 returns-in-Err-repair-clause-gates g c image bodies f =
     let d = g.D.Disk in
     let j = c.args.self.now in
-    let one = c.repair.ensures.only_gate (solid j.generation image bodies) (f.gate ∷ f.after)
+    let one = c.repair.ensures.only_gate (committed_bytes j.generation image bodies) (f.gate ∷ f.after)
     (record {
       honest_disk = f.current_honest;
       long = sym f.end_is;
@@ -128,7 +128,7 @@ pub returns-clause-gates : goal.returns-clause-gates
 returns-clause-gates g c image bodies f =
     let d = g.D.Disk in
     let j = c.args.self.now in
-    let one = c.repair.ensures.only_gate (solid j.generation image bodies) (f.gate ∷ f.after)
+    let one = c.repair.ensures.only_gate (committed_bytes j.generation image bodies) (f.gate ∷ f.after)
     (record {
       honest_disk = f.current_honest;
       long = sym f.end_is;

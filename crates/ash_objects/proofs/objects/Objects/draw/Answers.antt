@@ -1,7 +1,7 @@
 use Rattle.std.proofs.Common.{rules, ◌≡◌, refl, arith, sym, ap, ◌∙◌, ◌<◌, ◌+◌, length, true, subst, ℕ}
 use Rattle.std.specs.Prelude.{IfSome}
 use Rattle.std.specs.List.{Contains}
-use Rattle.ash_slots.specs.Store.{Placed}
+use Rattle.ash_slots.specs.Store.{SlotEntry}
 use Rattle.std.proofs.lemmas.List.Elements.{All-nil}
 use Rattle.ash_host.specs.Objects.{with_at, handle, Lives}
 use Rattle.ash_slots.specs.declared.body.Body.TheVariants.{Host}
@@ -47,10 +47,10 @@ invariant_of-self-2 g c =
     let later : c.self.inside.last < c.in_ok-number.number = omega (arith, number) in
     let room = rw (← c.self.view_is) at c.in_ok-number.ensures.room in
     let few : length l < 4096 = omega (arith, room, length-living l l) in
-    let p : Placed _ = record { slot = c.in_default-insert.field-0; waiting = true; item = record { count = 0; touched = true; body = Host c.remove.result } } in
+    let p : SlotEntry _ = record { slot = c.in_default-insert.field-0; waiting = true; item = record { count = 0; touched = true; body = Host c.remove.result } } in
     let first = listed_covers l _ _ c.mark.ensures.covers (listed_covers l _ _ c.reserve-else-is_err.ensures.covers c.self.invariant.listed) in
     let within : c.vacant-vacant.result < c.reserve-else-is_err.new.self.room = search rules in
-    let slot : p.slot ≡ c.vacant-vacant.result = c.in_default-insert.ensures.slot ∙ sym c.vacant-vacant.ensures in
+    let slot : p.slot ≡ c.vacant-vacant.result = c.in_default-insert.ensures.slot ∙ sym c.vacant-vacant.ensures.slot in
     let put = listed_new c.in_ok-number.number p l _ (omega (arith, within, slot, c.mark.ensures.covers.room)) (λ yes. subst (λ (k : ℕ). Contains c.mark.new.self.slots k) (sym slot) c.mark.ensures.listed) first in
     rw c.in_default-insert.ensures.objects (record {
       listed = put;

@@ -8,26 +8,27 @@ use Rattle.ash_objects.proofs.objects.Objects.invoke_at.Goals as goal
 
 pub mark-requires : goal.mark-requires
 mark-requires g c =
-    let at = rw (← c.self.view_is) at c.requires.1 in
-    slot_within c.requires.0 c.args.slot c.self.inside.store.objects _ (in_view c.requires.0 c.args.slot c.self.inside.store.objects at) c.self.invariant.listed
+    let at = rw (← c.self.view_is) at c.requires.host.1 in
+    slot_within c.requires.host.0 c.args.slot c.self.inside.store.objects _ (in_view c.requires.host.0 c.args.slot c.self.inside.store.objects at) c.self.invariant.listed
 
 pub invoke_in-answer-requires : goal.invoke_in-answer-requires
-invoke_in-answer-requires g c =
-    let l = c.self.inside.store.objects in
-    let at = rw (← c.self.view_is) at c.requires.1 in
-    let some = rw (← c.self.view_is) at c.requires.2 in
-    (c.requires.0, in_view c.requires.0 c.args.slot l at, some_box c.requires.0 l some)
+invoke_in-answer-requires g c = record {
+  host = let l = c.self.inside.store.objects in
+      let at = rw (← c.self.view_is) at c.requires.host.1 in
+      let some = rw (← c.self.view_is) at c.requires.host.2 in
+      (c.requires.host.0, in_view c.requires.host.0 c.args.slot l at, some_box c.requires.host.0 l some);
+}
 
 pub invariant_of-self : goal.invariant_of-self
 invariant_of-self g c =
     let l = c.self.inside.store.objects in
-    let at = rw (← c.self.view_is) at c.requires.1 in
-    let a = c.invoke_in-answer.ensures c.requires.0 (in_view c.requires.0 c.args.slot l at) in
+    let at = rw (← c.self.view_is) at c.requires.host.1 in
+    let a = c.invoke_in-answer.ensures.answered c.requires.host.0 (in_view c.requires.host.0 c.args.slot l at) in
     rw a.becomes (record {
-      table = table_box c.requires.0 l _ _ a.before a.after c.self.invariant.table a.was;
+      table = table_box c.requires.host.0 l _ _ a.before a.after c.self.invariant.table a.was;
       listed =
-          listed_change c.requires.0 c.args.slot (boxed a.after) l _
-          (λ p. refl) (in_view c.requires.0 c.args.slot l at) c.mark.ensures.listed
+          listed_change c.requires.host.0 c.args.slot (boxed a.after) l _
+          (λ p. refl) (in_view c.requires.host.0 c.args.slot l at) c.mark.ensures.listed
           (listed_covers l _ _ c.mark.ensures.covers c.self.invariant.listed);
     })
 
@@ -35,7 +36,7 @@ pub returns-in-NoMemory-clause-answered : goal.returns-in-NoMemory-clause-answer
 returns-in-NoMemory-clause-answered g c = λ number is.
     let l = c.self.inside.store.objects in
     let at = rw (← c.self.view_is) at is in
-    let a = c.invoke_in-answer.ensures number (in_view number c.args.slot l at) in
+    let a = c.invoke_in-answer.ensures.answered number (in_view number c.args.slot l at) in
     record {
       before = a.before;
       after = a.after;
@@ -53,13 +54,13 @@ returns-in-NoMemory-clause-answered g c = λ number is.
 pub invariant_of-self-2 : goal.invariant_of-self-2
 invariant_of-self-2 g c =
     let l = c.self.inside.store.objects in
-    let at = rw (← c.self.view_is) at c.requires.1 in
-    let a = c.invoke_in-answer.ensures c.requires.0 (in_view c.requires.0 c.args.slot l at) in
+    let at = rw (← c.self.view_is) at c.requires.host.1 in
+    let a = c.invoke_in-answer.ensures.answered c.requires.host.0 (in_view c.requires.host.0 c.args.slot l at) in
     rw a.becomes (record {
-      table = table_box c.requires.0 l _ _ a.before a.after c.self.invariant.table a.was;
+      table = table_box c.requires.host.0 l _ _ a.before a.after c.self.invariant.table a.was;
       listed =
-          listed_change c.requires.0 c.args.slot (boxed a.after) l _
-          (λ p. refl) (in_view c.requires.0 c.args.slot l at) c.mark.ensures.listed
+          listed_change c.requires.host.0 c.args.slot (boxed a.after) l _
+          (λ p. refl) (in_view c.requires.host.0 c.args.slot l at) c.mark.ensures.listed
           (listed_covers l _ _ c.mark.ensures.covers c.self.invariant.listed);
     })
 
@@ -68,7 +69,7 @@ returns g c = record {
   answered = λ number is.
       let l = c.self.inside.store.objects in
       let at = rw (← c.self.view_is) at is in
-      let a = c.invoke_in-answer.ensures number (in_view number c.args.slot l at) in
+      let a = c.invoke_in-answer.ensures.answered number (in_view number c.args.slot l at) in
       record {
         before = a.before;
         after = a.after;
@@ -86,7 +87,7 @@ returns g c = record {
       λ number is. rw (
         c.push_reserved.ensures.items,
         c.reserve.ensures.items,
-        c.number-number.ensures number is,
+        c.number-number.ensures.number number is,
         called_is (Object number) c.args.method c.invoke_in-answer.result c.in_default.not-NoMemory,
       ) refl;
   unchanged = tt;

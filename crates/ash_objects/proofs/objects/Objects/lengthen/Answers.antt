@@ -10,12 +10,13 @@ use Rattle.ash_objects.proofs.Listed.{slot_within, listed_change, listed_covers}
 use Rattle.ash_objects.proofs.objects.Objects.lengthen.Goals as goal
 
 pub grow_elements-requires : goal.grow_elements-requires
-grow_elements-requires g c =
-    let l = c.self.inside.store.objects in
-    let n = c.requires.array.0 in
-    let at = rw (← c.self.view_is) at c.requires.array.1 in
-    let a = found_array n l (rw (← c.self.view_is) at c.requires.array.2) in
-    (n, in_view n c.args.slot l at, subst (λ v. IsSome v) (sym a.1) refl)
+grow_elements-requires g c = record {
+  array = let l = c.self.inside.store.objects in
+      let n = c.requires.array.0 in
+      let at = rw (← c.self.view_is) at c.requires.array.1 in
+      let a = found_array n l (rw (← c.self.view_is) at c.requires.array.2) in
+      (n, in_view n c.args.slot l at, subst (λ v. IsSome v) (sym a.1) refl);
+}
 
 pub mark-requires : goal.mark-requires
 mark-requires g c =

@@ -1,7 +1,7 @@
 use Rattle.std.proofs.Common.{◌≡◌, refl, arith, ap, ◌∙◌, ◌<◌, ◌+◌, length, true}
 use Rattle.ash_host.specs.Objects.{with_at}
 use Rattle.ash_slots.specs.Bodies.{words_of}
-use Rattle.ash_slots.specs.Store.{Placed}
+use Rattle.ash_slots.specs.Store.{SlotEntry}
 use Rattle.ash_objects.specs.Counting.{living_in, refer_all}
 use Rattle.ash_objects.specs.Making.{new_object}
 use Rattle.ash_objects.proofs.Referring.{all_alive_view, all_face}
@@ -14,7 +14,7 @@ refer_words-requires g c =
     let l = c.self.inside.store.objects in
     let t = c.self.invariant.table in
     let n = c.args.next in
-    let p : Placed _ = record { slot = c.in-Ok.slot; waiting = true; item = record { count = 0; touched = true; body = c.args.body } } in
+    let p : SlotEntry _ = record { slot = c.in-Ok.slot; waiting = true; item = record { count = 0; touched = true; body = c.args.body } } in
     let number : n ≡ c.self.inside.last + 1 = rw (← c.self.view_is) at c.requires.next in
     let later : c.self.inside.last < n = omega (arith, number) in
     let none = absent l c.self.inside.last n t.given later in
@@ -32,7 +32,7 @@ invariant_of-self-2 g c =
     let l = c.self.inside.store.objects in
     let t = c.self.invariant.table in
     let n = c.args.next in
-    let p : Placed _ = record { slot = c.in-Ok.slot; waiting = true; item = record { count = 0; touched = true; body = c.args.body } } in
+    let p : SlotEntry _ = record { slot = c.in-Ok.slot; waiting = true; item = record { count = 0; touched = true; body = c.args.body } } in
     let number : n ≡ c.self.inside.last + 1 = rw (← c.self.view_is) at c.requires.next in
     let later : c.self.inside.last < n = omega (arith, number) in
     let none = absent l c.self.inside.last n t.given later in
@@ -43,7 +43,7 @@ invariant_of-self-2 g c =
     let here = slot_new n p l t.in_order t.counted none alive refl in
     let referred = rw c.in-Ok.ensures.objects at (c.refer_words.ensures n) in
     let first = listed_covers l _ _ c.mark.ensures.covers (listed_covers l _ _ c.reserve.ensures.covers c.self.invariant.listed) in
-    let put = listed_new n p l _ (omega (arith, c.in_ok-reserve.ensures.room, c.vacant.ensures, c.in-Ok.ensures.slot, c.mark.ensures.covers.room)) (λ yes. c.mark.ensures.listed) first in
+    let put = listed_new n p l _ (omega (arith, c.in_ok-reserve.ensures.room, c.vacant.ensures.slot, c.in-Ok.ensures.slot, c.mark.ensures.covers.room)) (λ yes. c.mark.ensures.listed) first in
     rw (referred here, words_new n p l t.in_order t.counted none alive refl) (record {
       table =
           table_new n p l t.in_order t.counted none alive refl c.self.inside.last c.self.inside.settled t.given
@@ -58,7 +58,7 @@ returns-clause-made g c =
     let l = c.self.inside.store.objects in
     let t = c.self.invariant.table in
     let n = c.args.next in
-    let p : Placed _ = record { slot = c.in-Ok.slot; waiting = true; item = record { count = 0; touched = true; body = c.args.body } } in
+    let p : SlotEntry _ = record { slot = c.in-Ok.slot; waiting = true; item = record { count = 0; touched = true; body = c.args.body } } in
     let number : n ≡ c.self.inside.last + 1 = rw (← c.self.view_is) at c.requires.next in
     let later : c.self.inside.last < n = omega (arith, number) in
     let none = absent l c.self.inside.last n t.given later in

@@ -11,17 +11,18 @@ mark-requires g c =
     slot_within c.requires.0 c.args.slot c.self.inside.store.objects _ (in_view c.requires.0 c.args.slot c.self.inside.store.objects at) c.self.invariant.listed
 
 pub start_in-requires : goal.start_in-requires
-start_in-requires g c =
-    let l = c.self.inside.store.objects in
-    let at = rw (← c.self.view_is) at c.requires.1 in
-    let some = rw (← c.self.view_is) at c.requires.2 in
-    (c.requires.0, in_view c.requires.0 c.args.slot l at, some_box c.requires.0 l some)
+start_in-requires g c = record {
+  host = let l = c.self.inside.store.objects in
+      let at = rw (← c.self.view_is) at c.requires.1 in
+      let some = rw (← c.self.view_is) at c.requires.2 in
+      (c.requires.0, in_view c.requires.0 c.args.slot l at, some_box c.requires.0 l some);
+}
 
 pub invariant_of-self : goal.invariant_of-self
 invariant_of-self g c =
     let l = c.self.inside.store.objects in
     let at = rw (← c.self.view_is) at c.requires.1 in
-    let a = c.start_in.ensures c.requires.0 (in_view c.requires.0 c.args.slot l at) in
+    let a = c.start_in.ensures.answered c.requires.0 (in_view c.requires.0 c.args.slot l at) in
     rw a.becomes (record {
       table = table_box c.requires.0 l _ _ a.before a.after c.self.invariant.table a.was;
       listed =
@@ -34,7 +35,7 @@ pub returns : goal.returns
 returns g c = λ number is.
     let l = c.self.inside.store.objects in
     let at = rw (← c.self.view_is) at is in
-    let a = c.start_in.ensures number (in_view number c.args.slot l at) in
+    let a = c.start_in.ensures.answered number (in_view number c.args.slot l at) in
     record {
       before = a.before;
       after = a.after;

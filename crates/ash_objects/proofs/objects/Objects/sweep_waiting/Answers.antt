@@ -28,8 +28,8 @@ returns-clause-collected g c =
     let h = c.collect.ensures.gone in
     let marks = map living_mark (gone_from (living_in l) (living_in now)) in
     let sorted = ap (λ (k : List (Entry _)). map entry_mark k) c.deref.ensures.value ∙ c.sort_taken.ensures.order marks (gone_marks l now c.collect.new.taken.items t.in_order t.counted h) in
-    let gone : c.report.new.gone.items ≡ c.self.inside.gone.items ++ marked_since c.self.inside.settled marks =
-    c.report.ensures.gone ∙ ap (λ (k : List ℕ). k ++ marked_since c.self.inside.settled (map entry_mark c.deref.result.now)) c.reserve-else-is_err.ensures.items ∙ ap (λ (k : List (ℕ × Bool)). c.self.inside.gone.items ++ marked_since c.self.inside.settled k) sorted in
+    let gone : c.push_dropped.new.gone.items ≡ c.self.inside.gone.items ++ marked_since c.self.inside.settled marks =
+    c.push_dropped.ensures.gone ∙ ap (λ (k : List ℕ). k ++ marked_since c.self.inside.settled (map entry_mark c.deref.result.now)) c.reserve-else-is_err.ensures.items ∙ ap (λ (k : List (ℕ × Bool)). c.self.inside.gone.items ++ marked_since c.self.inside.settled k) sorted in
     rw (← c.self.view_is, gone)
     (collects_now l now c.collect.new.taken.items t.in_order t.counted h c.collect.ensures.done c.self.inside.pool.items c.self.inside.services.items c.self.inside.last c.self.inside.settled c.self.inside.gone.items)
 
@@ -42,7 +42,7 @@ returns-clause-dropped g c =
     let marks = map living_mark (gone_from (living_in l) (living_in now)) in
     let sorted = ap (λ (k : List (Entry _)). map entry_mark k) c.deref.ensures.value ∙ c.sort_taken.ensures.order marks (gone_marks l now c.collect.new.taken.items t.in_order t.counted h) in
     rw (← c.self.view_is, drops_is (gone_from (living_in l) (living_in now)))
-    (c.report.ensures.events ∙ ap (λ (k : List Event). k ++ marked_drops (map entry_mark c.deref.result.now)) c.reserve-else-is_err-2.ensures.items ∙ ap (λ (k : List (ℕ × Bool)). c.args.events.now.items ++ marked_drops k) sorted)
+    (c.push_dropped.ensures.events ∙ ap (λ (k : List Event). k ++ marked_drops (map entry_mark c.deref.result.now)) c.reserve-else-is_err-2.ensures.items ∙ ap (λ (k : List (ℕ × Bool)). c.args.events.now.items ++ marked_drops k) sorted)
 
 pub returns-clause-reachable : goal.returns-clause-reachable
 returns-clause-reachable g c = λ rank top ranks.

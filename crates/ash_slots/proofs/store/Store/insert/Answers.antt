@@ -2,7 +2,7 @@ use Rattle.std.proofs.Common.{◌≡◌, ◌≤◌, ◌+◌, sym, ap, ◌∙◌,
 use Rattle.std.specs.Option.{option_map}
 use Rattle.slab.specs.Slab.{Updates, slab_len}
 use Rattle.ash_host.specs.Objects.{object_at, with_at}
-use Rattle.ash_slots.specs.Store.{Placed, placed_in}
+use Rattle.ash_slots.specs.Store.{SlotEntry, placed_in}
 use Rattle.ash_slots.proofs.Placing.{slots_of}
 use Rattle.ash_slots.proofs.Moving.{SameBut, stored_regrown, placed_regrown, inserted_stored, inserted_in}
 use Rattle.ash_slots.proofs.store.Store.insert.Goals as goal
@@ -23,8 +23,8 @@ invariant_of-self-then-is_err-3 g c =
 
 pub invariant_of-self-2 : goal.invariant_of-self-2
 invariant_of-self-2 g c =
-    let absent = rw (← c.self.view_is) at c.requires in
-    let none : object_at c.args.number c.self.inside.index.entries ≡ None = sym (slots_of c.args.number c.self.inside.entries c.self.inside.index.entries c.self.invariant.placed) ∙ ap (λ (o : Option (Placed _)). option_map (λ p. p.slot) o) absent in
+    let absent = rw (← c.self.view_is) at c.requires.unused in
+    let none : object_at c.args.number c.self.inside.index.entries ≡ None = sym (slots_of c.args.number c.self.inside.entries c.self.inside.index.entries c.self.invariant.placed) ∙ ap (λ (o : Option (SlotEntry _)). option_map (λ p. p.slot) o) absent in
     let same : c.insert.new.self.entries ≡ with_at c.args.number c.vacant_key-slot.result c.self.inside.index.entries = search rules in
     let at : c.insert_reserved.result ≡ c.vacant_key-slot.result = c.insert_reserved.ensures.key ∙ sym c.vacant_key-slot.ensures.value in
     let u = subst (λ (k : ℕ). Updates c.reserve.new.self c.insert_reserved.new.self k (Some (record { number = c.args.number; waiting = true; item = c.args.item }))) at c.insert_reserved.ensures.updates in
@@ -35,8 +35,8 @@ invariant_of-self-2 g c =
 
 pub returns-clause-objects : goal.returns-clause-objects
 returns-clause-objects g c =
-    let absent = rw (← c.self.view_is) at c.requires in
-    let none : object_at c.args.number c.self.inside.index.entries ≡ None = sym (slots_of c.args.number c.self.inside.entries c.self.inside.index.entries c.self.invariant.placed) ∙ ap (λ (o : Option (Placed _)). option_map (λ p. p.slot) o) absent in
+    let absent = rw (← c.self.view_is) at c.requires.unused in
+    let none : object_at c.args.number c.self.inside.index.entries ≡ None = sym (slots_of c.args.number c.self.inside.entries c.self.inside.index.entries c.self.invariant.placed) ∙ ap (λ (o : Option (SlotEntry _)). option_map (λ p. p.slot) o) absent in
     let same : c.insert.new.self.entries ≡ with_at c.args.number c.vacant_key-slot.result c.self.inside.index.entries = search rules in
     let at : c.insert_reserved.result ≡ c.vacant_key-slot.result = c.insert_reserved.ensures.key ∙ sym c.vacant_key-slot.ensures.value in
     let u = subst (λ (k : ℕ). Updates c.reserve.new.self c.insert_reserved.new.self k (Some (record { number = c.args.number; waiting = true; item = c.args.item }))) at c.insert_reserved.ensures.updates in

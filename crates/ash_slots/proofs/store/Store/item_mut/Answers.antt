@@ -7,8 +7,8 @@ use Rattle.ash_slots.proofs.store.Store.item_mut.Goals as goal
 
 pub unreachable-requires : goal.unreachable-requires
 unreachable-requires g c =
-    let at = rw (← c.self.view_is) at c.requires.1 in
-    not_empty c.args.slot c.self.inside.entries c.self.inside.index.entries c.self.invariant.placed (c.requires.0, at) (sym c.get_mut.ensures.value ∙ ap option_copied_mut c.in_default.is)
+    let at = rw (← c.self.view_is) at c.requires.occupied.1 in
+    not_empty c.args.slot c.self.inside.entries c.self.inside.index.entries c.self.invariant.placed (c.requires.occupied.0, at) (sym c.get_mut.ensures.value ∙ ap option_copied_mut c.in_default.is)
 
 pub invariant_of-self-lent : goal.invariant_of-self-lent
 invariant_of-self-lent g c = λ w.

@@ -4,13 +4,14 @@ use Rattle.std.proofs.lemmas.Map.Keys.{IsStrictlyIncreasing-from_sorted}
 use Rattle.ash_slots.specs.declared.entry.Entry.{Entry}
 use Rattle.ash_slots.specs.Store.{ArePlaced}
 use Rattle.ash_slots.proofs.Placing.{item_in, entry_in, numbers-placed}
-use Rattle.ash_slots.proofs.Moving.{SameBut, removed_in, removed_stored, removed_by_number}
+use Rattle.ash_slots.proofs.Moving.{SameBut, removed_in, removed_stored}
+use Rattle.ash_slots.proofs.Removing.{removed_by_number}
 use Rattle.ash_slots.proofs.store.Store.remove.Goals as goal
 
 pub remove-entry-requires : goal.remove-entry-requires
 remove-entry-requires g c =
-    let at = rw (← c.self.view_is) at c.requires.1 in
-    let e = entry_in c.requires.0 c.args.slot c.self.inside.entries c.self.inside.index.entries c.self.invariant.placed at in
+    let at = rw (← c.self.view_is) at c.requires.occupied.1 in
+    let e = entry_in c.requires.occupied.0 c.args.slot c.self.inside.entries c.self.inside.index.entries c.self.invariant.placed at in
     subst (λ (o : Option (Entry _)). IsSome o) (sym e.1) refl
 
 pub invariant_of-self : goal.invariant_of-self
@@ -21,14 +22,14 @@ invariant_of-self g c =
 
 pub returns-clause-number : goal.returns-clause-number
 returns-clause-number g c =
-    let at = rw (← c.self.view_is) at c.requires.1 in
-    let found = item_in c.requires.0 c.args.slot c.self.inside.entries c.self.inside.index.entries c.remove-entry.result c.self.invariant.placed c.remove-entry.ensures.value at in
+    let at = rw (← c.self.view_is) at c.requires.occupied.1 in
+    let found = item_in c.requires.occupied.0 c.args.slot c.self.inside.entries c.self.inside.index.entries c.remove-entry.result c.self.invariant.placed c.remove-entry.ensures.value at in
     rw (← c.self.view_is, found.1, found.0) refl
 
 pub returns-clause-item : goal.returns-clause-item
 returns-clause-item g c =
-    let at = rw (← c.self.view_is) at c.requires.1 in
-    let found = item_in c.requires.0 c.args.slot c.self.inside.entries c.self.inside.index.entries c.remove-entry.result c.self.invariant.placed c.remove-entry.ensures.value at in
+    let at = rw (← c.self.view_is) at c.requires.occupied.1 in
+    let found = item_in c.requires.occupied.0 c.args.slot c.self.inside.entries c.self.inside.index.entries c.remove-entry.result c.self.invariant.placed c.remove-entry.ensures.value at in
     rw (← c.self.view_is, found.1, found.0) refl
 
 pub returns-clause-objects : goal.returns-clause-objects

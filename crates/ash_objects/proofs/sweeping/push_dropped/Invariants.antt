@@ -1,6 +1,6 @@
 use Rattle.std.proofs.Common.{◌≡◌, ◌≤◌, ◌+◌, ◌++◌, drop, map, vec_len, vec_capacity}
 use Rattle.ash_objects.specs.Collecting.{entry_mark, marked_since, marked_drops}
-use Rattle.ash_objects.proofs.sweeping.report.Given as goal
+use Rattle.ash_objects.proofs.sweeping.push_dropped.Given as goal
 
 abbrev pub invariant-loop-entry : goal.invariant-loop-entry
 invariant-loop-entry g l = record {

@@ -3,12 +3,12 @@ use Rattle.std.specs.Option.{option_copied_mut}
 use Rattle.ash_slots.specs.Store.{with_waiting}
 use Rattle.ash_slots.proofs.Placing.{not_empty, are_stored}
 use Rattle.ash_slots.proofs.Writing.{listed_stored, writes_value, written_in}
-use Rattle.ash_slots.proofs.store.Store.await_sweep.Goals as goal
+use Rattle.ash_slots.proofs.store.Store.queue_for_sweep.Goals as goal
 
 pub unreachable-requires : goal.unreachable-requires
 unreachable-requires g c =
-    let at = rw (← c.self.view_is) at c.requires.1 in
-    not_empty c.args.slot c.self.inside.entries c.self.inside.index.entries c.self.invariant.placed (c.requires.0, at) (sym c.get_mut.ensures.value ∙ ap option_copied_mut c.in_default.is)
+    let at = rw (← c.self.view_is) at c.requires.occupied.1 in
+    not_empty c.args.slot c.self.inside.entries c.self.inside.index.entries c.self.invariant.placed (c.requires.occupied.0, at) (sym c.get_mut.ensures.value ∙ ap option_copied_mut c.in_default.is)
 
 pub invariant_of-self : goal.invariant_of-self
 invariant_of-self g c =

@@ -1,5 +1,5 @@
 use Rattle.ash_slots.proofs.Steps.{more_at}
-use Rattle.ash_slots.proofs.counting.count_more.Goals as goal
+use Rattle.ash_slots.proofs.counting.increment_count.Goals as goal
 
 pub returns-clause-counted : goal.returns-clause-counted
 returns-clause-counted g c = λ number is_in.

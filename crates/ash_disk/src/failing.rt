@@ -1,31 +1,32 @@
 //! A disk that fails from a chosen call on, so that a test can meet a failure at each call in turn.
-ghost use Rattle.std.specs.Prelude.{◌≡◌, ◌+◌, ◌-◌, ◌≤◌, ◌↔◌, length, IsTrue, IsErr, IfOk, OnOk};
+ghost use Rattle.std.specs.Prelude.{◌≡◌, ◌+◌, ◌-◌, ◌≤◌, ◌↔◌};
+ghost use Rattle.std.specs.Prelude.{length, IsTrue, IsErr, IfOk, OnOk};
 ghost use Rattle.ash_disk.specs.Failures.{CountsFailure};
-ghost use Rattle.ash_disk.specs.Image.{bytes_at, after_write, Torn, TornFrom, Only};
-ghost use Rattle.ash_disk.specs.Moments.{During};
+ghost use Rattle.ash_disk.specs.Image.{bytes_at, after_write, Torn, TornFrom, LeavesOnly};
+ghost use Rattle.ash_disk.specs.Moments.{HoldsDuring};
 
-use crate::failure::counted;
+use crate::failure::count_failure;
 use crate::{DeviceFailed, Disk};
 
 /// Passes a number of calls on to a disk, and then fails each without passing it on. It is as honest as that disk.
 #[derive(Drop)]
-pub struct FuseDisk<D: Disk> {
+pub struct FailingDisk<D: Disk> {
     disk: D,
     calls_left: u64,
     /// The calls that were not passed on.
     stopped: u64,
 }
 
-impl<D: Disk> FuseDisk<D> {
-    ghost use Rattle.ash_disk.specs.Fuse.{inner, calls_left, fuse_failures};
+impl<D: Disk> FailingDisk<D> {
+    ghost use Rattle.ash_disk.specs.Failing.{inner, calls_left, all_failures};
 
     /// A disk that passes the first `k` calls on to `disk`.
-    pub fn new(disk: D, k: u64) -> FuseDisk<D>
+    pub fn new(disk: D, k: u64) -> FailingDisk<D>
         ensures around { inner result ≡ disk }
         ensures calls { calls_left result ≡ k }
-        ensures failures { fuse_failures D.failures result ≡ D.failures disk }
+        ensures failures { all_failures D.failures result ≡ D.failures disk }
     {
-        FuseDisk {
+        FailingDisk {
             disk,
             calls_left: k,
             stopped: 0,
@@ -34,27 +35,27 @@ impl<D: Disk> FuseDisk<D> {
 
     /// The disk that calls were passed on to.
     pub fn into_inner(self) -> D
-        ensures { result ≡ inner self }
+        ensures disk { result ≡ inner self }
     {
         self.disk
     }
 }
 
 // Takes one call from those that are left.
-fn burn(calls_left: &mut u64, stopped: &mut u64) -> Result<(), DeviceFailed>
-    ensures blown { IsErr result ↔ (calls_left.old ≡ 0) }
+fn count_call(calls_left: &mut u64, stopped: &mut u64) -> Result<(), DeviceFailed>
+    ensures none_left { IsErr result ↔ (calls_left.old ≡ 0) }
     ensures one_less { calls_left.new ≡ calls_left.old - 1 }
     ensures cause { CountsFailure result stopped.old stopped.new }
 {
     if *calls_left == 0 {
-        return counted(Err(DeviceFailed), stopped);
+        return count_failure(Err(DeviceFailed), stopped);
     }
     *calls_left -= 1;
     Ok(())
 }
 
-impl<D: Disk> Disk for FuseDisk<D> {
-    ghost use Rattle.ash_disk.specs.Fuse.{inner, fuse_failures, Burns};
+impl<D: Disk> Disk for FailingDisk<D> {
+    ghost use Rattle.ash_disk.specs.Failing.{inner, all_failures, CountsCall};
 
     ghost honest = { λ f. D.honest f.disk };
 
@@ -64,7 +65,7 @@ impl<D: Disk> Disk for FuseDisk<D> {
 
     ghost leaves = { λ f. D.leaves f.disk };
 
-    ghost failures = { λ f. fuse_failures D.failures f };
+    ghost failures = { λ f. all_failures D.failures f };
 
     ghost seen_may_stay = { λ f. D.seen_may_stay f.disk };
 
@@ -74,15 +75,15 @@ impl<D: Disk> Disk for FuseDisk<D> {
         ensures unchanged { IsTrue (D.honest (inner self.old))
             → D.seen (inner self.new) ≡ D.seen (inner self.old) }
         ensures moments { IsTrue (D.honest (inner self.old))
-            → During (D.clock (inner self.old)) (D.clock (inner self.new))
+            → HoldsDuring (D.clock (inner self.old)) (D.clock (inner self.new))
             (D.leaves (inner self.old)) (D.leaves (inner self.new))
             (D.leaves (inner self.old) (D.clock (inner self.old))) }
         ensures honesty { D.honest (inner self.new) ≡ D.honest (inner self.old) }
         ensures cause { CountsFailure result
-            (fuse_failures D.failures self.old) (fuse_failures D.failures self.new) }
-        ensures fuse { Burns D.failures result self.old self.new }
+            (all_failures D.failures self.old) (all_failures D.failures self.new) }
+        ensures calls { CountsCall D.failures result self.old self.new }
     {
-        burn(&mut self.calls_left, &mut self.stopped)?;
+        count_call(&mut self.calls_left, &mut self.stopped)?;
         self.disk.len()
     }
 
@@ -93,15 +94,15 @@ impl<D: Disk> Disk for FuseDisk<D> {
         ensures unchanged { IsTrue (D.honest (inner self.old))
             → D.seen (inner self.new) ≡ D.seen (inner self.old) }
         ensures moments { IsTrue (D.honest (inner self.old))
-            → During (D.clock (inner self.old)) (D.clock (inner self.new))
+            → HoldsDuring (D.clock (inner self.old)) (D.clock (inner self.new))
             (D.leaves (inner self.old)) (D.leaves (inner self.new))
             (D.leaves (inner self.old) (D.clock (inner self.old))) }
         ensures honesty { D.honest (inner self.new) ≡ D.honest (inner self.old) }
         ensures cause { CountsFailure result
-            (fuse_failures D.failures self.old) (fuse_failures D.failures self.new) }
-        ensures fuse { Burns D.failures result self.old self.new }
+            (all_failures D.failures self.old) (all_failures D.failures self.new) }
+        ensures calls { CountsCall D.failures result self.old self.new }
     {
-        burn(&mut self.calls_left, &mut self.stopped)?;
+        count_call(&mut self.calls_left, &mut self.stopped)?;
         self.disk.read(at, into)
     }
 
@@ -112,35 +113,35 @@ impl<D: Disk> Disk for FuseDisk<D> {
         ensures in_part { IsTrue (D.honest (inner self.old)) → at ≤ length (D.seen (inner self.old))
             → Torn at (length bytes.now) (D.seen (inner self.old)) (D.seen (inner self.new)) }
         ensures moments { IsTrue (D.honest (inner self.old)) → at ≤ length (D.seen (inner self.old))
-            → During (D.clock (inner self.old)) (D.clock (inner self.new))
+            → HoldsDuring (D.clock (inner self.old)) (D.clock (inner self.new))
             (D.leaves (inner self.old)) (D.leaves (inner self.new))
             (TornFrom at (length bytes.now)
             (D.leaves (inner self.old) (D.clock (inner self.old)))) }
         ensures honesty { D.honest (inner self.new) ≡ D.honest (inner self.old) }
         ensures cause { CountsFailure result
-            (fuse_failures D.failures self.old) (fuse_failures D.failures self.new) }
-        ensures fuse { Burns D.failures result self.old self.new }
+            (all_failures D.failures self.old) (all_failures D.failures self.new) }
+        ensures calls { CountsCall D.failures result self.old self.new }
     {
-        burn(&mut self.calls_left, &mut self.stopped)?;
+        count_call(&mut self.calls_left, &mut self.stopped)?;
         self.disk.write_at(at, bytes)
     }
 
     fn sync(&mut self) -> Result<(), DeviceFailed>
         ensures durable { OnOk result (IsTrue (D.honest (inner self.old))
-            → Only (D.seen (inner self.new))
+            → LeavesOnly (D.seen (inner self.new))
             (D.leaves (inner self.new) (D.clock (inner self.new)))) }
         ensures unchanged { IsTrue (D.honest (inner self.old))
             → D.seen (inner self.new) ≡ D.seen (inner self.old) }
         ensures moments { IsTrue (D.honest (inner self.old))
-            → During (D.clock (inner self.old)) (D.clock (inner self.new))
+            → HoldsDuring (D.clock (inner self.old)) (D.clock (inner self.new))
             (D.leaves (inner self.old)) (D.leaves (inner self.new))
             (D.leaves (inner self.old) (D.clock (inner self.old))) }
         ensures honesty { D.honest (inner self.new) ≡ D.honest (inner self.old) }
         ensures cause { CountsFailure result
-            (fuse_failures D.failures self.old) (fuse_failures D.failures self.new) }
-        ensures fuse { Burns D.failures result self.old self.new }
+            (all_failures D.failures self.old) (all_failures D.failures self.new) }
+        ensures calls { CountsCall D.failures result self.old self.new }
     {
-        burn(&mut self.calls_left, &mut self.stopped)?;
+        count_call(&mut self.calls_left, &mut self.stopped)?;
         self.disk.sync()
     }
 }

@@ -1,7 +1,7 @@
 use Rattle.std.proofs.Common.{vec_len}
 use Rattle.ash_objects.specs.Listing.{AreListed}
 use Rattle.ash_objects.proofs.Putting.{PutState}
-use Rattle.ash_objects.proofs.restoring.put_objects.Given as goal
+use Rattle.ash_objects.proofs.restoring.insert_objects.Given as goal
 
 abbrev pub invariant-loop-object : goal.invariant-loop-object
 invariant-loop-object g l = record {

@@ -3,8 +3,8 @@ use Rattle.ash_slots.specs.declared.entry.Entry.{Entry}
 use Rattle.ash_objects.specs.Collecting.{entry_mark, marked_since, marked_drops}
 use Rattle.ash_objects.proofs.Referring.{rest_got, rest_over}
 use Rattle.ash_objects.proofs.Marks.{since_more, since_same, drops_more, drops_same, nothing_more}
-use Rattle.ash_objects.proofs.sweeping.report.Goals as goal
-use Rattle.ash_objects.proofs.sweeping.report.Goals.{then-entry-settled, else-entry-settled, then-is_host, else-is_host}
+use Rattle.ash_objects.proofs.sweeping.push_dropped.Goals as goal
+use Rattle.ash_objects.proofs.sweeping.push_dropped.Goals.{then-entry-settled, else-entry-settled, then-is_host, else-is_host}
 
 pub loop-entry-preserved : goal.loop-entry-preserved
 loop-entry-preserved g c =
@@ -21,8 +21,8 @@ loop-entry-preserved g c =
           ];
       events =
           elim c.if-is_host.branch [
-            | then-is_host w ↦ rw (w.events-is, w.push_reserved-then-is_host.ensures.items) (drops_more c.loop-entry.events.items e rest (sym c.is_host.ensures ∙ w.if-is_host.true) ∙ ap (λ (l : List (Entry _)). c.loop-entry.events.items ++ marked_drops (map entry_mark l)) (sym next) ∙ c.loop-entry.invariant.events)
-            | else-is_host w ↦ rw w.events-is (drops_same c.loop-entry.events.items e rest (sym c.is_host.ensures ∙ w.if-is_host.false) ∙ ap (λ (l : List (Entry _)). c.loop-entry.events.items ++ marked_drops (map entry_mark l)) (sym next) ∙ c.loop-entry.invariant.events)
+            | then-is_host w ↦ rw (w.events-is, w.push_reserved-then-is_host.ensures.items) (drops_more c.loop-entry.events.items e rest (sym c.is_host.ensures.boxed ∙ w.if-is_host.true) ∙ ap (λ (l : List (Entry _)). c.loop-entry.events.items ++ marked_drops (map entry_mark l)) (sym next) ∙ c.loop-entry.invariant.events)
+            | else-is_host w ↦ rw w.events-is (drops_same c.loop-entry.events.items e rest (sym c.is_host.ensures.boxed ∙ w.if-is_host.false) ∙ ap (λ (l : List (Entry _)). c.loop-entry.events.items ++ marked_drops (map entry_mark l)) (sym next) ∙ c.loop-entry.invariant.events)
           ];
       numbers_fit =
           elim c.if-entry-settled.branch [
