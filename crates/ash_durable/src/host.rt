@@ -70,7 +70,7 @@ impl<D: Disk> Host<D> {
     /// written where one of the last two is returned. A crash on the way leaves no file open, or the store of a host
     /// that has answered nothing, where each file had one byte at the most before, or 0 for its first.
     pub fn create(alloc: Global, a: D, b: D, registry: Registry) -> Result<Host<D>, OpenRefused<D>>
-        ensures { Creates D.Disk (registered registry) a b result }
+        ensures created { Creates D.Disk (registered registry) a b result }
     {
         let state = PlainState::new(alloc, registry);
         match make(alloc, &state, a, b) {
@@ -93,7 +93,7 @@ impl<D: Disk> Host<D> {
     /// of another text; `Damaged` where the registry doesn't admit a source or a value. `NoMemory` where there is none
     /// to read into. But for `DeviceFailed` in the last step, both disks read as before.
     pub fn open(alloc: Global, a: D, b: D, registry: Registry) -> Result<Host<D>, OpenRefused<D>>
-        ensures { Opens D.Disk (registered registry) a b result }
+        ensures opened { Opens D.Disk (registered registry) a b result }
     {
         match find(alloc, registry, a, b) {
             Ok(found) => Ok(Host {
@@ -277,7 +277,7 @@ impl<D: Disk> Host<D> {
     ///
     /// Refusals, the first that holds: `Reopen`, `NoModule`, `NoGlobal`.
     pub fn global(&self, module_name: &str, name: &str) -> Result<Word, Refusal>
-        ensures { (budget : ℕ) → Handles D.Disk budget (LookUp module_name.now name.now) self.now
+        ensures handled { (budget : ℕ) → Handles D.Disk budget (LookUp module_name.now name.now) self.now
             (word_of result) self.now }
     {
         match self.stopped {

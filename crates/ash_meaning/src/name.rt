@@ -44,7 +44,7 @@ fn all_name_parts(bytes: &[u8]) -> bool
 
 /// A module's name is a name of at most 64 bytes.
 pub fn is_module_name(name: &[u8]) -> bool
-    ensures { result ≡ is_module_name name.now }
+    ensures exact { result ≡ is_module_name name.now }
 {
     is_name(name) && name.len() <= MAX_NAME_BYTES
 }

@@ -45,7 +45,7 @@ impl Model for PlainState {
 impl PlainState {
     /// A state with no module, before any request, with what is registered.
     pub fn new(alloc: Global, registry: Registry) -> Self
-        ensures { result ≡ empty (registered registry) }
+        ensures before_any_request { result ≡ empty (registered registry) }
     {
         PlainState {
             alloc,
@@ -64,7 +64,7 @@ impl PlainState {
         seq: u64,
         stored: Vec<StoredModule>,
     ) -> Result<Option<PlainState>, AllocError>
-        ensures { IfOk result (λ found. IsRestored
+        ensures exact { IfOk result (λ found. IsRestored
             (stored_state (registered registry) stored.items seq) found) }
     {
         if stored.len() > MAX_MODULES || !are_ascending(&stored) {
@@ -83,14 +83,14 @@ impl PlainState {
 
     /// What is registered.
     pub fn registry(&self) -> &Registry
-        ensures { registered result.now ≡ self.now.registered }
+        ensures same { registered result.now ≡ self.now.registered }
     {
         &self.registry
     }
 
     /// What is registered, taken out of the state.
     pub fn into_registry(self) -> Registry
-        ensures { registered result ≡ self.registered }
+        ensures same { registered result ≡ self.registered }
     {
         self.registry
     }
@@ -105,7 +105,7 @@ impl PlainState {
 
     /// How many requests have been answered.
     pub fn seq(&self) -> u64
-        ensures { result ≡ self.now.seq }
+        ensures number { result ≡ self.now.seq }
     {
         self.seq
     }
@@ -114,7 +114,8 @@ impl PlainState {
     /// with, in this order, `SequenceSpent`, `BadName`, `ModuleTaken`, `TooManyModules` and what the source is refused
     /// for.
     pub fn load(&mut self, name: &str, source: &[u8], budget: u64) -> Result<Answer, Refusal>
-        ensures { Steps budget (Load name.now source.now) self.old (answer_of result) self.new }
+        ensures stepped { Steps budget (Load name.now source.now) self.old (answer_of result)
+            self.new }
     {
         if self.seq == u64::MAX {
             return Err(Refusal::SequenceSpent);
@@ -152,7 +153,7 @@ impl PlainState {
         arguments: &[Argument],
         budget: u64,
     ) -> Result<Answer, Refusal>
-        ensures { Steps budget (Call module_name.now function.now arguments.now) self.old
+        ensures stepped { Steps budget (Call module_name.now function.now arguments.now) self.old
             (answer_of result) self.new }
     {
         if self.seq == u64::MAX {
@@ -172,7 +173,7 @@ impl PlainState {
     /// Removes a module, with its globals. Refused with, in this order, `SequenceSpent` and `NoModule`. It takes no
     /// memory.
     pub fn discard(&mut self, name: &str) -> Result<Answer, Refusal>
-        ensures { (budget : ℕ) → step budget (Discard name.now) self.old
+        ensures stepped { (budget : ℕ) → step budget (Discard name.now) self.old
             ≡ (answer_of result, self.new) }
     {
         if self.seq == u64::MAX {
@@ -191,7 +192,7 @@ impl PlainState {
 
     /// What a global of a module holds. Refused with, in this order, `NoModule` and `NoGlobal`.
     pub fn global(&self, module_name: &str, name: &str) -> Result<Word, Refusal>
-        ensures { (budget : ℕ) → step budget (Read module_name.now name.now) self.now
+        ensures stepped { (budget : ℕ) → step budget (Read module_name.now name.now) self.now
             ≡ (word_of result, self.now) }
     {
         match modules::place_of(&self.modules, module_name) {

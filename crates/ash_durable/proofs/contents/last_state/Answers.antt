@@ -20,7 +20,7 @@ loop-record-preserved c =
     let shaped = subst (λ (l : List Record). AllByRecursion (IsBodyWith (text_of before.registered)) (bodies_of l))
     left c.loop-record.invariant.shaped in
     let on : LeadsOn before.registered r.body.items r.gate (Ok next) = (
-      c.in_ok-state.ensures.0 ∙ c.into_registry.ensures,
+      c.in_ok-state.ensures.0 ∙ c.into_registry.ensures.same,
       subst (λ (body : List ℕ). IsBody body (snapshot_of next)) c.deref.ensures.value c.in_ok-state.ensures.1,
       c.in_ok-state.ensures.2,
     ) in

@@ -17,7 +17,7 @@ returns-clause-leads c =
     let parts = c.deref.result.now in
     let same : loaded_modules_in parts ≡ c.args.state.now.modules = ap loaded_modules_in c.deref.ensures.value
     ∙ c.in_ok-parts.ensures.parts in
-    let text = c.text-registered.ensures.lines ∙ ap text_of c.registry.ensures in
+    let text = c.text-registered.ensures.lines ∙ ap text_of c.registry.ensures.same in
     leads_written (λ body. body.items) c.write_body.result (snapshot_in c.text-registered.result.now parts c.seq.result)
     c.args.state.now (snapshot_same c.text-registered.result.now parts c.seq.result c.args.state.now text same
-    c.seq.ensures) c.in_ok-parts.ensures.admitted c.write_body.ensures.written c.write_body.ensures.fits
+    c.seq.ensures.number) c.in_ok-parts.ensures.admitted c.write_body.ensures.written c.write_body.ensures.fits

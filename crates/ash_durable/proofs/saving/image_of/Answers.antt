@@ -17,8 +17,8 @@ returns-clause-depicts c =
     let parts = c.deref.result.now in
     let same : loaded_modules_in parts ≡ c.args.state.now.modules = ap loaded_modules_in c.deref.ensures.value
     ∙ c.in_ok-parts.ensures.parts in
-    let text = c.text-registered.ensures.lines ∙ ap text_of c.registry.ensures in
+    let text = c.text-registered.ensures.lines ∙ ap text_of c.registry.ensures.same in
     image_written (λ image. image.items) c.write_image.result
     (snapshot_in c.text-registered.result.now parts c.seq.result) c.args.state.now
-    (snapshot_same c.text-registered.result.now parts c.seq.result c.args.state.now text same c.seq.ensures)
+    (snapshot_same c.text-registered.result.now parts c.seq.result c.args.state.now text same c.seq.ensures.number)
     c.in_ok-parts.ensures.admitted c.write_image.ensures.written c.write_image.ensures.fits

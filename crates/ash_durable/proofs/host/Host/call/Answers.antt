@@ -21,7 +21,7 @@ returns-in-Ok-call-clause-handled g c =
     served g.D.Disk c.args.budget (Call c.args.module_name.now c.args.function.now c.args.arguments.now)
     c.self.inside.stopped c.self.inside.state c.call.new.self c.self.inside.journal c.args.self.now
     c.make_room.new.self c.seq-seq.result c.in-Ok-call.answer c.commit.result c.commit.new.self tt c.in-Ok.ensures
-    c.self.view_is c.in-Ok-call.ensures c.seq-seq.ensures c.commit.ensures
+    c.self.view_is c.in-Ok-call.ensures.stepped c.seq-seq.ensures.number c.commit.ensures
 
 pub returns-in-Ok-call-clause-refused : goal.returns-in-Ok-call-clause-refused
 returns-in-Ok-call-clause-refused g c =
@@ -32,7 +32,7 @@ pub returns-in-Err-call-clause-handled : goal.returns-in-Err-call-clause-handled
 returns-in-Err-call-clause-handled g c =
     served_refused g.D.Disk c.args.budget (Call c.args.module_name.now c.args.function.now c.args.arguments.now)
     c.self.inside.stopped c.self.inside.state c.call.new.self c.self.inside.journal c.args.self.now
-    c.make_room.new.self c.in-Err-call.refusal tt c.in-Ok.ensures c.self.view_is c.in-Err-call.ensures
+    c.make_room.new.self c.in-Err-call.refusal tt c.in-Ok.ensures c.self.view_is c.in-Err-call.ensures.stepped
 
 pub returns-in-Err-call-clause-refused : goal.returns-in-Err-call-clause-refused
 returns-in-Err-call-clause-refused g c =

@@ -9,7 +9,7 @@ pub returns-in-Ok : goal.returns-in-Ok
 returns-in-Ok g c =
     let device = g.D.Disk in
     let state = c.new-state.result in
-    let is = c.new-state.ensures in
+    let is = c.new-state.ensures.before_any_request in
     created device (registered c.args.registry) c.args.a c.args.b
     (record { registered = state.registered; state = Some state; seq = state.seq; journal = c.in-Ok.journal })
     (record {

@@ -22,7 +22,7 @@ returns-in-Ok-discard-clause-handled g c =
     λ budget. served g.D.Disk budget (Discard c.args.name.now)
     c.self.inside.stopped c.self.inside.state c.discard.new.self c.self.inside.journal c.args.self.now
     c.make_room.new.self c.seq-seq.result c.in-Ok-discard.answer c.commit.result c.commit.new.self tt
-    c.in-Ok.ensures c.self.view_is (inl (c.in-Ok-discard.ensures budget)) c.seq-seq.ensures c.commit.ensures
+    c.in-Ok.ensures c.self.view_is (inl (c.in-Ok-discard.ensures.stepped budget)) c.seq-seq.ensures.number c.commit.ensures
 
 pub returns-in-Ok-discard-clause-refused : goal.returns-in-Ok-discard-clause-refused
 returns-in-Ok-discard-clause-refused g c =
@@ -34,7 +34,7 @@ returns-in-Err-discard-clause-handled g c =
     λ budget. served_refused g.D.Disk budget (Discard c.args.name.now)
     c.self.inside.stopped c.self.inside.state c.discard.new.self c.self.inside.journal c.args.self.now
     c.make_room.new.self c.in-Err-discard.refusal tt c.in-Ok.ensures c.self.view_is
-    (inl (c.in-Err-discard.ensures budget))
+    (inl (c.in-Err-discard.ensures.stepped budget))
 
 pub returns-in-Err-discard-clause-refused : goal.returns-in-Err-discard-clause-refused
 returns-in-Err-discard-clause-refused g c =

@@ -10,4 +10,4 @@ returns-in-None g c =
     λ budget. subst (λ (host : Hosted g.row.D.Denot). Handles device budget
     (LookUp c.args.module_name.now c.args.name.now) host (word_of c.global.result) host) c.self.view_is
     (handles_look_up device budget c.args.module_name.now c.args.name.now c.self.inside.stopped c.self.inside.state
-    c.self.inside.journal c.global.result c.in-None.is (c.global.ensures budget))
+    c.self.inside.journal c.global.result c.in-None.is (c.global.ensures.stepped budget))

@@ -21,7 +21,7 @@ returns-in-Ok-load-clause-handled g c =
     served g.D.Disk c.args.budget (Load c.args.name.now c.args.source.now)
     c.self.inside.stopped c.self.inside.state c.load.new.self c.self.inside.journal c.args.self.now
     c.make_room.new.self c.seq-seq.result c.in-Ok-load.answer c.commit.result c.commit.new.self tt c.in-Ok.ensures
-    c.self.view_is c.in-Ok-load.ensures c.seq-seq.ensures c.commit.ensures
+    c.self.view_is c.in-Ok-load.ensures.stepped c.seq-seq.ensures.number c.commit.ensures
 
 pub returns-in-Ok-load-clause-refused : goal.returns-in-Ok-load-clause-refused
 returns-in-Ok-load-clause-refused g c =
@@ -32,7 +32,7 @@ pub returns-in-Err-load-clause-handled : goal.returns-in-Err-load-clause-handled
 returns-in-Err-load-clause-handled g c =
     served_refused g.D.Disk c.args.budget (Load c.args.name.now c.args.source.now)
     c.self.inside.stopped c.self.inside.state c.load.new.self c.self.inside.journal c.args.self.now
-    c.make_room.new.self c.in-Err-load.refusal tt c.in-Ok.ensures c.self.view_is c.in-Err-load.ensures
+    c.make_room.new.self c.in-Err-load.refusal tt c.in-Ok.ensures c.self.view_is c.in-Err-load.ensures.stepped
 
 pub returns-in-Err-load-clause-refused : goal.returns-in-Err-load-clause-refused
 returns-in-Err-load-clause-refused g c =

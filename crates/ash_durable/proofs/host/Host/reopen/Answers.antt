@@ -15,7 +15,7 @@ returns-clause-opens g c =
     (subst (λ (a : g.row.D.Denot). Opens device (registered parts.0) a (second c.args.self) c.open.result)
     c.into_parts-registry.ensures.first
     (subst (λ (b : g.row.D.Denot). Opens device (registered parts.0) parts.1 b c.open.result)
-    c.into_parts-registry.ensures.second c.open.ensures))
+    c.into_parts-registry.ensures.second c.open.ensures.opened))
 
 pub returns-clause-again : goal.returns-clause-again
 returns-clause-again g c =
@@ -27,4 +27,4 @@ returns-clause-again g c =
     (subst (λ (a : g.row.D.Denot). Opens device (registered parts.0) a (second c.args.self) c.open.result)
     c.into_parts-registry.ensures.first
     (subst (λ (b : g.row.D.Denot). Opens device (registered parts.0) parts.1 b c.open.result)
-    c.into_parts-registry.ensures.second c.open.ensures)))
+    c.into_parts-registry.ensures.second c.open.ensures.opened)))

@@ -13,7 +13,7 @@ returns-in-Load-clause-refused c =
     (reply_of c.into.result) c.load.new.self) (sym c.in-Load.is)
     (refuses_unchanged c.args.budget asked c.args.self.now (reply_of c.into.result) c.load.new.self
     (subst (λ (reply : Reply). Steps c.args.budget asked c.args.self.now reply c.load.new.self) (sym c.into.ensures)
-    c.load.ensures))
+    c.load.ensures.stepped))
 
 pub returns-in-Call-clause-refused : goal.returns-in-Call-clause-refused
 returns-in-Call-clause-refused c =
@@ -22,7 +22,7 @@ returns-in-Call-clause-refused c =
     (reply_of c.into-in-Call.result) c.call.new.self) (sym c.in-Call.is)
     (refuses_unchanged c.args.budget asked c.args.self.now (reply_of c.into-in-Call.result) c.call.new.self
     (subst (λ (reply : Reply). Steps c.args.budget asked c.args.self.now reply c.call.new.self)
-    (sym c.into-in-Call.ensures) c.call.ensures))
+    (sym c.into-in-Call.ensures) c.call.ensures.stepped))
 
 pub returns-in-Discard-clause-refused : goal.returns-in-Discard-clause-refused
 returns-in-Discard-clause-refused c =
@@ -30,7 +30,7 @@ returns-in-Discard-clause-refused c =
     (reply_of c.into-in-Discard.result) c.discard.new.self) (sym c.in-Discard.is)
     (refuses_unchanged c.args.budget (Discard c.in-Discard.name.now) c.args.self.now (reply_of c.into-in-Discard.result)
     c.discard.new.self
-    (inl (c.discard.ensures c.args.budget ∙ ap (λ (reply : Reply). (reply, c.discard.new.self))
+    (inl (c.discard.ensures.stepped c.args.budget ∙ ap (λ (reply : Reply). (reply, c.discard.new.self))
     (sym c.into-in-Discard.ensures))))
 
 pub returns-in-Ok-clause-refused : goal.returns-in-Ok-clause-refused

@@ -18,7 +18,7 @@ returns-then-is_some c =
     let inside = c.self.inside in
     let open_ = unspent (registered inside.registry) inside.modules.items inside.seq c.if-self.false in
     let named : is_module_name c.args.name.now ≡ true = ap is_module_name (sym c.as_bytes.ensures.value)
-    ∙ sym c.is_module_name.ensures ∙ c.if-not-is_module_name.false in
+    ∙ sym c.is_module_name.ensures.exact ∙ c.if-not-is_module_name.false in
     let found : c.place_of.result ≡ place_in c.args.name.now inside.modules.items = c.place_of.ensures
     ∙ ap (place_in c.args.name.now) c.deref.ensures.value in
     let taken : is_some (place_in c.args.name.now inside.modules.items) ≡ true = ap is_some (sym found)
@@ -33,7 +33,7 @@ returns-then-len-ge-MAX_MODULES c =
     let inside = c.self.inside in
     let open_ = unspent (registered inside.registry) inside.modules.items inside.seq c.if-self.false in
     let named : is_module_name c.args.name.now ≡ true = ap is_module_name (sym c.as_bytes.ensures.value)
-    ∙ sym c.is_module_name.ensures ∙ c.if-not-is_module_name.false in
+    ∙ sym c.is_module_name.ensures.exact ∙ c.if-not-is_module_name.false in
     let found : c.place_of.result ≡ place_in c.args.name.now inside.modules.items = c.place_of.ensures
     ∙ ap (place_in c.args.name.now) c.deref.ensures.value in
     let none = sym found ∙ none_where c.place_of.result (sym c.is_some.ensures ∙ c.if-is_some.false) in
@@ -50,7 +50,7 @@ returns-in_err-outcome c =
     let inside = c.self.inside in
     let open_ = unspent (registered inside.registry) inside.modules.items inside.seq c.if-self.false in
     let named : is_module_name c.args.name.now ≡ true = ap is_module_name (sym c.as_bytes.ensures.value)
-    ∙ sym c.is_module_name.ensures ∙ c.if-not-is_module_name.false in
+    ∙ sym c.is_module_name.ensures.exact ∙ c.if-not-is_module_name.false in
     let found : c.place_of.result ≡ place_in c.args.name.now inside.modules.items = c.place_of.ensures
     ∙ ap (place_in c.args.name.now) c.deref.ensures.value in
     let none = sym found ∙ none_where c.place_of.result (sym c.is_some.ensures ∙ c.if-is_some.false) in
@@ -74,7 +74,7 @@ returns-in_err-insert_finished c =
     let inside = c.self.inside in
     let open_ = unspent (registered inside.registry) inside.modules.items inside.seq c.if-self.false in
     let named : is_module_name c.args.name.now ≡ true = ap is_module_name (sym c.as_bytes.ensures.value)
-    ∙ sym c.is_module_name.ensures ∙ c.if-not-is_module_name.false in
+    ∙ sym c.is_module_name.ensures.exact ∙ c.if-not-is_module_name.false in
     let found : c.place_of.result ≡ place_in c.args.name.now inside.modules.items = c.place_of.ensures
     ∙ ap (place_in c.args.name.now) c.deref.ensures.value in
     let none = sym found ∙ none_where c.place_of.result (sym c.is_some.ensures ∙ c.if-is_some.false) in
@@ -119,7 +119,7 @@ returns c =
     let inside = c.self.inside in
     let open_ = unspent (registered inside.registry) inside.modules.items inside.seq c.if-self.false in
     let named : is_module_name c.args.name.now ≡ true = ap is_module_name (sym c.as_bytes.ensures.value)
-    ∙ sym c.is_module_name.ensures ∙ c.if-not-is_module_name.false in
+    ∙ sym c.is_module_name.ensures.exact ∙ c.if-not-is_module_name.false in
     let found : c.place_of.result ≡ place_in c.args.name.now inside.modules.items = c.place_of.ensures
     ∙ ap (place_in c.args.name.now) c.deref.ensures.value in
     let none = sym found ∙ none_where c.place_of.result (sym c.is_some.ensures ∙ c.if-is_some.false) in
