@@ -22,16 +22,17 @@ use Rattle.ash_typed.specs.declared.tree.operations.IncrementOp.{IncrementOp}
 use Rattle.std.specs.Option.{option_map_or}
 use Rattle.ash_host.specs.declared.event.Event.TheVariants.{Drew, Called}
 use Rattle.ash_host.specs.declared.event.Target.TheVariants as targets
+use Rattle.ash_host.specs.Limits.{max_objects, max_elements}
 use Rattle.ash_phrases.specs.declared.exception.Exception.TheVariants.{StackOverflow, ObjectLimit, NumbersSpent, PoolEmpty, IndexOutOfBounds, ArrayLimit}
 use Rattle.ash_phrases.specs.Activity.{FreeBox, World, Frame, Activity, in_frame, in_world}
 use Rattle.ash_phrases.specs.Runs.{Raising, OutOfTicks, Progress, Done, Ended, NoStep, Run, give, onward, ◌>>◌, look, change, demand, found}
 use Rattle.ash_phrases.specs.Releases.{hold_all, give_held, release, let_go, end_expression, full, count_locals, declare, leave_blocks}
 use Rattle.ash_phrases.specs.Frames.{max_frames, demand_frame, frame_of, enter, back_in, leave}
-use Rattle.ash_phrases.specs.ObjectSteps.{object_of, with_object, words_at, with_words, put_words, max_objects, max_number, demand_number, with_new, make}
+use Rattle.ash_phrases.specs.ObjectSteps.{object_of, with_object, words_at, with_words, put_words, max_number, demand_number, with_new, make}
 use Rattle.ash_phrases.specs.HostSteps.{with_event, note, next_answer, after_answer, call_host, accept, invoke_host, get_property, set_property, place_of_kind, without_box, box_in, box_of_kind, draw, construct_host, is_of}
 use Rattle.ash_phrases.specs.Operators.{calculated_by, converted_to, counted, given_by, give_or_raise, calculate, operate}
 use Rattle.ash_phrases.specs.Locations.{Location, Local, Global, Part, Property, with_local, with_global, read, overwrite, write}
-use Rattle.ash_phrases.specs.ArraySteps.{max_elements, zero_element, natural_of, count_in, zero_in, resized, index_in, construct_array, zero_at, resize, insert_last, remove_last, length_of, invoke_array}
+use Rattle.ash_phrases.specs.ArraySteps.{zero_element, natural_of, count_in, zero_in, resized, index_in, construct_array, zero_at, resize, insert_last, remove_last, length_of, invoke_array}
 use Rattle.ash_phrases.specs.Classes.{Program}
 use Rattle.ash_phrases.specs.Calls.{cast}
 use Rattle.ash_phrases.specs.Expressions.{store, update, count_at, element_at}

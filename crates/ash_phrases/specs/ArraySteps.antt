@@ -4,6 +4,7 @@ use Rattle.std.specs.Option.{option_map_or}
 use Rattle.ash_host.specs.declared.word.Word.{Word}
 use Rattle.ash_host.specs.declared.word.Word.TheVariants as words
 use Rattle.ash_host.specs.Objects.{Plain, Array, Element, Bools, Ints, Uints, Int64s, Uint64s, Handles, Hosts, object_at}
+use Rattle.ash_host.specs.Limits.{max_elements}
 use Rattle.ash_integers.specs.Integers.{number_of}
 use Rattle.ash_integers.specs.declared.int_type.IntType.TheVariants as ints
 use Rattle.ash_typed.specs.declared.types.VarType.TheVariants as vars
@@ -14,10 +15,6 @@ use Rattle.ash_phrases.specs.Runs.{Run, give, ◌>>=◌, ◌>>◌, look, demand,
 use Rattle.ash_phrases.specs.Releases.{hold_all, give_held}
 use Rattle.ash_phrases.specs.ObjectSteps.{words_at, put_words, demand_number, make}
 use Rattle.ash_phrases.specs.Operators.{zero_of}
-
--- how many elements an array has at most
-abbrev pub max_elements : ℕ
-max_elements = 4096
 
 -- what an element is before anything is written to it
 abbrev pub zero_element : Element (List ℕ) → Word

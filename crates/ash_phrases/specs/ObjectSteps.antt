@@ -4,6 +4,7 @@ use Rattle.std.specs.Option.{option_map_or}
 use Rattle.ash_host.specs.declared.word.Word.{Word}
 use Rattle.ash_host.specs.declared.word.Word.TheVariants as words
 use Rattle.ash_host.specs.Objects.{Plain, Script, Array, Host, Objects, object_at, with_at, fields_of}
+use Rattle.ash_host.specs.Limits.{max_objects}
 use Rattle.ash_phrases.specs.declared.exception.Exception.TheVariants.{NullPointerAccess, ObjectLimit, NumbersSpent}
 use Rattle.ash_phrases.specs.Activity.{World, in_world}
 use Rattle.ash_phrases.specs.Runs.{Run, give, ◌>>=◌, ◌>>◌, look, change, raise, demand}
@@ -39,10 +40,6 @@ abbrev pub put_words : ℕ → List Word → Run (Unit {0})
 put_words number words = change (in_world (with_object number (with_words words)))
 
 -- objects that are made
-
--- how many objects live at most
-abbrev pub max_objects : ℕ
-max_objects = 4096
 
 -- the greatest number of an object
 abbrev pub max_number : ℕ

@@ -7,6 +7,7 @@ use Rattle.std.proofs.lemmas.Option.{same_Some}
 use Rattle.ash_host.specs.declared.word.Word.{Word}
 use Rattle.ash_host.specs.declared.word.Word.TheVariants as words
 use Rattle.ash_host.specs.Objects.{Element, Plain, Script, Array, Host, Objects, object_at, handle, handles, fields_of, Lives}
+use Rattle.ash_host.specs.Limits.{max_elements}
 use Rattle.ash_typed.specs.declared.types.Element as typed_element
 use Rattle.ash_typed.specs.declared.tree.operations.ArrayMethod.{ArrayMethod}
 use Rattle.ash_typed.specs.declared.tree.operations.ArrayMethod.TheVariants as methods
@@ -18,7 +19,7 @@ use Rattle.ash_phrases.specs.Activity.{World, Activity, in_world, in_frame}
 use Rattle.ash_phrases.specs.Runs.{Run, Progress, onward, demand, give, ◌>>◌, ◌>>=◌}
 use Rattle.ash_phrases.specs.Releases.{holding, hold_all}
 use Rattle.ash_phrases.specs.ObjectSteps.{object_of, with_object, words_in, words_at, with_words, put_words}
-use Rattle.ash_phrases.specs.ArraySteps.{max_elements, zero_element, natural_of, zero_in, zero_at, resized, resize, insert_last, remove_last, invoke_array}
+use Rattle.ash_phrases.specs.ArraySteps.{zero_element, natural_of, zero_in, zero_at, resized, resize, insert_last, remove_last, invoke_array}
 use Rattle.ash_phrases.specs.Locations.{read}
 use Rattle.ash_phrases.specs.Classes.{Program}
 use Rattle.ash_wellformed.specs.WellFormed.{Context, IsContext, Shape, shape_of, shape_at, IsArrayOf, IsReference, to_nothing, to_object, uint, IsValue, is_truth, is_integer, AreValues, and_value, AllAre, none_are, and_is, gives_nothing, gives, IsObject, IsWellFormed, IsSafe}

@@ -14,8 +14,9 @@ use Rattle.std.proofs.lemmas.Map.Keys.{sorted_from_strictly_increasing}
 use Rattle.std.proofs.lemmas.List.Sums.{sum_by-cons}
 use Rattle.ash_host.specs.Objects.{Plain, Objects, object_at, numbers, with_at, IsInOrder, Lives}
 use Rattle.ash_host.proofs.Order.{object_at-with_at, in_order-with_at}
+use Rattle.ash_host.specs.Limits.{max_objects}
 use Rattle.ash_phrases.specs.Activity.{World}
-use Rattle.ash_phrases.specs.ObjectSteps.{change_at, with_object, max_objects}
+use Rattle.ash_phrases.specs.ObjectSteps.{change_at, with_object}
 use Rattle.ash_wellformed.specs.WellFormed.{Context, shape_of, shape_at, IsObject, Follows, IsWorld}
 use Rattle.ash_wellformed.proofs.Values.{shape_lives, lives_shape, Stays, object_stays, values_stay, live_on}
 

@@ -12,6 +12,7 @@ use Rattle.ash_host.specs.declared.event.Event.TheVariants.{Drew}
 use Rattle.ash_host.specs.declared.event.Target.TheVariants as targets
 use Rattle.ash_host.specs.Calls.{Start}
 use Rattle.ash_host.specs.Objects.{Plain, Array, Host, Objects}
+use Rattle.ash_host.specs.Limits.{max_objects, max_elements}
 use Rattle.ash_typed.specs.declared.types.Element as typed_element
 use Rattle.ash_typed.specs.declared.types.Element.TheVariants as elements
 use Rattle.ash_integers.specs.declared.int_type.IntType.TheVariants as ints
@@ -23,9 +24,9 @@ use Rattle.ash_phrases.specs.declared.exception.Exception.{Exception}
 use Rattle.ash_phrases.specs.declared.exception.Exception.TheVariants.{ObjectLimit, NumbersSpent, ArrayLimit}
 use Rattle.ash_phrases.specs.Activity.{FreeBox, Activity, in_world}
 use Rattle.ash_phrases.specs.Runs.{Run, Progress, onward, demand, look, change, ◌>>◌}
-use Rattle.ash_phrases.specs.ObjectSteps.{max_objects, max_number, demand_number, with_new, make}
+use Rattle.ash_phrases.specs.ObjectSteps.{max_number, demand_number, with_new, make}
 use Rattle.ash_phrases.specs.HostSteps.{place_of_kind, without_box, box_in, box_of_kind, draw, construct_host}
-use Rattle.ash_phrases.specs.ArraySteps.{max_elements, zero_element, count_in, construct_array}
+use Rattle.ash_phrases.specs.ArraySteps.{zero_element, count_in, construct_array}
 use Rattle.ash_phrases.specs.Classes.{Program, element_of}
 use Rattle.ash_wellformed.specs.WellFormed.{Context, IsContext, Shape, OfElements, OfKind, IsOffered, shape_of, shape_at, IsNamed, to_nothing, to_object, IsValue, is_truth, is_integer, is_handle, IsGiven, gives, IsState, IsObject, is_array, is_host, IsWellFormed, IsSafe}
 use Rattle.ash_wellformed.specs.Laws.{Goes, Leaves, done, ended, no_step, Evaluates}

@@ -6,8 +6,9 @@ use Rattle.std.proofs.lemmas.Option.{same_Some}
 use Rattle.ash_host.specs.Objects.{Plain, object_at}
 use Rattle.ash_host.proofs.Order.{object_at-with_at}
 use Rattle.ash_host.proofs.NumberLaws.{put_next}
+use Rattle.ash_host.specs.Limits.{max_objects}
 use Rattle.ash_phrases.specs.Activity.{World}
-use Rattle.ash_phrases.specs.ObjectSteps.{max_objects, max_number, with_new}
+use Rattle.ash_phrases.specs.ObjectSteps.{max_number, with_new}
 use Rattle.ash_wellformed.specs.WellFormed.{Context, Shape, OfKind, IsOffered, shape_of, shape_at, IsObject, Follows, IsWorld}
 use Rattle.ash_wellformed.proofs.Values.{shape_lives, Stays, object_stays, values_stay, live_on}
 use Rattle.ash_wellformed.proofs.Changes.{length-with_at}

@@ -4,6 +4,7 @@ use Rattle.std.specs.Prelude.{Some, slice_get}
 use Rattle.std.proofs.lemmas.Option.{same_Some}
 use Rattle.ash_host.specs.declared.word.Word.{Word}
 use Rattle.ash_host.specs.Objects.{Element, Handles, Hosts, Plain, Script, Array, Host, Objects, fields_of}
+use Rattle.ash_host.specs.Limits.{max_elements}
 use Rattle.ash_integers.specs.declared.int_type.IntType.TheVariants as ints
 use Rattle.ash_typed.specs.declared.types.Element as typed_element
 use Rattle.ash_typed.specs.declared.types.Element.TheVariants as elements
@@ -12,7 +13,6 @@ use Rattle.ash_typed.specs.TypeOf.{type_of_element}
 use Rattle.ash_typed.specs.Modules.{Interface, Class, Module}
 use Rattle.ash_typed.specs.Signatures.{type_declared}
 use Rattle.ash_phrases.specs.ObjectSteps.{with_words}
-use Rattle.ash_phrases.specs.ArraySteps.{max_elements}
 use Rattle.ash_phrases.specs.Classes.{Program, place_of_class, place_of_interface, element_of}
 use Rattle.ash_wellformed.specs.WellFormed.{Context, IsContext, Shape, OfClass, OfElements, OfKind, shape_of, IsOfClass, Implements, IsNamed, IsKnownFor, IsArrayOf, IsReference, to_nothing, to_object, IsValue, is_truth, is_integer, is_handle, AreValues, AllAre, none_are, and_is, IsObject, is_script, is_array}
 use Rattle.ash_wellformed.proofs.Places.{one_class, class_or_interface, one_interface}

@@ -7,10 +7,10 @@ use Rattle.ash_host.specs.Objects.{Plain, Objects, object_at, handles, fields_of
 use Rattle.ash_host.specs.Reach.{Root, Field, ReachableIn, is_reachable, after_sweep}
 use Rattle.ash_host.proofs.ReachLaws.{is_reachable_says, is_reachable_yes, object_at-after_sweep, sweep_is_exact}
 use Rattle.ash_host.proofs.NumberLaws.{swept_numbered}
+use Rattle.ash_host.specs.Limits.{max_objects}
 use Rattle.ash_typed.specs.SoundExpressions.{Environment}
 use Rattle.ash_phrases.specs.Activity.{World, Frame}
 use Rattle.ash_phrases.specs.Releases.{roots_of_frame, roots, sweep}
-use Rattle.ash_phrases.specs.ObjectSteps.{max_objects}
 use Rattle.ash_wellformed.specs.WellFormed.{Context, Shape, OfKind, shape_of, shape_at, IsObject, Follows, IsWorld, AreFrames}
 use Rattle.ash_wellformed.proofs.Values.{Stays, object_stays, values_stay, live_on, frames_stay}
 

@@ -10,6 +10,7 @@ use Rattle.ash_host.specs.declared.answer.HostAnswer.TheVariants as answers
 use Rattle.ash_host.specs.Limits.{max_state_bytes}
 use Rattle.ash_host.specs.Objects.{Element, Plain, Script, Array, Host, Objects, object_at, Lives, AreNumbered}
 use Rattle.ash_host.specs.Records.{HostRecord}
+use Rattle.ash_host.specs.Limits.{max_objects, max_elements}
 use Rattle.ash_tree.specs.declared.tree.types.Primitive.{Primitive}
 use Rattle.ash_integers.specs.declared.int_type.IntType.{IntType}
 use Rattle.ash_integers.specs.declared.int_type.IntType.TheVariants as ints
@@ -27,8 +28,7 @@ use Rattle.ash_typed.specs.SoundExpressions.{Environment}
 use Rattle.ash_typed.specs.SoundModules.{IsSound}
 use Rattle.ash_phrases.specs.Activity.{FreeBox, World, Frame, Activity}
 use Rattle.ash_phrases.specs.Frames.{max_frames}
-use Rattle.ash_phrases.specs.ObjectSteps.{max_objects, max_number}
-use Rattle.ash_phrases.specs.ArraySteps.{max_elements}
+use Rattle.ash_phrases.specs.ObjectSteps.{max_number}
 use Rattle.ash_phrases.specs.Classes.{Program, place_of_class, element_of}
 
 -- what a run is in

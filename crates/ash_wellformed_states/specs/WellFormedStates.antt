@@ -6,10 +6,11 @@ use Rattle.std.specs.Option.{option_and_then}
 use Rattle.ash_host.specs.Objects.{Objects, handles, Lives, AreNumbered}
 use Rattle.ash_host.specs.Reach.{ReachableIn}
 use Rattle.ash_host.specs.Records.{HostRecord}
+use Rattle.ash_host.specs.Limits.{max_objects}
 use Rattle.ash_typed.specs.Modules.{Module}
 use Rattle.ash_typed.specs.Signatures.{Host, types_of_globals}
 use Rattle.ash_phrases.specs.Activity.{FreeBox}
-use Rattle.ash_phrases.specs.ObjectSteps.{max_objects, max_number}
+use Rattle.ash_phrases.specs.ObjectSteps.{max_number}
 use Rattle.ash_wellformed.specs.WellFormed.{Known, AreValues, AreObjects, AreOffered, IsState, IsAnswer}
 use Rattle.ash_steps.specs.States.{LoadedModule, State, Hosts, Embedding, compare_names, has_name, globals_of}
 use Rattle.ash_steps.specs.Requests.{Request}

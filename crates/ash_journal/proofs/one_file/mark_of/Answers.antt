@@ -3,8 +3,8 @@ use Rattle.ash_journal.proofs.LayoutLaws.{length-mark}
 use Rattle.ash_journal.proofs.ReadLaws.{differ, same_bytes, magic_is, mark_magic, mark_read}
 use Rattle.ash_journal.proofs.one_file.mark_of.Goals as goal
 
-pub returns-then-bytes-lt16 : goal.returns-then-bytes-lt16
-returns-then-bytes-lt16 c g fits is = omega (arith, ap length is, length-mark g)
+pub returns-then-bytes-lt-MARK_SIZE : goal.returns-then-bytes-lt-MARK_SIZE
+returns-then-bytes-lt-MARK_SIZE c g fits is = omega (arith, ap length is, length-mark g)
 
 pub returns-then-ne : goal.returns-then-ne
 returns-then-ne c g fits is =
