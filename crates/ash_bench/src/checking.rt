@@ -1,8 +1,8 @@
 //! How fast scripts are cut into tokens, parsed and checked: `ash_bench check`.
 //!
-//! The scripts have several shapes, each in 16, 32 and 64 KiB: where twice the script takes twice the time, checking takes
-//! linear time. Each has one fault, which stands at its very end, so that all the work is done and nothing kept. Beside
-//! the check stands how long the lexer and the parser take alone.
+//! The scripts have several shapes, each in 16, 32 and 64 KiB: where twice the script takes twice the time, checking
+//! takes linear time. Each has one fault, which is at its very end, so that all the work is done and no tree results.
+//! The time of the lexer and the parser alone is printed too.
 
 ghost use Rattle.std.specs.Prelude.{IfOk};
 ghost use Rattle.ash_tree.specs.Views.{module_of};

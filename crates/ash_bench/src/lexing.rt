@@ -3,7 +3,7 @@
 use crate::rates::Timing;
 use crate::sources::series;
 use anyhow::Result;
-use ash_lex::{MAX_SOURCE, lex};
+use ash_lex::{MAX_SOURCE_BYTES, lex};
 use std::alloc::Global;
 use std::io;
 
@@ -14,7 +14,7 @@ fn count(alloc: Global, text: &str) -> Result<usize> {
 
 /// Cuts a source of 64 KiB.
 pub fn run(rt: &HostRuntime, rounds: Option<u64>) -> Result<()> {
-    let text = series(rt.alloc(), MAX_SOURCE)?;
+    let text = series(rt.alloc(), MAX_SOURCE_BYTES)?;
     let text = text.as_str();
     let tokens = count(rt.alloc(), text)?;
     println!(rt; "{} bytes, {tokens} tokens", text.len())?;

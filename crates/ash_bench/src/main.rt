@@ -1,9 +1,9 @@
 //! How fast the lexer, the parser, the checker, the object table and the journal are.
 //!
 //! `ash_bench lex`, `ash_bench parse` and `ash_bench check` take sources, `ash_bench objects` makes objects, and
-//! `ash_bench journal FOLDER` writes records to files in that folder, which should be empty. Each does its work once and
-//! prints what it has counted. With a number of rounds after these words the work is done so many times more, and its
-//! rates or times are printed too.
+//! `ash_bench journal FOLDER` writes records to files in that folder, which should be empty. Each does its work once
+//! and prints what it has counted. With a number of rounds after these words the work is done so many times more, and
+//! its rates or times are printed too.
 #![tactic(auto)]
 
 mod checking;

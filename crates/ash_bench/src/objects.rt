@@ -130,15 +130,18 @@ fn write_each(objects: &mut Table, slots: &[usize], word: Word)
 #[inline(never)]
 fn hold_at(objects: &mut Table, slot: usize)
     requires { MayBeHeld objects.old slot }
-    ensures { (number : ℕ) → slot_of number objects.old ≡ Some slot → objects.new ≡ with_object number held objects.old }
+    ensures { (number : ℕ) → slot_of number objects.old ≡ Some slot
+        → objects.new ≡ with_object number held objects.old }
 {
     objects.hold_at(slot);
 }
 
 #[inline(never)]
 fn unhold_at(objects: &mut Table, slot: usize)
-    requires { (number : ℕ) × (slot_of number objects.old ≡ Some slot) × (0 < holds_of number objects.old) }
-    ensures { (number : ℕ) → slot_of number objects.old ≡ Some slot → objects.new ≡ with_object number unheld objects.old }
+    requires { (number : ℕ) × (slot_of number objects.old ≡ Some slot)
+        × (0 < holds_of number objects.old) }
+    ensures { (number : ℕ) → slot_of number objects.old ≡ Some slot
+        → objects.new ≡ with_object number unheld objects.old }
 {
     objects.unhold_at(slot);
 }

@@ -1,10 +1,10 @@
 //! Sources of several shapes and lengths: a unit is repeated until the source is full.
 
-use ash_lex::MAX_SOURCE;
+use ash_lex::MAX_SOURCE_BYTES;
 use std::alloc::{AllocError, Global};
 
 /// The lengths that are measured, in bytes.
-pub const LENGTHS: [usize; 3] = [MAX_SOURCE / 4, MAX_SOURCE / 2, MAX_SOURCE];
+pub const LENGTHS: [usize; 3] = [MAX_SOURCE_BYTES / 4, MAX_SOURCE_BYTES / 2, MAX_SOURCE_BYTES];
 
 /// A unit that is cut into tokens and parsed, and not checked: a class, and a function with a loop.
 const SERIES: &str = "\
@@ -111,7 +111,7 @@ int64 v# = ((17 + 3 * v$) << 2 ^ (v$ - 5) % 97 | v$ & 0xff) + (v$ > 3 ? v$ * v$ 
 /// The shapes.
 pub const SHAPES: [Shape; 6] = [SCRIPT, FUNCTIONS, EXPRESSIONS, LOCALS, MEMBERS, VARIABLES];
 
-/// The end of a script: a name that nothing has, so that all is read and nothing kept.
+/// The end of a script: a name that nothing has, so that all is read and no tree results.
 const FAULT: &str = "int end = nothing;\n";
 
 /// How many bytes are left for what follows the units.

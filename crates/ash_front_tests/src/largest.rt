@@ -3,7 +3,7 @@
 use crate::compare::{check_number, check_text, check_true};
 use crate::declarations::{parsed, printed};
 use crate::tokens::push_times;
-use ash_lex::{MAX_SOURCE, Token, lex};
+use ash_lex::{MAX_SOURCE_BYTES, Token, lex};
 use std::alloc::{AllocError, Global};
 use std::process::Abort;
 use std::test::*;
@@ -11,13 +11,13 @@ use std::test::*;
 /// A source of the greatest length: a phrase again and again, and blanks after it.
 fn largest(alloc: Global, prefix: &str, phrase: &str, suffix: &str) -> Result<String, Fail> {
     let mut source = String::from_str(alloc, prefix)?;
-    let free = MAX_SOURCE
+    let free = MAX_SOURCE_BYTES
         .wrapping_sub(prefix.len())
         .wrapping_sub(suffix.len());
     let times = free.checked_div(phrase.len()).unwrap_or(0);
     push_times(&mut source, phrase, times)?;
     source.push_str(suffix)?;
-    let blanks = MAX_SOURCE.saturating_sub(source.len());
+    let blanks = MAX_SOURCE_BYTES.saturating_sub(source.len());
     push_times(&mut source, " ", blanks)?;
     Ok(source)
 }

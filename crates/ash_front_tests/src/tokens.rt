@@ -1,7 +1,7 @@
 //! Tokens of texts, and the first faults of texts that have none. Lines and bytes are counted by hand.
 
 use crate::compare::check_text;
-use ash_lex::{LexFault, MAX_SOURCE, Token, TokenKind, lex};
+use ash_lex::{LexFault, MAX_SOURCE_BYTES, Token, TokenKind, lex};
 use std::alloc::{AllocError, Global};
 use std::fmt::{Display, Write};
 use std::process::Abort;
@@ -187,7 +187,7 @@ fn check_repeated(
 #[test]
 fn longest_source(rt: HostRuntime) -> Result<(), Fail> {
     let rows = &[
-        (" ", MAX_SOURCE, ""),
+        (" ", MAX_SOURCE_BYTES, ""),
         (" ", 65_537, "107 SourceTooLong"),
         ("\"", 65_537, "107 SourceTooLong"),
     ];

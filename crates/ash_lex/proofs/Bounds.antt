@@ -15,7 +15,8 @@ use Rattle.ash_lex.specs.Scan.{begins}
 use Rattle.ash_lex.specs.declared.signs.Sign.{Sign}
 use Rattle.ash_lex.specs.declared.signs.Sign.TheVariants.{Slash}
 use Rattle.ash_lex.specs.declared.pieces.Piece.{Piece}
-use Rattle.ash_lex.specs.declared.pieces.Piece.TheVariants.{Gap, Open, Name, Decimal, Hexadecimal, Sign as SignPiece}
+use Rattle.ash_lex.specs.declared.pieces.Piece.TheVariants.{Gap, UnclosedComment, Name, Decimal}
+use Rattle.ash_lex.specs.declared.pieces.Piece.TheVariants.{Hexadecimal, Sign as SignPiece}
 use Rattle.ash_lex.proofs.SignTable.{first_sign-longest}
 use Rattle.ash_lex.proofs.Prefixes.{both_true, starts-true, starts-append, length-le-prefix_len, comment_end-at}
 use Rattle.ash_lex.proofs.Prefixes.{comment_end-none}
@@ -24,7 +25,7 @@ use Rattle.ash_lex.proofs.Prefixes.{comment_end-none}
 abbrev pub size : List ℕ → Option Piece → ℕ
 size text None = 0
 size text (Some (Gap n)) = n
-size text (Some Open) = length text
+size text (Some UnclosedComment) = length text
 size text (Some (Name n)) = n
 size text (Some (Decimal n)) = n
 size text (Some (Hexadecimal n)) = n

@@ -11,17 +11,18 @@ use Rattle.ash_lex.specs.Pieces.{IsName, IsNumeral}
 use Rattle.ash_lex.specs.Scan.{longest_piece, reserved_word, unsupported_word}
 use Rattle.ash_lex.specs.Tokens.{Meaning, name, number, sign, reserved, unsupported, Lexeme, Means, byte_order_mark}
 use Rattle.ash_lex.specs.Tokens.{Spells, FirstFault}
-use Rattle.ash_lex.specs.Steps.{IsCut, BeginsWith}
+use Rattle.ash_lex.specs.ScannedPieces.{IsCut, BeginsWith}
 use Rattle.ash_lex.specs.declared.words.ReservedWord.{ReservedWord}
 use Rattle.ash_lex.specs.declared.words.UnsupportedWord.{UnsupportedWord}
 use Rattle.ash_lex.specs.declared.pieces.Piece.{Piece}
-use Rattle.ash_lex.specs.declared.pieces.Piece.TheVariants.{Gap, Open, Name, Decimal, Hexadecimal, Sign as SignPiece}
+use Rattle.ash_lex.specs.declared.pieces.Piece.TheVariants.{Gap, UnclosedComment as UnclosedPiece, Name, Decimal}
+use Rattle.ash_lex.specs.declared.pieces.Piece.TheVariants.{Hexadecimal, Sign as SignPiece}
 use Rattle.ash_lex.specs.declared.faults.LexFault.{LexFault}
 use Rattle.ash_lex.specs.declared.faults.LexFault.TheVariants.{BadCharacter, UnclosedComment, NumberTooLarge}
 use Rattle.ash_lex.proofs.WordLookups.{reserved_word-is, unsupported_word-is, reserved_word-none, unsupported_word-none}
 use Rattle.ash_lex.proofs.Prefixes.{starts-true}
 use Rattle.ash_lex.proofs.LongestPiece.{longest_piece_is, none_begins}
-use Rattle.ash_lex.proofs.Reading.{IsReadTo, past_gap, past_token, first_fault, spelled, read_mark, read_nothing}
+use Rattle.ash_lex.proofs.Reading.{IsReadTo, past_gap, past_token, first_fault, has_tokens, read_mark, read_nothing}
 
 abbrev pub HasReading : List ℕ → Type 0
 HasReading text = ((tokens : List Lexeme) × Spells text tokens) ⊎ ((f : LexFault) × FirstFault text f)
@@ -85,7 +86,7 @@ module _ (text : List ℕ) (place line : ℕ) (tokens : List Lexeme) (read : IsR
         (h.0).some,
         past_gap text place line n tokens read h.0 h.1,
       )
-  at_piece Open h =
+  at_piece UnclosedPiece h =
       inl (UnclosedComment place, first_fault text place line tokens (UnclosedComment place) read (refl, h))
   at_piece (Name n) h = let word = word_means (take n (drop place text)) h.1 in at_token n word.0 h.0 word.1
   at_piece (Decimal n) h = at_numeral n (value_in 10 (take n (drop place text))) h.0 h.1
@@ -107,10 +108,10 @@ module _ (text : List ℕ) (place line : ℕ) (tokens : List Lexeme) (read : IsR
 -- from a place on, with enough fuel to come to the end
 reading_from : (fuel : ℕ) (text : List ℕ) (place line : ℕ) (tokens : List Lexeme) → IsReadTo text place line tokens
     → length text ≤ place + fuel → HasReading text
-reading_from zero text place line tokens read h = inl (tokens, spelled text place line tokens read (omega arith))
+reading_from zero text place line tokens read h = inl (tokens, has_tokens text place line tokens read (omega arith))
 reading_from (suc fuel) text place line tokens read h =
     elim (order place (length text)) [
-      | inr done ↦ inl (tokens, spelled text place line tokens read done)
+      | inr done ↦ inl (tokens, has_tokens text place line tokens read done)
       | inl more ↦ elim (onward text place line tokens read more) [
         | inl first ↦ inr first
         | inr on ↦ reading_from fuel text (place + on.0) on.1 on.2 on.4 (omega (arith, on.3))

@@ -12,11 +12,12 @@ use Rattle.ash_lex.specs.Pieces.{IsOpenComment, IsGap, IsName, IsDecimal, IsHexa
 use Rattle.ash_lex.specs.Pieces.{open_comment, name, numeral, sign, IsLongest}
 use Rattle.ash_lex.specs.Scan.{comment_end, block_comment, sign_piece, slash_piece, numeral_piece, longest_piece}
 use Rattle.ash_lex.specs.Scan.{first_sign}
-use Rattle.ash_lex.specs.Steps.{IsCut, BeginsWith}
+use Rattle.ash_lex.specs.ScannedPieces.{IsCut, BeginsWith}
 use Rattle.ash_lex.specs.declared.signs.Sign.{Sign}
 use Rattle.ash_lex.specs.declared.signs.Sign.TheVariants.{NotIs}
 use Rattle.ash_lex.specs.declared.pieces.Piece.{Piece}
-use Rattle.ash_lex.specs.declared.pieces.Piece.TheVariants.{Gap, Open, Name, Decimal, Hexadecimal, Sign as SignPiece}
+use Rattle.ash_lex.specs.declared.pieces.Piece.TheVariants.{Gap, UnclosedComment, Name, Decimal}
+use Rattle.ash_lex.specs.declared.pieces.Piece.TheVariants.{Hexadecimal, Sign as SignPiece}
 use Rattle.ash_lex.proofs.SignTable.{first_sign-begins}
 use Rattle.ash_lex.proofs.Prefixes.{both_true, cond_cases, starts-true, Each-take_while, comment_end-some}
 use Rattle.ash_lex.proofs.Prefixes.{comment_end-none_found}
@@ -25,7 +26,7 @@ use Rattle.ash_lex.proofs.Bounds.{size, bound, letter_is_word}
 -- the text begins with this piece
 abbrev pub Matches : List ℕ → Piece → Type 0
 Matches text (Gap n) = (0 < n) × (n ≤ length text) × IsGap (take n text)
-Matches text Open = IsOpenComment text
+Matches text UnclosedComment = IsOpenComment text
 Matches text (Name n) = (0 < n) × (n ≤ length text) × IsName (take n text)
 Matches text (Decimal n) = (0 < n) × (n ≤ length text) × IsDecimal (take n text) (value_in 10 (take n text))
 Matches text (Hexadecimal n) =
@@ -60,7 +61,7 @@ block_matches rest n h =
       inr (inr (t, take_two 47 42 n rest ∙ ap (λ l. 47 ∷ 42 ∷ l) taken, found.4)),
     )
 
-open_matches : (rest : List ℕ) → comment_end rest ≡ None → Matches (47 ∷ 42 ∷ rest) Open
+open_matches : (rest : List ℕ) → comment_end rest ≡ None → Matches (47 ∷ 42 ∷ rest) UnclosedComment
 open_matches rest h = (rest, refl, comment_end-none_found rest h)
 
 comment_matches : (rest : List ℕ) → Matches (47 ∷ 42 ∷ rest) (block_comment (comment_end rest))
@@ -242,7 +243,7 @@ cut text p n h is some within here =
 pub longest_piece_is : (text : List ℕ) (p : Piece) → longest_piece text ≡ Some p → BeginsWith text p
 longest_piece_is text (Gap n) h =
     let w = found_matches text (Gap n) h in (cut text (Gap n) n h refl w.0 w.1 (gap w.2), w.2)
-longest_piece_is text Open h = found_matches text Open h
+longest_piece_is text UnclosedComment h = found_matches text UnclosedComment h
 longest_piece_is text (Name n) h =
     let w = found_matches text (Name n) h in (cut text (Name n) n h refl w.0 w.1 (name w.2), w.2)
 longest_piece_is text (Decimal n) h =

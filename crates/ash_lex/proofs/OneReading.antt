@@ -197,7 +197,7 @@ no_fault_at_end place (NumberTooLarge at) (at_is, piece, after, n, split, is, lo
 no_fault_at_end place SourceTooLong h = h
 no_fault_at_end place NoMemory h = h
 
--- a text spells at most one list of tokens
+-- a text has at most one list of tokens
 pub tokens_agree : (text : List ℕ) (a b : List Lexeme) → Spells text a → Spells text b → a ≡ b
 tokens_agree text a b h g = (read_once text [] text [] a b h stuck_at_end g stuck_at_end refl).0
 
@@ -210,7 +210,7 @@ faults_agree text f g (before, left, tokens, split, reads, at) (before', left', 
     one_fault_there (length before) left f g at
     (subst (λ l. FaultAt (length before) l g) (sym same.2) (subst (λ b. FaultAt (length b) left' g) (sym same.1) at'))
 
--- a text that spells tokens has no fault
+-- a text that has tokens has no fault
 pub tokens_or_fault : (text : List ℕ) (tokens : List Lexeme) (f : LexFault) → Spells text tokens → FirstFault text f → ⊥
 tokens_or_fault text tokens f h (before, left, tokens', split, reads, at) =
     let same =

@@ -14,9 +14,9 @@ use Rattle.ash_lex.specs.Pieces.{IsGap, IsName, IsNumeral}
 use Rattle.ash_lex.specs.Tokens.{Meaning, name, number, sign, reserved, unsupported, Lexeme, lexeme_of, lexemes}
 use Rattle.ash_lex.specs.Tokens.{meaning_of, Means, byte_order_mark, lexeme_at, Reads, marked, unmarked, gap, token}
 use Rattle.ash_lex.specs.Tokens.{Spells, FaultAt, FirstFault}
-use Rattle.ash_lex.specs.Steps.{IsCut, IsStep, StopsStep, StopsText}
-use Rattle.ash_lex.specs.declared.lexer.Step.{Step}
-use Rattle.ash_lex.specs.declared.lexer.Step.TheVariants.{Gap, Token as TokenStep}
+use Rattle.ash_lex.specs.ScannedPieces.{IsCut, IsScanned, IsPieceFault, IsTextFault}
+use Rattle.ash_lex.specs.declared.lexer.ScannedPiece.{ScannedPiece}
+use Rattle.ash_lex.specs.declared.lexer.ScannedPiece.TheVariants.{Gap, Token as TokenPiece}
 use Rattle.ash_lex.specs.declared.tokens.TokenKind.{TokenKind}
 use Rattle.ash_lex.specs.declared.tokens.Token.{Token}
 use Rattle.ash_lex.specs.declared.signs.Sign.{Sign}
@@ -150,10 +150,10 @@ first_fault text place line tokens f read h = (
   subst (λ p. FaultAt p (drop place text) f) (sym (length-take-le place text read.within)) h,
 )
 
--- a text that is read to its end is spelled
-pub spelled : (text : List ℕ) (place line : ℕ) (tokens : List Lexeme) → IsReadTo text place line tokens
+-- a text that is read to its end has these tokens
+pub has_tokens : (text : List ℕ) (place line : ℕ) (tokens : List Lexeme) → IsReadTo text place line tokens
     → length text ≤ place → Spells text tokens
-spelled text place line tokens read h =
+has_tokens text place line tokens read h =
     subst (λ l. Reads l tokens []) (take_all place text h)
     (subst (λ l. Reads (take place text) tokens l) (drop_all place text h) read.reads)
 
@@ -169,7 +169,7 @@ read_nothing text h = unmarked text (not_false (starts_with nat_eq text byte_ord
 
 -- what stops a step stops the text
 pub stops_text : (text : List ℕ) (place line : ℕ) (tokens : List Lexeme) (f : LexFault)
-    → IsReadTo text place line tokens → StopsStep place (drop place text) f → StopsText text f
+    → IsReadTo text place line tokens → IsPieceFault place (drop place text) f → IsTextFault text f
 stops_text text place line tokens NoMemory read h = tt
 stops_text text place line tokens (BadCharacter at) read h = first_fault text place line tokens (BadCharacter at) read h
 stops_text text place line tokens (UnclosedComment at) read h =
@@ -179,23 +179,23 @@ stops_text text place line tokens (NumberTooLarge at) read h =
 stops_text text place line tokens SourceTooLong read h = absurd h
 
 -- a step past a gap, in the lexer's own terms
-pub gap_keeps : (text left : List ℕ) (place line feeds n : ℕ) (tokens : List Lexeme) (s : Step)
-    → IsReadTo text place line tokens → left ≡ drop place text → IsStep left s → s ≡ Gap n
+pub gap_keeps : (text left : List ℕ) (place line feeds n : ℕ) (tokens : List Lexeme) (s : ScannedPiece)
+    → IsReadTo text place line tokens → left ≡ drop place text → IsScanned left s → s ≡ Gap n
     → feeds ≡ count_by is_line_feed (take n left) → IsReadTo text (place + n) (line + feeds) tokens
 gap_keeps text left place line feeds n tokens s read left_is step is feeds_is =
-    let here : IsStep (drop place text) (Gap n) = subst (λ l. IsStep l (Gap n)) left_is (subst (IsStep left) is step) in
+    let here : IsScanned (drop place text) (Gap n) = subst (λ l. IsScanned l (Gap n)) left_is (subst (IsScanned left) is step) in
     subst (λ f. IsReadTo text (place + n) (line + f) tokens)
     (sym (feeds_is ∙ ap (λ l. count_by is_line_feed (take n l)) left_is))
     (past_gap text place line n tokens read here.0 here.1)
 
 -- a step past a token, which is added to the tokens
-pub token_keeps : (text left : List ℕ) (place line n : ℕ) (kind : TokenKind) (items more : List Token) (s : Step)
-    → IsReadTo text place line (lexemes items) → left ≡ drop place text → IsStep left s → s ≡ TokenStep kind n
+pub token_keeps : (text left : List ℕ) (place line n : ℕ) (kind : TokenKind) (items more : List Token) (s : ScannedPiece)
+    → IsReadTo text place line (lexemes items) → left ≡ drop place text → IsScanned left s → s ≡ TokenPiece kind n
     → more ≡ items ++ record { kind = kind; line = line; from = place; to = place + n } ∷ []
     → IsReadTo text (place + n) line (lexemes more)
 token_keeps text left place line n kind items more s read left_is step is more_is =
-    let here : IsStep (drop place text) (TokenStep kind n) =
-    subst (λ l. IsStep l (TokenStep kind n)) left_is (subst (IsStep left) is step) in
+    let here : IsScanned (drop place text) (TokenPiece kind n) =
+    subst (λ l. IsScanned l (TokenPiece kind n)) left_is (subst (IsScanned left) is step) in
     let added : IsReadTo text (place + n) line (lexemes items ++ record { meaning = meaning_of kind; line = line; from = place; to = place + n } ∷ []) =
     past_token text place line n (lexemes items) read here.0 (meaning_of kind) here.1 in
     let t : Token = record { kind = kind; line = line; from = place; to = place + n } in

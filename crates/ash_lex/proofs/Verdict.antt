@@ -1,15 +1,15 @@
--- What follows for an answer that is what the text spells, or its first fault.
+-- What follows for an answer that is the text's tokens, or its first fault.
 use Rattle.std.proofs.Common.{◌≡◌, ℕ, ◌≤◌, List, [], length, Result, Ok, Err, IfOk, IfErr, MatchResult, IsErrAnd, refl}
 use Rattle.std.proofs.Common.{inl, inr, ◌⊎◌}
-use Rattle.ash_lex.specs.Tokens.{Lexeme, Spells, FirstFault, IsRefusal, Rises}
-use Rattle.ash_lex.specs.Steps.{StopsText}
+use Rattle.ash_lex.specs.Tokens.{Lexeme, Spells, FirstFault, max_source_bytes, IsRefusal, Rises}
+use Rattle.ash_lex.specs.ScannedPieces.{IsTextFault}
 use Rattle.ash_lex.specs.declared.faults.LexFault.{LexFault}
 use Rattle.ash_lex.specs.declared.faults.LexFault.TheVariants.{BadCharacter, UnclosedComment, NumberTooLarge}
 use Rattle.ash_lex.specs.declared.faults.LexFault.TheVariants.{SourceTooLong, NoMemory}
 use Rattle.ash_lex.proofs.OneReading.{tokens_agree, faults_agree, tokens_or_fault, reads_rise}
 
 -- a stop is memory or the first fault
-stop_cases : (text : List ℕ) (f : LexFault) → StopsText text f → (f ≡ NoMemory) ⊎ FirstFault text f
+stop_cases : (text : List ℕ) (f : LexFault) → IsTextFault text f → (f ≡ NoMemory) ⊎ FirstFault text f
 stop_cases text NoMemory h = inl refl
 stop_cases text (BadCharacter at) h = inr h
 stop_cases text (UnclosedComment at) h = inr h
@@ -22,31 +22,31 @@ rising view (Ok x) text h = reads_rise text [] (view x) h
 rising view (Err f) text h = tt
 
 pub only : {X : Type 0} (view : X → List Lexeme) (r : Result X LexFault) (text : List ℕ)
-    → IfOk r (λ x. Spells text (view x)) → IfErr r (λ f. StopsText text f) → (tokens : List Lexeme) → Spells text tokens
+    → IfOk r (λ x. Spells text (view x)) → IfErr r (λ f. IsTextFault text f) → (tokens : List Lexeme) → Spells text tokens
     → MatchResult r (λ x. view x ≡ tokens) (λ f. f ≡ NoMemory)
-only view (Ok x) text h s tokens spelled = tokens_agree text (view x) tokens h spelled
-only view (Err f) text h s tokens spelled =
+only view (Ok x) text h s tokens has_tokens = tokens_agree text (view x) tokens h has_tokens
+only view (Err f) text h s tokens has_tokens =
     elim (stop_cases text f s) [
       | inl memory ↦ memory
       | inr first ↦
-          absurd (tokens_or_fault text tokens f spelled first)
+          absurd (tokens_or_fault text tokens f has_tokens first)
     ]
 
 pub refused : {X : Type 0} (view : X → List Lexeme) (r : Result X LexFault) (text : List ℕ)
-    → IfOk r (λ x. Spells text (view x)) → IfErr r (λ f. StopsText text f) → (f : LexFault) → FirstFault text f
+    → IfOk r (λ x. Spells text (view x)) → IfErr r (λ f. IsTextFault text f) → (f : LexFault) → FirstFault text f
     → IsErrAnd r (λ e. (e ≡ f) ⊎ (e ≡ NoMemory))
 refused view (Ok x) text h s f first = absurd (tokens_or_fault text (view x) f h first)
 refused view (Err e) text h s f first =
     elim (stop_cases text e s) [ inl memory ↦ inr memory | inr own ↦ inl (faults_agree text e f own first) ]
 
-refusal : (text : List ℕ) (f : LexFault) → length text ≤ 65536 → StopsText text f → IsRefusal text f
+refusal : (text : List ℕ) (f : LexFault) → length text ≤ max_source_bytes → IsTextFault text f → IsRefusal text f
 refusal text NoMemory small h = tt
 refusal text (BadCharacter at) small h = (small, h)
 refusal text (UnclosedComment at) small h = (small, h)
 refusal text (NumberTooLarge at) small h = (small, h)
 refusal text SourceTooLong small (before, left, tokens, split, reads, at) = absurd at
 
-pub fault : {X : Type 0} (r : Result X LexFault) (text : List ℕ) → length text ≤ 65536 → IfErr r (λ f. StopsText text f)
+pub fault : {X : Type 0} (r : Result X LexFault) (text : List ℕ) → length text ≤ max_source_bytes → IfErr r (λ f. IsTextFault text f)
     → IfErr r (λ f. IsRefusal text f)
 fault (Ok x) text small h = tt
 fault (Err f) text small h = refusal text f small h

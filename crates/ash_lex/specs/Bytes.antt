@@ -49,6 +49,6 @@ digit_value b =
     else (if nat_le 65 b && nat_le b 70 then b - 55
     else 0))
 
--- `value_in base digits` is the number that the digits spell in the base.
+-- `value_in base digits` is the number that the digits are in the base.
 abbrev pub value_in : ℕ → List ℕ → ℕ
 value_in base digits = fold (λ n digit. n * base + digit_value digit) 0 digits

@@ -4,4 +4,4 @@ pub mod Words
 pub mod Pieces
 pub mod Tokens
 pub mod Scan
-pub mod Steps
+pub mod ScannedPieces

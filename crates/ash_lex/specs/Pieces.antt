@@ -37,11 +37,11 @@ abbrev pub IsName : List ℕ → Type 0
 IsName [] = ⊥
 IsName (b ∷ bs) = IsTrue (is_letter b) × Each is_word bs
 
--- The piece is digits, which spell n.
+-- The piece is the digits of n.
 abbrev pub IsDecimal : List ℕ → ℕ → Type 0
 IsDecimal piece n = (0 < length piece) × Each is_digit piece × (n ≡ value_in 10 piece)
 
--- The piece is `0x` and hexadecimal digits, at least one, which spell n.
+-- The piece is `0x` and the hexadecimal digits of n, at least one.
 abbrev pub IsHexadecimal : List ℕ → ℕ → Type 0
 IsHexadecimal piece n =
     (digits : List ℕ) × (piece ≡ codes "0x" ++ digits) × (0 < length digits) × Each is_hex_digit digits

@@ -33,7 +33,8 @@ use Rattle.ash_lex.specs.declared.words.UnsupportedWord.TheVariants.{Import, In,
 use Rattle.ash_lex.specs.declared.words.UnsupportedWord.TheVariants.{Out, Private, Protected, Try, Typedef, Uint8}
 use Rattle.ash_lex.specs.declared.words.UnsupportedWord.TheVariants.{Uint16}
 use Rattle.ash_lex.specs.declared.pieces.Piece.{Piece}
-use Rattle.ash_lex.specs.declared.pieces.Piece.TheVariants.{Gap, Open, Name, Decimal, Hexadecimal, Sign as SignPiece}
+use Rattle.ash_lex.specs.declared.pieces.Piece.TheVariants.{Gap, UnclosedComment, Name, Decimal}
+use Rattle.ash_lex.specs.declared.pieces.Piece.TheVariants.{Hexadecimal, Sign as SignPiece}
 
 -- `signs` are all signs, the longest first.
 abbrev pub signs : List Sign
@@ -82,7 +83,7 @@ comment_end (b ∷ bs) =
 
 -- `block_comment end` is the comment that ends so many bytes after its `/*`, or has no end.
 abbrev pub block_comment : Option ℕ → Piece
-block_comment None = Open
+block_comment None = UnclosedComment
 block_comment (Some n) = Gap (2 + n)
 
 -- `sign_piece text` is the longest sign that begins a text.

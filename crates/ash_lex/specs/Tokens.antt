@@ -108,12 +108,15 @@ FirstFault text fault =
     (before left : List ℕ) × (tokens : List Lexeme) × (before ++ left ≡ text) × Reads before tokens left
     × FaultAt (length before) left fault
 
--- A text is refused with this: it is longer than 65,536 bytes, or it is not and this is its first fault, or memory ran
--- out.
+-- A source has at most so many bytes.
+abbrev pub max_source_bytes : ℕ
+max_source_bytes = 65536
+
+-- A text is refused with this: it is too long, or it is not and this is its first fault, or memory ran out.
 abbrev pub IsRefusal : List ℕ → LexFault → Type 0
-IsRefusal text SourceTooLong = 65536 < length text
+IsRefusal text SourceTooLong = max_source_bytes < length text
 IsRefusal text NoMemory = Unit {0}
-IsRefusal text fault = (length text ≤ 65536) × FirstFault text fault
+IsRefusal text fault = (length text ≤ max_source_bytes) × FirstFault text fault
 
 -- Each token begins at or after the place, and ends before the next begins and at most at the end.
 abbrev pub Rises : ℕ → ℕ → List Lexeme → Type 0

@@ -6,42 +6,42 @@ ghost use Rattle.ash_lex.specs.Bytes as spec;
 
 /// A blank: space, tab, carriage return or line feed.
 pub fn is_blank(byte: u8) -> bool
-    ensures { result ≡ spec.is_blank byte }
+    ensures blank { result ≡ spec.is_blank byte }
 {
     matches!(byte, b' ' | b'\t' | b'\r' | b'\n')
 }
 
 /// `0` to `9`.
 pub fn is_digit(byte: u8) -> bool
-    ensures { result ≡ spec.is_digit byte }
+    ensures digit { result ≡ spec.is_digit byte }
 {
     byte.is_ascii_digit()
 }
 
 /// A hexadecimal digit, of either case.
 pub fn is_hex_digit(byte: u8) -> bool
-    ensures { result ≡ spec.is_hex_digit byte }
+    ensures hex_digit { result ≡ spec.is_hex_digit byte }
 {
     byte.is_ascii_hexdigit()
 }
 
 /// What a name begins with: an ASCII letter or `_`.
 pub fn is_letter(byte: u8) -> bool
-    ensures { result ≡ spec.is_letter byte }
+    ensures letter { result ≡ spec.is_letter byte }
 {
     byte.is_ascii_alphabetic() || byte == b'_'
 }
 
 /// What a name goes on with: an ASCII letter, a digit or `_`.
 pub fn is_word(byte: u8) -> bool
-    ensures { result ≡ spec.is_word byte }
+    ensures word_byte { result ≡ spec.is_word byte }
 {
     byte.is_ascii_lowercase() || byte.is_ascii_alphanumeric() || byte == b'_'
 }
 
 /// Whether the bytes begin with a letter, a digit or `_`.
 pub fn begins_with_word(bytes: &[u8]) -> bool
-    ensures { result ≡ spec.begins_with_word bytes.now }
+    ensures first_byte { result ≡ spec.begins_with_word bytes.now }
 {
     match bytes {
         [first, ..] => is_word(*first),
@@ -51,7 +51,7 @@ pub fn begins_with_word(bytes: &[u8]) -> bool
 
 /// Whether the bytes begin with a hexadecimal digit.
 pub fn begins_with_hex_digit(bytes: &[u8]) -> bool
-    ensures { result ≡ spec.begins_with_hex_digit bytes.now }
+    ensures first_byte { result ≡ spec.begins_with_hex_digit bytes.now }
 {
     match bytes {
         [first, ..] => is_hex_digit(*first),
@@ -61,14 +61,14 @@ pub fn begins_with_hex_digit(bytes: &[u8]) -> bool
 
 /// How many letters, digits and `_` the bytes begin with.
 pub fn word_len(bytes: &[u8]) -> usize
-    ensures { result ≡ prefix_len spec.is_word bytes.now }
+    ensures all_word_bytes { result ≡ prefix_len spec.is_word bytes.now }
 {
     bytes.iter().take_while(|byte| is_word(**byte)).count()
 }
 
 /// How many digits the bytes begin with.
 pub fn digits_len(bytes: &[u8]) -> usize
-    ensures { result ≡ prefix_len spec.is_digit bytes.now }
+    ensures all_digits { result ≡ prefix_len spec.is_digit bytes.now }
 {
     bytes.iter().take_while(|byte| is_digit(**byte)).count()
 }
@@ -91,7 +91,7 @@ pub fn line_len(bytes: &[u8]) -> usize
 
 /// How many line feeds there are.
 pub fn line_feeds(bytes: &[u8]) -> usize
-    ensures { result ≡ count_by spec.is_line_feed bytes.now }
+    ensures count { result ≡ count_by spec.is_line_feed bytes.now }
 {
     bytes.iter().filter(|byte| **byte == b'\n').count()
 }

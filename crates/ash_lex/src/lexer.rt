@@ -1,6 +1,7 @@
 //! The lexer: one pass over the text, a piece at a time.
 
-ghost use Rattle.std.specs.Prelude.{◌≡◌, ℕ, ◌<◌, ◌≤◌, ◌^◌, ◌↔◌, ◌⊎◌, List, [], length, take, drop, count_by};
+ghost use Rattle.std.specs.Prelude.{◌≡◌, ℕ, ◌<◌, ◌≤◌, ◌^◌, ◌↔◌, ◌⊎◌, List, []};
+ghost use Rattle.std.specs.Prelude.{length, take, drop, count_by};
 ghost use Rattle.std.specs.Prelude.{IfOk, IfErr, MatchResult, IsErrAnd};
 ghost use Rattle.ash_lex.specs.declared.faults.LexFault.{LexFault};
 ghost use Rattle.ash_lex.specs.declared.faults.LexFault.TheVariants.{NoMemory, NumberTooLarge};
@@ -8,7 +9,7 @@ ghost use Rattle.ash_lex.specs.Pieces.{IsName};
 ghost use Rattle.ash_lex.specs.Bytes as spec;
 ghost use Rattle.ash_lex.specs.Tokens.{Means, meaning_of, number, Lexeme, lexemes, Reads, Spells, Rises};
 ghost use Rattle.ash_lex.specs.Tokens.{FirstFault, IsRefusal};
-ghost use Rattle.ash_lex.specs.Steps.{IsStep, StopsStep, StopsText};
+ghost use Rattle.ash_lex.specs.ScannedPieces.{IsScanned, IsPieceFault, IsTextFault};
 
 use crate::bytes::line_feeds;
 use crate::faults::LexFault;
@@ -19,8 +20,8 @@ use crate::words::{reserved_word, unsupported_word};
 use std::alloc::Global;
 use std::str;
 
-/// A text may have this many bytes.
-pub const MAX_SOURCE: usize = 65_536;
+/// A text has at most so many bytes.
+pub const MAX_SOURCE_BYTES: usize = 65_536;
 
 /// U+FEFF in UTF-8.
 const BYTE_ORDER_MARK: [u8; 3] = [0xef, 0xbb, 0xbf];
@@ -29,9 +30,9 @@ const BYTE_ORDER_MARK: [u8; 3] = [0xef, 0xbb, 0xbf];
 /// tokens the list is not moved.
 const BYTES_A_TOKEN: usize = 2;
 
-/// What a step over one piece passes, with its length in bytes.
+/// A piece that the lexer has passed, with its length in bytes.
 #[derive(Debug, Drop)]
-pub enum Step {
+pub enum ScannedPiece {
     Gap(usize),
     Token(TokenKind, usize),
 }
@@ -52,7 +53,7 @@ fn word_kind(alloc: Global, word: &[u8]) -> Result<TokenKind, LexFault>
     Ok(TokenKind::Name(String::from_str(alloc, name)?))
 }
 
-/// The number that the digits spell in a base. `at` is the offset of its token.
+/// The number that the digits are in a base. `at` is the offset of its token.
 fn number(base: u64, digits: &[u8], at: usize) -> Result<TokenKind, LexFault>
     requires { 0 < base }
     ensures value { IfOk result (λ kind.
@@ -68,28 +69,28 @@ fn number(base: u64, digits: &[u8], at: usize) -> Result<TokenKind, LexFault>
 }
 
 /// Passes the longest piece that begins what is left of the text. `at` is the offset of what is left.
-fn next_step(alloc: Global, left: &[u8], at: usize) -> Result<Step, LexFault>
+fn next_piece(alloc: Global, left: &[u8], at: usize) -> Result<ScannedPiece, LexFault>
     requires { 0 < length left.now }
-    ensures passes { IfOk result (λ step. IsStep left.now step) }
-    ensures stops { IfErr result (λ fault. StopsStep at left.now fault) }
+    ensures passes { IfOk result (λ piece. IsScanned left.now piece) }
+    ensures stops { IfErr result (λ fault. IsPieceFault at left.now fault) }
 {
     // Half of the pieces of most texts are blanks.
     if begins_with_blank(left) {
-        return Ok(Step::Gap(1));
+        return Ok(ScannedPiece::Gap(1));
     }
     let Some(piece) = longest_piece(left) else {
         return Err(LexFault::BadCharacter { at });
     };
     match piece {
-        Piece::Gap(len) => Ok(Step::Gap(len)),
-        Piece::Open => Err(LexFault::UnclosedComment { at }),
-        Piece::Name(len) => Ok(Step::Token(word_kind(alloc, &left[..len])?, len)),
-        Piece::Decimal(len) => Ok(Step::Token(number(10, &left[..len], at)?, len)),
+        Piece::Gap(len) => Ok(ScannedPiece::Gap(len)),
+        Piece::UnclosedComment => Err(LexFault::UnclosedComment { at }),
+        Piece::Name(len) => Ok(ScannedPiece::Token(word_kind(alloc, &left[..len])?, len)),
+        Piece::Decimal(len) => Ok(ScannedPiece::Token(number(10, &left[..len], at)?, len)),
         Piece::Hexadecimal(len) => {
             let token = &left[..len];
-            Ok(Step::Token(number(16, &token[2..], at)?, len))
+            Ok(ScannedPiece::Token(number(16, &token[2..], at)?, len))
         }
-        Piece::Sign(sign) => Ok(Step::Token(TokenKind::Sign(sign), sign.as_str().len())),
+        Piece::Sign(sign) => Ok(ScannedPiece::Token(TokenKind::Sign(sign), sign.as_str().len())),
     }
 }
 
@@ -108,21 +109,21 @@ fn mark_len(text: &[u8]) -> usize
 
 /// The tokens of a text that is not too long.
 fn tokens_of(alloc: Global, text: &[u8]) -> Result<Vec<Token>, LexFault>
-    requires { length text.now ≤ MAX_SOURCE }
-    ensures spelled { IfOk result (λ tokens. Spells text.now (lexemes tokens.items)) }
-    ensures stopped { IfErr result (λ fault. StopsText text.now fault) }
+    requires { length text.now ≤ MAX_SOURCE_BYTES }
+    ensures tokens { IfOk result (λ tokens. Spells text.now (lexemes tokens.items)) }
+    ensures stopped { IfErr result (λ fault. IsTextFault text.now fault) }
 {
     let mut tokens = Vec::with_capacity(alloc, text.len() / BYTES_A_TOKEN)?;
     let mut at = mark_len(text);
     let mut line = 1;
     while at < text.len() {
         let left = &text[at..];
-        match next_step(alloc, left, at)? {
-            Step::Gap(len) => {
+        match next_piece(alloc, left, at)? {
+            ScannedPiece::Gap(len) => {
                 line += line_feeds(&left[..len]);
                 at += len;
             }
-            Step::Token(kind, len) => {
+            ScannedPiece::Token(kind, len) => {
                 tokens.push(Token {
                     kind,
                     line,
@@ -144,20 +145,22 @@ fn tokens_of(alloc: Global, text: &[u8]) -> Result<Vec<Token>, LexFault>
 /// that has no tokens is refused with its first lexical fault, and the fault's offset. Where memory
 /// runs out the answer is [`LexFault::NoMemory`].
 pub fn lex(alloc: Global, text: &str) -> Result<Vec<Token>, LexFault>
-    ensures too_long { (result ≡ Err LexFault.SourceTooLong) ↔ (MAX_SOURCE < length text.now) }
-    // What is answered is what the text spells.
+    ensures too_long { (result ≡ Err LexFault.SourceTooLong)
+        ↔ (MAX_SOURCE_BYTES < length text.now) }
+    // What is answered is the text's tokens.
     ensures found { IfOk result (λ tokens. Spells text.now (lexemes tokens.items)) }
     ensures rising { IfOk result (λ tokens. Rises 0 (length text.now) (lexemes tokens.items)) }
-    // What the text spells is answered.
-    ensures only { (tokens : List Lexeme) → Spells text.now tokens → length text.now ≤ MAX_SOURCE
+    // The text's tokens are answered.
+    ensures only { (tokens : List Lexeme) → Spells text.now tokens
+        → length text.now ≤ MAX_SOURCE_BYTES
         → MatchResult result (λ answer. lexemes answer.items ≡ tokens) (λ fault. fault ≡ NoMemory) }
     // A fault that is answered is the text's first, and the first is answered.
     ensures fault { IfErr result (λ fault. IsRefusal text.now fault) }
     ensures refused { (fault : LexFault) → FirstFault text.now fault
-        → length text.now ≤ MAX_SOURCE
+        → length text.now ≤ MAX_SOURCE_BYTES
         → IsErrAnd result (λ answer. (answer ≡ fault) ⊎ (answer ≡ NoMemory)) }
 {
-    if text.len() > MAX_SOURCE {
+    if text.len() > MAX_SOURCE_BYTES {
         return Err(LexFault::SourceTooLong);
     }
     tokens_of(alloc, text.as_bytes())

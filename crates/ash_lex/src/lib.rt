@@ -1,8 +1,8 @@
 //! The tokens of a script.
 //!
 //! `lex` cuts a text into its tokens, each with its line and the bytes that it takes, or reports the
-//! text's first lexical fault. It uses no other crate of the repository. What it answers is what
-//! the text spells, by the definition in `specs/Tokens.antt`; what the text spells is answered, unless
+//! text's first lexical fault. It uses no other crate of the repository. What it answers are the
+//! text's tokens by the definition in `specs/Tokens.antt`; where a text has tokens they are answered, unless
 //! memory runs out; and each text has either tokens or a first fault, and never both.
 //!
 //! In reading order: `tokens`, with the kinds in `signs` and `words`; `faults`; `bytes`, the classes of
@@ -19,7 +19,7 @@ mod tokens;
 mod words;
 
 pub use faults::LexFault;
-pub use lexer::{MAX_SOURCE, lex, one_reading};
+pub use lexer::{MAX_SOURCE_BYTES, lex, one_reading};
 pub use signs::Sign;
 pub use tokens::{Token, TokenKind};
 pub use words::{ReservedWord, UnsupportedWord};

@@ -15,10 +15,11 @@ fn digit_value(digit: u8) -> u64
     }
 }
 
-/// The number that the digits spell in a base, if it is below 2^64.
+/// The number that the digits are in a base, if it is below 2^64.
 pub fn value_in(base: u64, digits: &[u8]) -> Option<u64>
-    requires { 0 < base }
-    ensures { SomeIff result (spec.value_in base digits.now < 2 ^ 64) (spec.value_in base digits.now) }
+    requires base { 0 < base }
+    ensures value { SomeIff result (spec.value_in base digits.now < 2 ^ 64)
+        (spec.value_in base digits.now) }
 {
     let mut value: u64 = 0;
     for digit in digits {

@@ -1,9 +1,10 @@
 //! The longest piece that a text begins with.
 
-ghost use Rattle.std.specs.Prelude.{◌≡◌, ◌+◌, ◌<◌, ◌≤◌, ◌^◌, length, IfSome, IsTrue, MatchOption};
+ghost use Rattle.std.specs.Prelude.{◌≡◌, ◌+◌, ◌<◌, ◌≤◌, ◌^◌, length};
+ghost use Rattle.std.specs.Prelude.{IfSome, IsTrue, MatchOption};
 ghost use Rattle.ash_lex.specs.declared.pieces.Piece.TheVariants.{Gap as GapPiece};
 ghost use Rattle.ash_lex.specs.Scan as spec;
-ghost use Rattle.ash_lex.specs.Steps.{BeginsWith};
+ghost use Rattle.ash_lex.specs.ScannedPieces.{BeginsWith};
 ghost use Rattle.ash_lex.specs.Tokens.{BeginsNothing};
 
 use crate::bytes::{
@@ -18,7 +19,7 @@ pub enum Piece {
     /// A blank or a comment.
     Gap(usize),
     /// A comment without its end.
-    Open,
+    UnclosedComment,
     /// A name, or a word that is none.
     Name(usize),
     Decimal(usize),
@@ -53,7 +54,7 @@ fn block_comment(text: &[u8]) -> Piece
 {
     match comment_end(text) {
         Some(len) => Piece::Gap(2 + len),
-        None => Piece::Open,
+        None => Piece::UnclosedComment,
     }
 }
 
@@ -113,7 +114,7 @@ fn by_first_byte(text: &[u8]) -> Option<Piece>
 
 /// Whether the text begins with a blank, which is then its longest piece.
 pub fn begins_with_blank(text: &[u8]) -> bool
-    requires { 0 < length text.now }
+    requires some { 0 < length text.now }
     ensures blank { IsTrue result → BeginsWith text.now (GapPiece 1) }
 {
     is_blank(text[0])
@@ -121,8 +122,8 @@ pub fn begins_with_blank(text: &[u8]) -> bool
 
 /// The longest piece that the text begins with.
 pub fn longest_piece(text: &[u8]) -> Option<Piece>
-    requires { 0 < length text.now }
-    ensures { MatchOption result (BeginsNothing text.now) (BeginsWith text.now) }
+    requires some { 0 < length text.now }
+    ensures longest { MatchOption result (BeginsNothing text.now) (BeginsWith text.now) }
 {
     by_first_byte(text)
 }

@@ -119,7 +119,7 @@ pub enum Sign {
 impl Sign {
     /// The sign as it is written.
     pub fn as_str(self) -> &'static str
-        ensures spelling { result.now ≡ sign_text self }
+        ensures text { result.now ≡ sign_text self }
     {
         match self {
             Sign::OpenParenthesis => "(",
@@ -330,7 +330,7 @@ fn sign_from(first: u8, after: &[u8]) -> Option<Sign>
 
 /// The longest sign that the bytes begin with.
 pub fn sign_at(bytes: &[u8]) -> Option<Sign>
-    ensures { result ≡ first_sign bytes.now }
+    ensures longest { result ≡ first_sign bytes.now }
 {
     match bytes {
         [first, after @ ..] => sign_from(*first, after),

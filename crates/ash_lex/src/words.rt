@@ -126,7 +126,7 @@ pub enum UnsupportedWord {
 impl ReservedWord {
     /// The word as it is written.
     pub fn as_str(self) -> &'static str
-        ensures spelling { result.now ≡ reserved_text self }
+        ensures text { result.now ≡ reserved_text self }
     {
         match self {
             ReservedWord::And => "and",
@@ -165,7 +165,7 @@ impl ReservedWord {
     }
 
     /// Whether the bytes are how the word is written.
-    fn is_spelled(self, bytes: &[u8]) -> bool
+    fn is_text(self, bytes: &[u8]) -> bool
         ensures { result ≡ bytes_eq bytes.now (reserved_text self) }
     {
         bytes == self.as_str().as_bytes()
@@ -226,12 +226,12 @@ fn reserved_words_from(first: u8) -> &'static [ReservedWord]
 fn reserved_word_among(words: &[ReservedWord], bytes: &[u8]) -> Option<ReservedWord>
     ensures { result ≡ find (λ w. bytes_eq bytes.now (reserved_text w)) words.now }
 {
-    words.iter().copied().find(|word| word.is_spelled(bytes))
+    words.iter().copied().find(|word| word.is_text(bytes))
 }
 
 /// The reserved word that the bytes are, if they are one.
 pub fn reserved_word(bytes: &[u8]) -> Option<ReservedWord>
-    ensures { result ≡ reserved_word bytes.now }
+    ensures which { result ≡ reserved_word bytes.now }
 {
     match bytes {
         [first, ..] => reserved_word_among(reserved_words_from(*first), bytes),
@@ -242,7 +242,7 @@ pub fn reserved_word(bytes: &[u8]) -> Option<ReservedWord>
 impl UnsupportedWord {
     /// The word as it is written.
     pub fn as_str(self) -> &'static str
-        ensures spelling { result.now ≡ unsupported_text self }
+        ensures text { result.now ≡ unsupported_text self }
     {
         match self {
             UnsupportedWord::Auto => "auto",
@@ -270,7 +270,7 @@ impl UnsupportedWord {
     }
 
     /// Whether the bytes are how the word is written.
-    fn is_spelled(self, bytes: &[u8]) -> bool
+    fn is_text(self, bytes: &[u8]) -> bool
         ensures { result ≡ bytes_eq bytes.now (unsupported_text self) }
     {
         bytes == self.as_str().as_bytes()
@@ -317,12 +317,12 @@ fn unsupported_words_from(first: u8) -> &'static [UnsupportedWord]
 fn unsupported_word_among(words: &[UnsupportedWord], bytes: &[u8]) -> Option<UnsupportedWord>
     ensures { result ≡ find (λ w. bytes_eq bytes.now (unsupported_text w)) words.now }
 {
-    words.iter().copied().find(|word| word.is_spelled(bytes))
+    words.iter().copied().find(|word| word.is_text(bytes))
 }
 
 /// The unsupported word that the bytes are, if they are one.
 pub fn unsupported_word(bytes: &[u8]) -> Option<UnsupportedWord>
-    ensures { result ≡ unsupported_word bytes.now }
+    ensures which { result ≡ unsupported_word bytes.now }
 {
     match bytes {
         [first, ..] => unsupported_word_among(unsupported_words_from(*first), bytes),

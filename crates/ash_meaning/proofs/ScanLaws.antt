@@ -10,7 +10,7 @@ use Rattle.ash_lex.specs.Signs.{sign_text}
 use Rattle.ash_lex.specs.Pieces.{IsName, IsNumeral}
 use Rattle.ash_lex.specs.Scan.{longest_piece, reserved_word, unsupported_word}
 use Rattle.ash_lex.specs.Tokens.{number, sign, Lexeme, Means, byte_order_mark, Spells, FirstFault}
-use Rattle.ash_lex.specs.Steps.{IsCut, BeginsWith}
+use Rattle.ash_lex.specs.ScannedPieces.{IsCut, BeginsWith}
 use Rattle.ash_lex.specs.declared.words.ReservedWord.{ReservedWord}
 use Rattle.ash_lex.specs.declared.words.UnsupportedWord.{UnsupportedWord}
 use Rattle.ash_lex.specs.declared.pieces.Piece.{Piece}
@@ -62,7 +62,7 @@ module _ (text : List ℕ) (place line : ℕ) (tokens : List Lexeme) (read : IsR
 
   at_piece : (p : Piece) → BeginsWith (drop place text) p → GoesOn (step_over place (drop place text) (Some p))
   at_piece (pieces.Gap n) h = ((h.0).some, past_gap text place line n tokens read h.0 h.1)
-  at_piece pieces.Open h = first_fault text place line tokens (faults.UnclosedComment place) read (refl, h)
+  at_piece pieces.UnclosedComment h = first_fault text place line tokens (faults.UnclosedComment place) read (refl, h)
   at_piece (pieces.Name n) h = (
     (h.0).some,
     past_token text place line n tokens read h.0 _

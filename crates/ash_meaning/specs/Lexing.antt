@@ -2,15 +2,11 @@
 -- fault. A source is refused for the first of these that holds.
 use Rattle.std.specs.Prelude.{ℕ, ◌<◌, ◌≤◌, ◌⊎◌, List, length, Result, Ok, Err}
 use Rattle.std.specs.Str.{IsUtf8, IsValidUpTo}
-use Rattle.ash_lex.specs.Tokens.{Lexeme, Spells, FirstFault}
+use Rattle.ash_lex.specs.Tokens.{Lexeme, Spells, FirstFault, max_source_bytes}
 use Rattle.ash_lex.specs.declared.faults.LexFault.{LexFault}
 use Rattle.ash_lex.specs.declared.faults.LexFault.TheVariants as faults
 use Rattle.ash_meaning.specs.Refusals.{Refusal}
 use Rattle.ash_meaning.specs.Refusals as refusals
-
--- how many bytes a source has at most
-abbrev pub max_source_bytes : ℕ
-max_source_bytes = 65536
 
 -- a source that is text, and not too long
 pub record IsText (source : List ℕ) : Type 0 where

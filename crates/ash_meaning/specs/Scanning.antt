@@ -9,13 +9,14 @@ use Rattle.ash_lex.specs.Bytes.{is_line_feed, value_in}
 use Rattle.ash_lex.specs.Signs.{sign_text}
 use Rattle.ash_lex.specs.Scan.{longest_piece, reserved_word, unsupported_word}
 use Rattle.ash_lex.specs.Tokens.{Meaning, name, number, sign, reserved, unsupported, Lexeme, byte_order_mark}
+use Rattle.ash_lex.specs.Tokens.{max_source_bytes}
 use Rattle.ash_lex.specs.declared.pieces.Piece.{Piece}
 use Rattle.ash_lex.specs.declared.pieces.Piece.TheVariants as pieces
 use Rattle.ash_lex.specs.declared.words.ReservedWord.{ReservedWord}
 use Rattle.ash_lex.specs.declared.words.UnsupportedWord.{UnsupportedWord}
 use Rattle.ash_lex.specs.declared.faults.LexFault.{LexFault}
 use Rattle.ash_lex.specs.declared.faults.LexFault.TheVariants as faults
-use Rattle.ash_meaning.specs.Lexing.{max_source_bytes, lexical}
+use Rattle.ash_meaning.specs.Lexing.{lexical}
 use Rattle.ash_meaning.specs.Refusals.{Refusal}
 use Rattle.ash_meaning.specs.Refusals as refusals
 
@@ -42,7 +43,7 @@ numeral place n value = if nat_lt value (2 ^ 64) then Token n (number value) els
 abbrev pub step_over : ℕ → List ℕ → Option Piece → Step
 step_over place left None = Fault (faults.BadCharacter place)
 step_over place left (Some (pieces.Gap n)) = Gap n
-step_over place left (Some pieces.Open) = Fault (faults.UnclosedComment place)
+step_over place left (Some pieces.UnclosedComment) = Fault (faults.UnclosedComment place)
 step_over place left (Some (pieces.Name n)) = Token n (word (take n left))
 step_over place left (Some (pieces.Decimal n)) = numeral place n (value_in 10 (take n left))
 step_over place left (Some (pieces.Hexadecimal n)) = numeral place n (value_in 16 (drop 2 (take n left)))

@@ -7,7 +7,7 @@ ghost use Rattle.ash_meaning.specs.Scanning.{lexed};
 ghost use Rattle.ash_meaning.specs.Refusals.{Refusal as Refused, NoMemory, refusal_of};
 
 use crate::refusal::Refusal;
-use ash_lex::{MAX_SOURCE, Token, lex};
+use ash_lex::{MAX_SOURCE_BYTES, Token, lex};
 use std::alloc::Global;
 use std::str;
 
@@ -18,7 +18,7 @@ pub(crate) fn tokens_of(alloc: Global, source: &[u8]) -> Result<Vec<Token>, Refu
     ensures refused { IfErr result (λ refusal. ((refusal_of refusal ≡ NoMemory) × IsText source.now)
         ⊎ Lexes source.now (Err (refusal_of refusal))) }
 {
-    if source.len() > MAX_SOURCE {
+    if source.len() > MAX_SOURCE_BYTES {
         return Err(Refusal::SourceTooLong);
     }
     let text = match str::from_utf8(source) {

@@ -16,7 +16,7 @@ pub loop-at-preserved-in-Gap : goal.loop-at-preserved-in-Gap
 loop-at-preserved-in-Gap c =
     gap_keeps c.args.text.now _ c.loop-at.at c.loop-at.line c.line_feeds-line.result c.in-Gap.len
     (lexemes c.loop-at.tokens.items) c.in_ok-len.field-0 c.loop-at.invariant
-    (take_rest c.args.text.now c.loop-at.at) c.in_ok-len.ensures.passes c.in-Gap.is c.line_feeds-line.ensures
+    (take_rest c.args.text.now c.loop-at.at) c.in_ok-len.ensures.passes c.in-Gap.is c.line_feeds-line.ensures.count
 
 pub loop-at-preserved : goal.loop-at-preserved
 loop-at-preserved c =

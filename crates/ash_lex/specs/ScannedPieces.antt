@@ -1,14 +1,14 @@
--- These definitions say what one step of the lexer does, over the longest piece that begins what is left of a text.
+-- These definitions say how the lexer passes one piece, the longest that begins what is left of a text.
 use Rattle.std.specs.Prelude.{◌≡◌, ℕ, ◌<◌, ◌≤◌, List, length, take, drop}
 use Rattle.ash_lex.specs.Bytes.{value_in}
 use Rattle.ash_lex.specs.Signs.{sign_text}
 use Rattle.ash_lex.specs.Pieces.{IsGap, IsName, IsNumeral, IsOpenComment, IsLongest}
 use Rattle.ash_lex.specs.Tokens.{Means, meaning_of, FaultAt, FirstFault}
 use Rattle.ash_lex.specs.declared.pieces.Piece.{Piece}
-use Rattle.ash_lex.specs.declared.pieces.Piece.TheVariants.{Gap as GapPiece, Open, Name as NamePiece, Decimal}
+use Rattle.ash_lex.specs.declared.pieces.Piece.TheVariants.{Gap as GapPiece, UnclosedComment, Name as NamePiece, Decimal}
 use Rattle.ash_lex.specs.declared.pieces.Piece.TheVariants.{Hexadecimal, Sign as SignPiece}
-use Rattle.ash_lex.specs.declared.lexer.Step.{Step}
-use Rattle.ash_lex.specs.declared.lexer.Step.TheVariants.{Gap, Token}
+use Rattle.ash_lex.specs.declared.lexer.ScannedPiece.{ScannedPiece}
+use Rattle.ash_lex.specs.declared.lexer.ScannedPiece.TheVariants.{Gap, Token}
 use Rattle.ash_lex.specs.declared.faults.LexFault.{LexFault}
 use Rattle.ash_lex.specs.declared.faults.LexFault.TheVariants.{NoMemory}
 
@@ -21,24 +21,24 @@ pub record IsCut (text : List ℕ) (n : ℕ) : Type 0 where
 -- The text begins with this piece, and with no longer one.
 abbrev pub BeginsWith : List ℕ → Piece → Type 0
 BeginsWith text (GapPiece n) = IsCut text n × IsGap (take n text)
-BeginsWith text Open = IsOpenComment text
+BeginsWith text UnclosedComment = IsOpenComment text
 BeginsWith text (NamePiece n) = IsCut text n × IsName (take n text)
 BeginsWith text (Decimal n) = IsCut text n × IsNumeral (take n text) (value_in 10 (take n text))
 BeginsWith text (Hexadecimal n) = IsCut text n × IsNumeral (take n text) (value_in 16 (drop 2 (take n text))) × (2 ≤ n)
 BeginsWith text (SignPiece s) =
     IsCut text (length (sign_text s)) × (take (length (sign_text s)) text ≡ sign_text s)
 
--- The step passes a gap or a token that begins the text.
-abbrev pub IsStep : List ℕ → Step → Type 0
-IsStep text (Gap n) = IsCut text n × IsGap (take n text)
-IsStep text (Token kind n) = IsCut text n × Means (take n text) (meaning_of kind)
+-- What is passed is a gap or a token that begins the text.
+abbrev pub IsScanned : List ℕ → ScannedPiece → Type 0
+IsScanned text (Gap n) = IsCut text n × IsGap (take n text)
+IsScanned text (Token kind n) = IsCut text n × Means (take n text) (meaning_of kind)
 
 -- The fault is at the beginning of what is left, or memory ran out.
-abbrev pub StopsStep : ℕ → List ℕ → LexFault → Type 0
-StopsStep place left NoMemory = Unit {0}
-StopsStep place left fault = FaultAt place left fault
+abbrev pub IsPieceFault : ℕ → List ℕ → LexFault → Type 0
+IsPieceFault place left NoMemory = Unit {0}
+IsPieceFault place left fault = FaultAt place left fault
 
 -- The fault is the text's first lexical fault, or memory ran out.
-abbrev pub StopsText : List ℕ → LexFault → Type 0
-StopsText text NoMemory = Unit {0}
-StopsText text fault = FirstFault text fault
+abbrev pub IsTextFault : List ℕ → LexFault → Type 0
+IsTextFault text NoMemory = Unit {0}
+IsTextFault text fault = FirstFault text fault
