@@ -14,7 +14,7 @@ ghost use Rattle.ash_typing.specs.declared.fault.Fault.{Fault};
 ghost use Rattle.ash_typing.specs.Items as definition;
 ghost use Rattle.ash_typing.specs.Nesting.{ItemsDeclareInBlocks};
 ghost use Rattle.ash_typing.specs.TypedModules.{IsTyped};
-ghost use Rattle.ash_classes.specs.References.{Refers, classes_of, seen};
+ghost use Rattle.ash_classes.specs.References.{Refers, classes_of, borrowed_classes};
 ghost use Rattle.ash_classes.specs.Paths.{IsReportedCycle, Reaches, AreRanks};
 ghost use Rattle.ash_check.specs.CheckedModules.{IsChecked};
 ghost use Rattle.ash_check.specs.Checks.{Broken, Cyclic, checked, Reports, script_fault_of};
@@ -38,7 +38,8 @@ fn class_names_at(
 ) -> Result<Vec<String>, AllocError>
     requires { All (λ place. place < length classes.now) places.now }
     ensures { IfOk result
-        (λ names. map string_bytes names.items ≡ map (name_at (seen classes.now)) places.now) }
+        (λ names. map string_bytes names.items
+        ≡ map (name_at (borrowed_classes classes.now)) places.now) }
 {
     let mut names = Vec::new(alloc);
     for place in places {

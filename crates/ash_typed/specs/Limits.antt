@@ -1,4 +1,5 @@
 -- How much a module may declare.
+use Rattle.std.specs.Prelude.{ℕ}
 
 -- A module has at most so many classes and interfaces together.
 abbrev pub max_module_types : ℕ

@@ -2,21 +2,21 @@ use Rattle.ash_expressions.specs.Views.{environment_of, is_target}
 use Rattle.ash_expressions.proofs.Nodes.{typed_call, typed_new_array, typed_postfix, typed_binary, typed_method}
 use Rattle.ash_expressions.proofs.expressions.+expressions.Goals as goal
 
-pub check_expr-returns-in-Call-clause-typed_as_defined : goal.check_expr-returns-in-Call-clause-typed_as_defined
-check_expr-returns-in-Call-clause-typed_as_defined t c =
-    typed_call (environment_of c.args.env.now) (is_target c.args.side) c.args.source.now c.in-Call.name c.in-Call.arguments _ _ c.check_call.result c.in-Call.is c.as_str-in-Call.ensures.value c.deref.ensures.value c.check_call.ensures
+pub check_expr-returns-in-Call : goal.check_expr-returns-in-Call
+check_expr-returns-in-Call t c =
+    record { typed_as_defined = typed_call (environment_of c.args.env.now) (is_target c.args.side) c.args.source.now c.in-Call.name c.in-Call.arguments _ _ c.check_call.result c.in-Call.is c.as_str-in-Call.ensures.value c.deref.ensures.value c.check_call.ensures }
 
-pub check_expr-returns-in-NewArray-clause-typed_as_defined : goal.check_expr-returns-in-NewArray-clause-typed_as_defined
-check_expr-returns-in-NewArray-clause-typed_as_defined t c =
-    typed_new_array (environment_of c.args.env.now) (is_target c.args.side) c.args.source.now c.in-NewArray.of c.in-NewArray.arguments _ _ c.check_new_array.result c.in-NewArray.is c.deref-in-NewArray.ensures c.deref-in-NewArray-2.ensures.value c.check_new_array.ensures
+pub check_expr-returns-in-NewArray : goal.check_expr-returns-in-NewArray
+check_expr-returns-in-NewArray t c =
+    record { typed_as_defined = typed_new_array (environment_of c.args.env.now) (is_target c.args.side) c.args.source.now c.in-NewArray.of c.in-NewArray.arguments _ _ c.check_new_array.result c.in-NewArray.is c.deref-in-NewArray.ensures c.deref-in-NewArray-2.ensures.value c.check_new_array.ensures }
 
-pub check_expr-returns-in-Postfix-clause-typed_as_defined : goal.check_expr-returns-in-Postfix-clause-typed_as_defined
-check_expr-returns-in-Postfix-clause-typed_as_defined t c =
-    typed_postfix (environment_of c.args.env.now) (is_target c.args.side) c.args.source.now c.in-Postfix.operand c.in-Postfix.suffixes _ _ c.check_postfix.result c.in-Postfix.is c.deref-in-Postfix.ensures c.deref-in-Postfix-2.ensures.value c.check_postfix.ensures
+pub check_expr-returns-in-Postfix : goal.check_expr-returns-in-Postfix
+check_expr-returns-in-Postfix t c =
+    record { typed_as_defined = typed_postfix (environment_of c.args.env.now) (is_target c.args.side) c.args.source.now c.in-Postfix.operand c.in-Postfix.suffixes _ _ c.check_postfix.result c.in-Postfix.is c.deref-in-Postfix.ensures c.deref-in-Postfix-2.ensures.value c.check_postfix.ensures }
 
-pub check_expr-returns-in-Binary-clause-typed_as_defined : goal.check_expr-returns-in-Binary-clause-typed_as_defined
-check_expr-returns-in-Binary-clause-typed_as_defined t c =
-    typed_binary (environment_of c.args.env.now) (is_target c.args.side) c.args.source.now c.in-Binary.first c.in-Binary.links _ _ c.check_binary.result c.in-Binary.is c.deref-in-Binary.ensures c.deref-in-Binary-2.ensures.value c.check_binary.ensures
+pub check_expr-returns-in-Binary : goal.check_expr-returns-in-Binary
+check_expr-returns-in-Binary t c =
+    record { typed_as_defined = typed_binary (environment_of c.args.env.now) (is_target c.args.side) c.args.source.now c.in-Binary.first c.in-Binary.links _ _ c.check_binary.result c.in-Binary.is c.deref-in-Binary.ensures c.deref-in-Binary-2.ensures.value c.check_binary.ensures }
 
 pub check_suffix-returns-in-Method : goal.check_suffix-returns-in-Method
 check_suffix-returns-in-Method t c =

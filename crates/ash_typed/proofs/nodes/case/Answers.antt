@@ -3,5 +3,5 @@ use Rattle.ash_typed.specs.declared.tree.statements.StmtKind.TheViews as views
 use Rattle.ash_typed.proofs.StatementRows.{stmts_of-row}
 use Rattle.ash_typed.proofs.nodes.case.Goals as goal
 
-pub returns-clause-label_first : goal.returns-clause-label_first
-returns-clause-label_first c = search (rules, views.the_lemmas, stmts_of-row)
+pub returns : goal.returns
+returns c = record { label_first = search (rules, views.the_lemmas, stmts_of-row) }
