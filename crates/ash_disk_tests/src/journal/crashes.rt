@@ -171,18 +171,18 @@ fn check_stop(
 
 // Which of two disks fails.
 #[derive(Clone, Copy)]
-enum FailingDisk {
+enum StoppedDisk {
     First,
     Second,
 }
 
 // After how many calls of one disk a run is stopped at most, where the other does not fail.
-fn count_stops(rt: &impl Abort, alloc: Global, failing: FailingDisk) -> Result<u64, Fail> {
+fn count_stops(rt: &impl Abort, alloc: Global, failing: StoppedDisk) -> Result<u64, Fail> {
     let mut stops = 0_u64;
     for calls in 0..200 {
         let (first, second) = match failing {
-            FailingDisk::First => (calls, u64::MAX),
-            FailingDisk::Second => (u64::MAX, calls),
+            StoppedDisk::First => (calls, u64::MAX),
+            StoppedDisk::Second => (u64::MAX, calls),
         };
         if check_stop(rt, alloc, first, second)? == 7 {
             break;
@@ -194,7 +194,7 @@ fn count_stops(rt: &impl Abort, alloc: Global, failing: FailingDisk) -> Result<u
 
 #[test]
 fn the_first_disk_fails(rt: HostRuntime) -> Result<(), Fail> {
-    let stops = count_stops(&rt, rt.alloc(), FailingDisk::First)?;
+    let stops = count_stops(&rt, rt.alloc(), StoppedDisk::First)?;
     // A look is 2 calls, a gate 2, a commit 4, and opening 3 where the file is not current.
     check_number(
         &rt,
@@ -208,7 +208,7 @@ fn the_first_disk_fails(rt: HostRuntime) -> Result<(), Fail> {
 
 #[test]
 fn the_second_disk_fails(rt: HostRuntime) -> Result<(), Fail> {
-    let stops = count_stops(&rt, rt.alloc(), FailingDisk::Second)?;
+    let stops = count_stops(&rt, rt.alloc(), StoppedDisk::Second)?;
     // A look is 2 calls, a gate 2, a commit 4, opening 3, and the image and the record to read 2 each.
     let wanted = 2 + 2 + 4 + 4 + 3 + 2 * 2 + 4;
     check_number(&rt, stops, wanted, "the second disk", "the stops");

@@ -16,7 +16,7 @@ loop-slot-preserved-then-is_idle g c =
     let slot = c.in-Some.slot in
     let e = c.take_idle.result in
     let is = c.in-Some.ensures.objects in
-    let idle = rw is at (c.is_idle.ensures.0 c.if-is_idle.true) in
+    let idle = rw is at (c.is_idle.ensures.idle.0 c.if-is_idle.true) in
     let here = rw is at c.take_idle.ensures.number in
     let mine = rw is at c.take_idle.ensures.item in
     let order = rw is at c.take_idle.ensures.stays_in_order in
@@ -35,7 +35,7 @@ loop-slot-smaller-then-is_idle g c =
     let slot = c.in-Some.slot in
     let e = c.take_idle.result in
     let is = c.in-Some.ensures.objects in
-    let idle = rw is at (c.is_idle.ensures.0 c.if-is_idle.true) in
+    let idle = rw is at (c.is_idle.ensures.idle.0 c.if-is_idle.true) in
     let here = rw is at c.take_idle.ensures.number in
     let mine = rw is at c.take_idle.ensures.item in
     let order = rw is at c.take_idle.ensures.stays_in_order in
@@ -52,7 +52,7 @@ loop-slot-preserved g c =
     let l = c.loop-slot.store.objects in
     let is = c.in-Some.ensures.objects in
     record {
-      gone = rw is (skipped c.args.store.now.objects l c.in-Some.slot c.loop-slot.taken.items c.loop-slot.invariant.gone (λ idle. let yes = c.is_idle.ensures.1 (rw is idle) in let no = c.if-is_idle.false in cc));
+      gone = rw is (skipped c.args.store.now.objects l c.in-Some.slot c.loop-slot.taken.items c.loop-slot.invariant.gone (λ idle. let yes = c.is_idle.ensures.idle.1 (rw is idle) in let no = c.if-is_idle.false in cc));
       room = c.loop-slot.invariant.room;
     }
 
