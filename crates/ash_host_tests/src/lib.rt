@@ -1,19 +1,24 @@
 //! Tests of what the crates below the front end have: integers, kinds of host objects, and the table of objects. They
 //! are in a crate of tests only, so that the crates with the code are proved once.
 //!
-//! - `rows`: every operator on every type of integers at its extremes, worked out by hand.
+//! - `checks`: how a test names the row of a table that is not met.
+//! - `rows` and `conversions`: every operator on every type of integers at its extremes, worked out by hand.
 //! - `kinds`: what each kind of host objects answers to rows of calls, what it saves, and what it comes back from.
 //! - `table`, `reporter` and `steps`: a table whose boxes report that they are given up, and its calls as data, with
 //!   memory that is ample or refused once.
 //! - `sequences`, `marks`, `arrays` and `limits`: sequences of calls with the events that they leave, what is named as
 //!   changed, arrays, and a table at its limits, with memory that is ample.
-//! - `restoring`, `pools` and `refused_states`: tables from what a state holds, the boxes that they take, and those
-//! that   are given up where a state is refused.
+//! - `states`, `restoring`, `pools` and `refused_states`: tables from what a state holds, the boxes that they take, and
+//!   those that are given up where a state is refused.
 //! - `refusals`: memory that is refused once.
 #![tactic(auto)]
 
 #[cfg(test)]
 mod arrays;
+#[cfg(test)]
+mod checks;
+#[cfg(test)]
+mod conversions;
 #[cfg(test)]
 mod kinds;
 #[cfg(test)]
@@ -34,6 +39,8 @@ mod restoring;
 mod rows;
 #[cfg(test)]
 mod sequences;
+#[cfg(test)]
+mod states;
 #[cfg(test)]
 mod steps;
 #[cfg(test)]

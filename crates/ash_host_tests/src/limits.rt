@@ -1,23 +1,25 @@
 //! A table at its limits.
 
-use crate::table::{make, new_table};
+use crate::checks::expect_all;
+use crate::steps::{Memory, Sequence, Step, first_unmet};
+use ash_host::Event;
 use ash_objects::{MAX_OBJECTS, MakeFault};
-use std::test::Fail;
+
+static MOST: Sequence<'static> = Sequence {
+    pool: &[11],
+    steps: &[
+        Step::MakeEach(MAX_OBJECTS),
+        Step::Make(0, Err(MakeFault::ObjectLimit)),
+        Step::Draw(1, 0, Err(MakeFault::ObjectLimit)),
+        Step::Sweep,
+        Step::Draw(1, 0, Ok(4097)),
+    ],
+    events: &[Event::Drew(4097)],
+    given_up: &[],
+    with_the_table: &[(11, 0)],
+};
 
 #[test]
-fn as_many_objects_as_may_live(rt: HostRuntime) -> Result<(), Fail> {
-    let (mut objects, _log) = new_table(rt.alloc(), 1)?;
-    let mut events = Vec::new(rt.alloc());
-    for _ in 0..MAX_OBJECTS {
-        assert!(rt; make(rt.alloc(), &mut objects, 0)?.is_ok());
-    }
-    assert_eq!(rt;
-        make(rt.alloc(), &mut objects, 0)?,
-        Err(MakeFault::ObjectLimit)
-    );
-    assert_eq!(rt; objects.draw(1, &mut events), Err(MakeFault::ObjectLimit));
-    objects.sweep(&mut events)?;
-    assert!(rt; events.is_empty());
-    assert_eq!(rt; objects.draw(1, &mut events), Ok(4097));
-    Ok(())
+fn as_many_objects_as_may_live(rt: HostRuntime) {
+    expect_all(&rt, first_unmet(rt.alloc(), &MOST, Memory::Ample));
 }

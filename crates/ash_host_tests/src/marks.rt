@@ -1,61 +1,66 @@
 //! What is named as made, changed or taken away.
 
-use crate::table::{draw, hold, invoke, make, new_table, set_field, sweep_but};
-use ash_host::Word;
-use std::test::Fail;
+use crate::checks::expect_all;
+use crate::steps::{Memory, Sequence, Step, first_unmet};
+use ash_host::{Event, Target, Word};
+
+static CHANGED: Sequence<'static> = Sequence {
+    pool: &[11, 12],
+    steps: &[
+        Step::Make(1, Ok(1)),
+        Step::Make(1, Ok(2)),
+        Step::Draw(1, 1, Ok(3)),
+        Step::SetField(1, 0, Word::Object(3)),
+        Step::Hold(1),
+        Step::Touched(&[1, 2, 3], &[]),
+        // Only what a call changed, or a sweep took; what was made and went is not named.
+        Step::Add(3, 1, 2),
+        Step::Draw(1, 1, Ok(4)),
+        Step::Sweep,
+        Step::Touched(&[3], &[2]),
+        Step::Touched(&[], &[]),
+    ],
+    events: &[
+        Event::Drew(3),
+        Event::Called(Target::Object(3), 1),
+        Event::Drew(4),
+        Event::Dropped(4),
+    ],
+    given_up: &[(12, 1)],
+    with_the_table: &[(12, 1), (11, 2)],
+};
 
 #[test]
-fn what_changed_is_named_once(rt: HostRuntime) -> Result<(), Fail> {
-    let (mut objects, _log) = new_table(rt.alloc(), 2)?;
-    let mut events = Vec::new(rt.alloc());
-    make(rt.alloc(), &mut objects, 1)?.ok();
-    make(rt.alloc(), &mut objects, 1)?.ok();
-    draw(&mut objects, 1, &mut events)?;
-    assert!(rt; set_field(&mut objects, 1, 0, Word::Object(3)));
-    assert!(rt; hold(&mut objects, 1));
-    let first = objects.touched()?;
-    assert_eq!(rt; first.living.as_slice(), [1, 2, 3].as_slice());
-    assert!(rt; first.gone.is_empty());
-
-    // Only what a call changed, or a sweep took; what was made and went is not named.
-    assert!(rt; invoke(&mut objects, 3, 1, 1, &mut events)?.is_some());
-    draw(&mut objects, 1, &mut events)?;
-    objects.sweep(&mut events)?;
-    let second = objects.touched()?;
-    assert_eq!(rt; second.living.as_slice(), [3].as_slice());
-    assert_eq!(rt; second.gone.as_slice(), [2].as_slice());
-
-    let third = objects.touched()?;
-    assert!(rt; third.living.is_empty());
-    assert!(rt; third.gone.is_empty());
-    Ok(())
+fn what_changed_is_named_once(rt: HostRuntime) {
+    expect_all(&rt, first_unmet(rt.alloc(), &CHANGED, Memory::Ample));
 }
 
+static SLOTS: Sequence<'static> = Sequence {
+    pool: &[],
+    steps: &[
+        Step::Make(1, Ok(1)),
+        Step::Make(1, Ok(2)),
+        Step::Make(1, Ok(3)),
+        Step::Touched(&[1, 2, 3], &[]),
+        // Two objects take the slots of two that went, and are named after an older one that is in a later slot.
+        Step::SweepBut(3),
+        Step::Make(1, Ok(4)),
+        Step::Make(1, Ok(5)),
+        Step::SetField(3, 0, Word::Object(5)),
+        Step::Touched(&[3, 4, 5], &[1, 2]),
+        // One object after the other takes a slot, and only the last of them lives.
+        Step::SweepBut(5),
+        Step::Make(1, Ok(6)),
+        Step::SweepBut(5),
+        Step::Make(1, Ok(7)),
+        Step::Touched(&[7], &[3, 4]),
+    ],
+    events: &[],
+    given_up: &[],
+    with_the_table: &[],
+};
+
 #[test]
-fn what_takes_a_slot_again_is_named(rt: HostRuntime) -> Result<(), Fail> {
-    let (mut objects, _log) = new_table(rt.alloc(), 0)?;
-    let mut events = Vec::new(rt.alloc());
-    for _ in 0..3 {
-        make(rt.alloc(), &mut objects, 1)?.ok();
-    }
-    objects.touched()?;
-
-    // Two objects take the slots of two that went, and are named after an older one that is in a later slot.
-    assert!(rt; sweep_but(&mut objects, 3, &mut events)?);
-    make(rt.alloc(), &mut objects, 1)?.ok();
-    make(rt.alloc(), &mut objects, 1)?.ok();
-    assert!(rt; set_field(&mut objects, 3, 0, Word::Object(5)));
-    let second = objects.touched()?;
-    assert_eq!(rt; second.living.as_slice(), [3, 4, 5].as_slice());
-    assert_eq!(rt; second.gone.as_slice(), [1, 2].as_slice());
-
-    // One object after the other takes a slot, and only the last of them lives.
-    assert!(rt; sweep_but(&mut objects, 5, &mut events)?);
-    make(rt.alloc(), &mut objects, 1)?.ok();
-    assert!(rt; sweep_but(&mut objects, 5, &mut events)?);
-    make(rt.alloc(), &mut objects, 1)?.ok();
-    let third = objects.touched()?;
-    assert_eq!(rt; third.living.as_slice(), [7].as_slice());
-    assert_eq!(rt; third.gone.as_slice(), [3, 4].as_slice());
-    Ok(())
+fn what_takes_a_slot_again_is_named(rt: HostRuntime) {
+    expect_all(&rt, first_unmet(rt.alloc(), &SLOTS, Memory::Ample));
 }

@@ -1,12 +1,12 @@
 //! States that are refused, and the boxes that are given up then: those of the pool and of the services.
 
-use crate::pools::{RestoreInput, SERVICES, Service, has_reported_then, restored};
-use crate::restoring::SavedHost;
+use crate::checks::expect_all;
+use crate::reporter::has_reported_then;
+use crate::states::{RestoreInput, SERVICES, SavedHost, Service, restored};
 use crate::table::new_log;
+use ash_host::NoMemory;
 use ash_objects::TableFault;
 use std::alloc::Global;
-use std::process::Abort;
-use std::test::Fail;
 
 // Why a state is refused, and the boxes that are given up then: each once, with its number where it had taken its
 // state.
@@ -151,24 +151,24 @@ static REFUSALS: [Refusal<'static>; 6] = [
     },
 ];
 
-fn check_refusal(
-    rt: &impl Abort,
-    alloc: Global,
-    refusal: &Refusal<'_>,
-    place: usize,
-) -> Result<(), Fail> {
+fn is_met(alloc: Global, refusal: &Refusal<'_>) -> Result<bool, NoMemory> {
     let log = new_log(alloc, 8)?;
-    let fault = restored(alloc, &log, &refusal.input)?.err();
-    assert_eq!(rt; fault, Some(refusal.fault), "the fault of refusal {place}");
-    let is_met = has_reported_then(&log, 0, refusal.given_up);
-    assert!(rt; is_met, "what is given up by refusal {place}");
-    Ok(())
+    match restored(alloc, &log, &refusal.input)? {
+        Ok(_) => Ok(false),
+        Err(fault) => Ok(fault == refusal.fault && has_reported_then(&log, 0, refusal.given_up)),
+    }
+}
+
+fn first_unmet(alloc: Global) -> Result<Option<usize>, NoMemory> {
+    for place in 0..REFUSALS.len() {
+        if !is_met(alloc, &REFUSALS[place])? {
+            return Ok(Some(place));
+        }
+    }
+    Ok(None)
 }
 
 #[test]
-fn boxes_of_a_refused_state_are_given_up(rt: HostRuntime) -> Result<(), Fail> {
-    for (place, refusal) in REFUSALS.iter().enumerate() {
-        check_refusal(&rt, rt.alloc(), refusal, place)?;
-    }
-    Ok(())
+fn boxes_of_a_refused_state_are_given_up(rt: HostRuntime) {
+    expect_all(&rt, first_unmet(rt.alloc()));
 }

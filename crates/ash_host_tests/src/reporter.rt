@@ -37,6 +37,27 @@ pub fn has_reported(log: &Log, wanted: &[(u16, i32)]) -> bool {
     }
 }
 
+// Whether a counter of this name is among these, with this number if one is named.
+fn is_among(found: &[(u16, i32)], name: u16, number: Option<i32>) -> bool {
+    found.iter().any(|report| report.0 == name && number.is_none_or(|number| report.1 == number))
+}
+
+/// Whether these counters are the ones that were given up after so many others, in any order, each with its number if
+/// one is named.
+pub fn has_reported_then(log: &Log, many: usize, wanted: &[(u16, Option<i32>)]) -> bool {
+    let Ok(found) = log.try_borrow() else {
+        return false;
+    };
+    if found.len() < many {
+        return false;
+    }
+    let found = &found[many..];
+    found.len() == wanted.len()
+        && wanted
+            .iter()
+            .all(|report| is_among(found, report.0, report.1))
+}
+
 impl HostObject for Reporter {
     ghost kind_of = { λ r. r.kind };
 

@@ -1,32 +1,32 @@
 //! Sequences of calls, with the events that they leave.
 
-use crate::steps::{Memory, Sequence, Step, check};
-use crate::table::{draw, new_table, sweep_but};
+use crate::checks::expect_all;
+use crate::steps::{Memory, Sequence, Step, first_unmet};
 use ash_host::{Event, Target, Word};
-use std::test::Fail;
+use ash_objects::MakeFault;
 
 static LET_GO: Sequence<'static> = Sequence {
-    counters: 1,
-    steps: &[Step::Draw(1, 1), Step::Add(1, 1, 2), Step::Sweep],
+    pool: &[11],
+    steps: &[Step::Draw(1, 1, Ok(1)), Step::Add(1, 1, 2), Step::Sweep],
     events: &[
         Event::Drew(1),
         Event::Called(Target::Object(1), 1),
         Event::Dropped(1),
     ],
-    given_up: &[(1, 2)],
-    with_the_table: &[(1, 2)],
+    given_up: &[(11, 2)],
+    with_the_table: &[(11, 2)],
 };
 
 #[test]
-fn an_object_that_is_let_go_is_dropped(rt: HostRuntime) -> Result<(), Fail> {
-    check(&rt, rt.alloc(), &LET_GO, Memory::Ample)
+fn an_object_that_is_let_go_is_dropped(rt: HostRuntime) {
+    expect_all(&rt, first_unmet(rt.alloc(), &LET_GO, Memory::Ample));
 }
 
 static EACH: Sequence<'static> = Sequence {
-    counters: 2,
+    pool: &[11, 12],
     steps: &[
-        Step::Draw(1, 1),
-        Step::Draw(2, 5),
+        Step::Draw(1, 1, Ok(1)),
+        Step::Draw(1, 5, Ok(2)),
         Step::Add(2, 1, 6),
         Step::SweepBut(2),
         Step::Add(2, 1, 7),
@@ -40,25 +40,25 @@ static EACH: Sequence<'static> = Sequence {
         Event::Called(Target::Object(2), 1),
         Event::Dropped(2),
     ],
-    given_up: &[(1, 1), (2, 7)],
-    with_the_table: &[(1, 1), (2, 7)],
+    given_up: &[(11, 1), (12, 7)],
+    with_the_table: &[(11, 1), (12, 7)],
 };
 
 #[test]
-fn each_is_dropped_where_it_is_let_go(rt: HostRuntime) -> Result<(), Fail> {
-    check(&rt, rt.alloc(), &EACH, Memory::Ample)
+fn each_is_dropped_where_it_is_let_go(rt: HostRuntime) {
+    expect_all(&rt, first_unmet(rt.alloc(), &EACH, Memory::Ample));
 }
 
 // The box that is never drawn is the pool's, and goes with the table.
 static ASCENDING: Sequence<'static> = Sequence {
-    counters: 3,
+    pool: &[11, 12, 13],
     steps: &[
-        Step::Make(1, 1),
-        Step::Make(1, 2),
-        Step::Draw(3, 3),
+        Step::Make(1, Ok(1)),
+        Step::Make(1, Ok(2)),
+        Step::Draw(1, 3, Ok(3)),
         Step::SetField(1, 0, Word::Object(3)),
-        Step::Make(1, 4),
-        Step::Draw(5, 5),
+        Step::Make(1, Ok(4)),
+        Step::Draw(1, 5, Ok(5)),
         Step::SetField(2, 0, Word::Object(5)),
         Step::SetField(4, 0, Word::Object(3)),
         Step::HasCount(3, 2),
@@ -71,22 +71,22 @@ static ASCENDING: Sequence<'static> = Sequence {
         Event::Dropped(3),
         Event::Dropped(5),
     ],
-    given_up: &[(1, 3), (2, 5)],
-    with_the_table: &[(1, 3), (2, 5), (3, 0)],
+    given_up: &[(11, 3), (12, 5)],
+    with_the_table: &[(11, 3), (12, 5), (13, 0)],
 };
 
 #[test]
-fn boxes_are_given_up_by_ascending_number(rt: HostRuntime) -> Result<(), Fail> {
-    check(&rt, rt.alloc(), &ASCENDING, Memory::Ample)
+fn boxes_are_given_up_by_ascending_number(rt: HostRuntime) {
+    expect_all(&rt, first_unmet(rt.alloc(), &ASCENDING, Memory::Ample));
 }
 
 static CHAIN: Sequence<'static> = Sequence {
-    counters: 1,
+    pool: &[11],
     steps: &[
-        Step::Make(1, 1),
-        Step::Make(1, 2),
-        Step::Make(1, 3),
-        Step::Draw(4, 7),
+        Step::Make(1, Ok(1)),
+        Step::Make(1, Ok(2)),
+        Step::Make(1, Ok(3)),
+        Step::Draw(1, 7, Ok(4)),
         Step::SetField(1, 0, Word::Object(2)),
         Step::SetField(2, 0, Word::Object(3)),
         Step::SetField(3, 0, Word::Object(4)),
@@ -99,78 +99,83 @@ static CHAIN: Sequence<'static> = Sequence {
     ],
     events: &[Event::Drew(4)],
     given_up: &[],
-    with_the_table: &[(1, 7)],
+    with_the_table: &[(11, 7)],
 };
 
 #[test]
-fn a_chain_goes_at_once(rt: HostRuntime) -> Result<(), Fail> {
-    check(&rt, rt.alloc(), &CHAIN, Memory::Ample)
+fn a_chain_goes_at_once(rt: HostRuntime) {
+    expect_all(&rt, first_unmet(rt.alloc(), &CHAIN, Memory::Ample));
 }
 
 static ONCE: Sequence<'static> = Sequence {
-    counters: 1,
+    pool: &[11],
     steps: &[
-        Step::Draw(1, 1),
+        Step::Draw(1, 1, Ok(1)),
         Step::Sweep,
-        Step::LacksKind(1),
-        Step::LacksKind(2),
+        Step::Draw(1, 0, Err(MakeFault::PoolEmpty)),
+        Step::Draw(2, 0, Err(MakeFault::PoolEmpty)),
     ],
     events: &[Event::Drew(1), Event::Dropped(1)],
-    given_up: &[(1, 1)],
-    with_the_table: &[(1, 1)],
+    given_up: &[(11, 1)],
+    with_the_table: &[(11, 1)],
 };
 
 #[test]
-fn a_box_is_drawn_once(rt: HostRuntime) -> Result<(), Fail> {
-    check(&rt, rt.alloc(), &ONCE, Memory::Ample)
+fn a_box_is_drawn_once(rt: HostRuntime) {
+    expect_all(&rt, first_unmet(rt.alloc(), &ONCE, Memory::Ample));
 }
 
 static RAISED: Sequence<'static> = Sequence {
-    counters: 1,
-    steps: &[Step::Draw(1, 1), Step::Raise(1, 9), Step::Sweep],
+    pool: &[11],
+    steps: &[Step::Draw(1, 1, Ok(1)), Step::Raise(1, 9), Step::Sweep],
     events: &[
         Event::Drew(1),
         Event::Called(Target::Object(1), 2),
         Event::Dropped(1),
     ],
-    given_up: &[(1, 1)],
-    with_the_table: &[(1, 1)],
+    given_up: &[(11, 1)],
+    with_the_table: &[(11, 1)],
 };
 
 #[test]
-fn an_object_that_raised_is_dropped(rt: HostRuntime) -> Result<(), Fail> {
-    check(&rt, rt.alloc(), &RAISED, Memory::Ample)
+fn an_object_that_raised_is_dropped(rt: HostRuntime) {
+    expect_all(&rt, first_unmet(rt.alloc(), &RAISED, Memory::Ample));
 }
 
-#[test]
-fn a_slot_is_used_again_and_a_number_is_not(rt: HostRuntime) -> Result<(), Fail> {
-    let (mut objects, _log) = new_table(rt.alloc(), 3)?;
-    let mut events = Vec::new(rt.alloc());
-    draw(&mut objects, 1, &mut events)?;
-    let slot = objects.slot(1);
-    draw(&mut objects, 2, &mut events)?;
-    assert!(rt; sweep_but(&mut objects, 2, &mut events)?);
-    assert_eq!(rt; objects.slot(1), None);
-    draw(&mut objects, 3, &mut events)?;
-    assert_eq!(rt; objects.slot(3), slot);
-    objects.sweep(&mut events)?;
-    let expected = [
+static SLOTS: Sequence<'static> = Sequence {
+    pool: &[11, 12, 13],
+    steps: &[
+        Step::Draw(1, 1, Ok(1)),
+        Step::IsIn(1, 0),
+        Step::Draw(1, 2, Ok(2)),
+        Step::SweepBut(2),
+        Step::IsGone(1),
+        Step::Draw(1, 3, Ok(3)),
+        Step::IsIn(3, 0),
+        Step::Sweep,
+    ],
+    events: &[
         Event::Drew(1),
         Event::Drew(2),
         Event::Dropped(1),
         Event::Drew(3),
         Event::Dropped(2),
         Event::Dropped(3),
-    ];
-    assert_eq!(rt; events.as_slice(), expected.as_slice());
-    Ok(())
+    ],
+    given_up: &[(11, 1), (12, 2), (13, 3)],
+    with_the_table: &[(11, 1), (12, 2), (13, 3)],
+};
+
+#[test]
+fn a_slot_is_used_again_and_a_number_is_not(rt: HostRuntime) {
+    expect_all(&rt, first_unmet(rt.alloc(), &SLOTS, Memory::Ample));
 }
 
 static OVER_ITSELF: Sequence<'static> = Sequence {
-    counters: 1,
+    pool: &[11],
     steps: &[
-        Step::Make(1, 1),
-        Step::Draw(2, 1),
+        Step::Make(1, Ok(1)),
+        Step::Draw(1, 1, Ok(2)),
         Step::SetField(1, 0, Word::Object(2)),
         Step::SetField(1, 0, Word::Object(2)),
         Step::HasCount(2, 1),
@@ -180,11 +185,11 @@ static OVER_ITSELF: Sequence<'static> = Sequence {
         Step::SweepBut(1),
     ],
     events: &[Event::Drew(2), Event::Dropped(2)],
-    given_up: &[(1, 1)],
-    with_the_table: &[(1, 1)],
+    given_up: &[(11, 1)],
+    with_the_table: &[(11, 1)],
 };
 
 #[test]
-fn a_handle_that_is_written_over_itself_stays(rt: HostRuntime) -> Result<(), Fail> {
-    check(&rt, rt.alloc(), &OVER_ITSELF, Memory::Ample)
+fn a_handle_that_is_written_over_itself_stays(rt: HostRuntime) {
+    expect_all(&rt, first_unmet(rt.alloc(), &OVER_ITSELF, Memory::Ample));
 }

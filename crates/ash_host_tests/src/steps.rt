@@ -8,49 +8,58 @@ use crate::table::{
     words_in,
 };
 use ash_host::{Event, HostAnswer, NoMemory, Word};
-use ash_objects::{Element, LengthFault, MakeFault, Objects};
+use ash_objects::{Element, IndexOutOfBounds, LengthFault, MakeFault};
 use std::alloc::Global;
-use std::process::Abort;
-use std::test::Fail;
 
 /// A step, with what it must come to.
 #[derive(Clone, Copy)]
 pub enum Step {
-    /// An object of a class with so many fields is made, and gets this number.
-    Make(usize, u64),
-    /// A counter is drawn, gets this number, and is started with this value.
-    Draw(u64, i32),
-    /// The pool has no host object of this kind.
-    LacksKind(u16),
+    /// An object of a class with so many fields is made, and gets this number, or is not made.
+    Make(usize, Result<u64, MakeFault>),
+    /// So many objects of a class without fields are made.
+    MakeEach(usize),
+    /// An array of so many elements is made, and gets this number, or is not made.
+    MakeArray(Element, usize, Result<u64, MakeFault>),
+    /// A box of this kind is drawn, and gets this number and is started with this value, or is not drawn.
+    Draw(u16, i32, Result<u64, MakeFault>),
     /// A counter adds the first value and returns the second.
     Add(u64, i32, i32),
     /// A counter raises this code.
     Raise(u64, u16),
     /// A word is written to a field of an object.
     SetField(u64, usize, Word),
-    /// An array of so many elements is made, and gets this number.
-    MakeArray(usize, u64),
+    /// A word is written to an array at an index.
+    SetElement(u64, usize, Word, Result<(), IndexOutOfBounds>),
     /// An array gets so many elements.
-    Resize(u64, usize),
+    Resize(u64, usize, Result<(), LengthFault>),
     /// An array gets one element more.
-    Insert(u64, Word),
+    Insert(u64, Word, Result<(), LengthFault>),
     /// An array loses its last element.
-    Remove(u64),
+    Remove(u64, Result<(), IndexOutOfBounds>),
     /// An object is held once more.
     Hold(u64),
     /// What nothing holds goes.
     Sweep,
     /// What nothing holds goes, while this object is held. It is for ample memory.
     SweepBut(u64),
-    /// So many objects are named as made or changed, and so many as gone.
-    Touched(usize, usize),
+    /// The first numbers are named as those of objects that were made or changed, the others as of those that went.
+    Touched(&'static [u64], &'static [u64]),
     /// An object holds so many words.
     HasWords(u64, usize),
     /// An object is held by so many.
     HasCount(u64, u128),
+    /// An array has this number at an index.
+    HasNumber(u64, usize, i32),
+    /// An array has nothing at an index.
+    HasNothing(u64, usize),
+    /// An object is in this slot.
+    IsIn(u64, usize),
     /// No object has this number.
     IsGone(u64),
 }
+
+/// What the elements of an array of handles are.
+pub const HANDLES: Element = Element::Class(0, 0);
 
 /// Whether memory is ample, or one allocation may be refused.
 #[derive(Clone, Copy)]
@@ -59,9 +68,10 @@ pub enum Memory {
     RefusedOnce,
 }
 
-/// Steps over a table with so many free counters, and what they must leave.
+/// Steps over a table, and what they must leave.
 pub struct Sequence<'a> {
-    pub counters: u16,
+    /// The names of the free boxes, in order.
+    pub pool: &'a [u16],
     pub steps: &'a [Step],
     pub events: &'a [Event],
     /// The names and numbers of the counters that were given up, in order.
@@ -70,28 +80,28 @@ pub struct Sequence<'a> {
     pub with_the_table: &'a [(u16, i32)],
 }
 
-// Whether an object was made, and got this number.
-fn has_number(answer: Result<u64, MakeFault>, number: u64) -> Result<bool, NoMemory> {
+// Whether an object was made or not made as it must be.
+fn is_made(
+    answer: Result<u64, MakeFault>,
+    wanted: Result<u64, MakeFault>,
+) -> Result<bool, NoMemory> {
     match answer {
-        Ok(found) => Ok(found == number),
         Err(MakeFault::NoMemory) => Err(NoMemory),
-        Err(_) => Ok(false),
+        _ => Ok(answer == wanted),
     }
 }
 
-fn makes(alloc: Global, objects: &mut Table, fields: usize, number: u64) -> Result<bool, NoMemory> {
-    if fields > 32 {
-        return Ok(false);
+fn make_each(alloc: Global, objects: &mut Table, many: usize) -> bool {
+    for _ in 0..many {
+        if make(alloc, objects, 0).is_err() {
+            return false;
+        }
     }
-    has_number(make(alloc, objects, fields)?, number)
+    true
 }
 
-fn lacks_kind(objects: &mut Table, kind: u16, events: &mut Vec<Event>) -> Result<bool, NoMemory> {
-    match objects.draw(kind, events) {
-        Err(MakeFault::PoolEmpty) => Ok(true),
-        Err(MakeFault::NoMemory) => Err(NoMemory),
-        _ => Ok(false),
-    }
+fn make_array(objects: &mut Table, element: Element, length: usize) -> Result<u64, MakeFault> {
+    objects.new_array(element, length)
 }
 
 fn adds(
@@ -119,39 +129,77 @@ fn raises(
     }
 }
 
-// Whether an array got its length.
-fn has_length(answer: Result<(), LengthFault>) -> Result<bool, NoMemory> {
+fn is_written(
+    objects: &mut Table,
+    number: u64,
+    index: usize,
+    word: Word,
+    wanted: Result<(), IndexOutOfBounds>,
+) -> bool {
+    is_array(objects, number)
+        && is_alive(objects, word)
+        && objects.set_element(number, index, word) == wanted
+}
+
+// Whether an array got its length, or did not, as it must be.
+fn has_length(
+    answer: Result<(), LengthFault>,
+    wanted: Result<(), LengthFault>,
+) -> Result<bool, NoMemory> {
     match answer {
-        Ok(()) => Ok(true),
-        Err(LengthFault::TooLong) => Ok(false),
         Err(LengthFault::NoMemory) => Err(NoMemory),
+        _ => Ok(answer == wanted),
     }
 }
 
-fn resizes(objects: &mut Table, number: u64, length: usize) -> Result<bool, NoMemory> {
+fn resizes(
+    objects: &mut Table,
+    number: u64,
+    length: usize,
+    wanted: Result<(), LengthFault>,
+) -> Result<bool, NoMemory> {
     if !is_array(objects, number) {
         return Ok(false);
     }
-    has_length(objects.resize(number, length))
+    has_length(objects.resize(number, length), wanted)
 }
 
-fn inserts(objects: &mut Table, number: u64, word: Word) -> Result<bool, NoMemory> {
+fn inserts(
+    objects: &mut Table,
+    number: u64,
+    word: Word,
+    wanted: Result<(), LengthFault>,
+) -> Result<bool, NoMemory> {
     if !is_array(objects, number) || !is_alive(objects, word) {
         return Ok(false);
     }
-    has_length(objects.insert_last(number, word))
+    has_length(objects.insert_last(number, word), wanted)
 }
 
-fn removes(objects: &mut Table, number: u64) -> bool {
-    is_array(objects, number) && objects.remove_last(number).is_ok()
+fn removes(objects: &mut Table, number: u64, wanted: Result<(), IndexOutOfBounds>) -> bool {
+    is_array(objects, number) && objects.remove_last(number) == wanted
 }
 
-fn touches(objects: &mut Table, living: usize, gone: usize) -> Result<bool, NoMemory> {
+fn sweeps(objects: &mut Table, events: &mut Vec<Event>) -> Result<bool, NoMemory> {
+    objects.sweep(events)?;
+    Ok(true)
+}
+
+fn touches(objects: &mut Table, living: &[u64], gone: &[u64]) -> Result<bool, NoMemory> {
     let touched = objects.touched()?;
-    Ok(touched.living.len() == living && touched.gone.len() == gone)
+    Ok(touched.living.as_slice() == living && touched.gone.as_slice() == gone)
 }
 
-// Takes a step, and returns whether it came to what it must.
+// What an array has at an index.
+fn element(objects: &Table, number: u64, index: usize) -> Option<Word> {
+    if is_array(objects, number) {
+        objects.element(number, index)
+    } else {
+        Some(Word::Null)
+    }
+}
+
+// Takes a step that changes the table, and returns whether it came to what it must; else looks at the table.
 fn take(
     alloc: Global,
     objects: &mut Table,
@@ -159,33 +207,46 @@ fn take(
     events: &mut Vec<Event>,
 ) -> Result<bool, NoMemory> {
     match step {
-        Step::Make(fields, number) => makes(alloc, objects, fields, number),
-        Step::Draw(number, start) => has_number(draw(objects, start, events), number),
-        Step::LacksKind(kind) => lacks_kind(objects, kind, events),
+        Step::Make(fields, wanted) => is_made(make(alloc, objects, fields), wanted),
+        Step::MakeEach(many) => Ok(make_each(alloc, objects, many)),
+        Step::MakeArray(element, length, wanted) => {
+            is_made(make_array(objects, element, length), wanted)
+        }
+        Step::Draw(kind, start, wanted) => is_made(draw(objects, kind, start, events), wanted),
         Step::Add(number, by, sum) => adds(objects, number, by, sum, events),
         Step::Raise(number, code) => raises(objects, number, code, events),
         Step::SetField(number, place, word) => Ok(set_field(objects, number, place, word)),
-        Step::MakeArray(length, number) => {
-            has_number(objects.new_array(Element::Class(0, 0), length), number)
+        Step::SetElement(number, index, word, wanted) => {
+            Ok(is_written(objects, number, index, word, wanted))
         }
-        Step::Resize(number, length) => resizes(objects, number, length),
-        Step::Insert(number, word) => inserts(objects, number, word),
-        Step::Remove(number) => Ok(removes(objects, number)),
+        Step::Resize(number, length, wanted) => resizes(objects, number, length, wanted),
+        Step::Insert(number, word, wanted) => inserts(objects, number, word, wanted),
+        Step::Remove(number, wanted) => Ok(removes(objects, number, wanted)),
         Step::Hold(number) => Ok(hold(objects, number)),
-        Step::Sweep => {
-            objects.sweep(events)?;
-            Ok(true)
-        }
+        Step::Sweep => sweeps(objects, events),
         Step::SweepBut(number) => sweep_but(objects, number, events),
         Step::Touched(living, gone) => touches(objects, living, gone),
-        Step::HasWords(number, many) => Ok(words_in(objects, number) == many),
-        Step::HasCount(number, many) => Ok(count(objects, number) == Some(many)),
-        Step::IsGone(number) => Ok(objects.slot(number).is_none()),
+        _ => Ok(shows(objects, step)),
+    }
+}
+
+// Whether a table is as a step that only looks at it says.
+fn shows(objects: &Table, step: Step) -> bool {
+    match step {
+        Step::HasWords(number, many) => words_in(objects, number) == many,
+        Step::HasCount(number, many) => count(objects, number) == Some(many),
+        Step::HasNumber(number, index, wanted) => {
+            matches!(element(objects, number, index), Some(Word::Int(found)) if found == wanted)
+        }
+        Step::HasNothing(number, index) => element(objects, number, index).is_none(),
+        Step::IsIn(number, slot) => objects.slot(number) == Some(slot),
+        Step::IsGone(number) => objects.slot(number).is_none(),
+        _ => false,
     }
 }
 
 /// The counts of the objects with the numbers from 1 to 4.
-pub fn counts<B>(objects: &Objects<B>) -> [Option<u128>; 4] {
+pub fn counts(objects: &Table) -> [Option<u128>; 4] {
     [
         count(objects, 1),
         count(objects, 2),
@@ -232,32 +293,74 @@ fn take_with(
     }
 }
 
-fn new_table_with(alloc: Global, counters: u16, memory: Memory) -> Result<(Table, Log), NoMemory> {
+// Takes the steps in order up to the first that does not come to what it must.
+fn first_unmet_step(
+    alloc: Global,
+    objects: &mut Table,
+    steps: &[Step],
+    events: &mut Vec<Event>,
+    memory: Memory,
+) -> Result<Option<usize>, NoMemory> {
+    for place in 0..steps.len() {
+        if !take_with(alloc, objects, steps[place], events, memory)? {
+            return Ok(Some(place));
+        }
+    }
+    Ok(None)
+}
+
+fn new_table_with(alloc: Global, pool: &[u16], memory: Memory) -> Result<(Table, Log), NoMemory> {
     match memory {
-        Memory::Ample => new_table(alloc, counters),
-        Memory::RefusedOnce => match new_table(alloc, counters) {
+        Memory::Ample => new_table(alloc, pool),
+        Memory::RefusedOnce => match new_table(alloc, pool) {
             Ok(table) => Ok(table),
-            Err(_) => new_table(alloc, counters),
+            Err(_) => new_table(alloc, pool),
         },
     }
 }
 
-/// Takes the steps in order, and looks at what each comes to and at what they leave.
-pub fn check(
-    rt: &impl Abort,
+// Whether the counters that must be were given up; then the table goes, and with it those that must.
+fn gives_up(objects: Table, log: &Log, sequence: &Sequence<'_>) -> bool {
+    let is_met = has_reported(log, sequence.given_up);
+    drop(objects);
+    is_met && has_reported(log, sequence.with_the_table)
+}
+
+// Takes the steps in order over a table, and looks at what they leave.
+fn first_unmet_with(
+    alloc: Global,
+    mut objects: Table,
+    log: &Log,
+    sequence: &Sequence<'_>,
+    memory: Memory,
+) -> Result<Option<usize>, NoMemory> {
+    let mut events = Vec::new(alloc);
+    let steps = sequence.steps;
+    let unmet = first_unmet_step(alloc, &mut objects, steps, &mut events, memory)?;
+    let leaves_events = events.as_slice() == sequence.events;
+    if unmet.is_none() && !(gives_up(objects, log, sequence) && leaves_events) {
+        return Ok(Some(steps.len()));
+    }
+    Ok(unmet)
+}
+
+/// The same over this table, with ample memory.
+pub fn first_unmet_of(
+    alloc: Global,
+    objects: Table,
+    log: &Log,
+    sequence: &Sequence<'_>,
+) -> Result<Option<usize>, NoMemory> {
+    first_unmet_with(alloc, objects, log, sequence, Memory::Ample)
+}
+
+/// Takes the steps in order, and looks at what each comes to and at what they leave. The place of the first step that
+/// does not come to what it must, and the one after the last step where what they leave is not what it must be.
+pub fn first_unmet(
     alloc: Global,
     sequence: &Sequence<'_>,
     memory: Memory,
-) -> Result<(), Fail> {
-    let (mut objects, log) = new_table_with(alloc, sequence.counters, memory)?;
-    let mut events = Vec::new(alloc);
-    for (place, step) in sequence.steps.iter().enumerate() {
-        let is_met = take_with(alloc, &mut objects, *step, &mut events, memory)?;
-        assert!(rt; is_met, "step {place}");
-    }
-    assert_eq!(rt; events.as_slice(), sequence.events);
-    assert!(rt; has_reported(&log, sequence.given_up));
-    drop(objects);
-    assert!(rt; has_reported(&log, sequence.with_the_table));
-    Ok(())
+) -> Result<Option<usize>, NoMemory> {
+    let (objects, log) = new_table_with(alloc, sequence.pool, memory)?;
+    first_unmet_with(alloc, objects, &log, sequence, memory)
 }

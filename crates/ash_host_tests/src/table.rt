@@ -1,5 +1,5 @@
 //! A table of counters that report, and its calls, each made only where a test finds that it may be.
-ghost use Rattle.std.specs.Prelude.{◌≡◌, ◌≤◌, IsTrue, IsSome};
+ghost use Rattle.std.specs.Prelude.{IsTrue, IsSome};
 ghost use Rattle.ash_host.specs.Objects.{Lives};
 ghost use Rattle.ash_objects.specs.Table.{IsAlive, field_of};
 ghost use Rattle.ash_objects.specs.Arrays.{array_at, elements_at};
@@ -21,39 +21,40 @@ pub fn new_log(alloc: Global, many: usize) -> Result<Log, NoMemory> {
     Ok(Rc::new(alloc, RefCell::new(names))?)
 }
 
-/// A counter of a kind that reports to a log under a name.
-pub fn new_reporter(log: &Log, name: u16, kind: u16) -> Result<Reporter, NoMemory> {
+/// The box of a name, whose first digit is its kind.
+pub fn new_box(log: &Log, name: u16) -> Result<Reporter, NoMemory> {
+    let log = log.clone()?;
     Ok(Reporter {
         name,
-        kind,
+        kind: name / 10,
         counter: Counter::new(),
-        log: log.clone()?,
+        log,
     })
 }
 
-/// So many counters of kind 1, with the names from 1 on.
-pub fn new_pool(alloc: Global, log: &Log, counters: u16) -> Result<Vec<Reporter>, NoMemory> {
-    let mut pool = Vec::new(alloc);
-    for place in 0..counters {
-        pool.push(new_reporter(log, place + 1, 1)?)?;
+/// Boxes with these names, in order.
+pub fn new_boxes(alloc: Global, log: &Log, names: &[u16]) -> Result<Vec<Reporter>, NoMemory> {
+    let mut boxes = Vec::new(alloc);
+    for name in names {
+        boxes.push(new_box(log, *name)?)?;
     }
-    Ok(pool)
+    Ok(boxes)
 }
 
-/// A table with so many free counters, and what they report to.
-pub fn new_table(alloc: Global, counters: u16) -> Result<(Table, Log), NoMemory> {
-    let log = new_log(alloc, usize::from(counters))?;
-    let pool = new_pool(alloc, &log, counters)?;
+/// A table with free boxes of these names, and what they report to.
+pub fn new_table(alloc: Global, pool: &[u16]) -> Result<(Table, Log), NoMemory> {
+    let log = new_log(alloc, pool.len())?;
+    let pool = new_boxes(alloc, &log, pool)?;
     Ok((Objects::new(alloc, pool, Vec::new(alloc)), log))
 }
 
-pub fn lives<B>(objects: &Objects<B>, number: u64) -> bool
+pub fn lives(objects: &Table, number: u64) -> bool
     ensures { IsTrue result → Lives objects.now.objects number }
 {
     objects.slot(number).is_some()
 }
 
-pub fn is_alive<B>(objects: &Objects<B>, word: Word) -> bool
+pub fn is_alive(objects: &Table, word: Word) -> bool
     ensures { IsTrue result → IsAlive word objects.now }
 {
     match word {
@@ -62,7 +63,7 @@ pub fn is_alive<B>(objects: &Objects<B>, word: Word) -> bool
     }
 }
 
-pub fn has_field<B>(objects: &Objects<B>, number: u64, place: usize) -> bool
+pub fn has_field(objects: &Table, number: u64, place: usize) -> bool
     ensures { IsTrue result → IsSome (field_of number place objects.now) }
 {
     match objects.body(number) {
@@ -71,7 +72,7 @@ pub fn has_field<B>(objects: &Objects<B>, number: u64, place: usize) -> bool
     }
 }
 
-pub fn is_host<B>(objects: &Objects<B>, number: u64) -> bool
+pub fn is_host(objects: &Table, number: u64) -> bool
     ensures { IsTrue result → IsSome (box_at number objects.now) }
 {
     match objects.body(number) {
@@ -81,7 +82,7 @@ pub fn is_host<B>(objects: &Objects<B>, number: u64) -> bool
 }
 
 /// Whether it is an array that lives.
-pub fn is_array<B>(objects: &Objects<B>, number: u64) -> bool
+pub fn is_array(objects: &Table, number: u64) -> bool
     ensures array { IsTrue result → IsSome (array_at number objects.now) }
     ensures elements { IsTrue result → IsSome (elements_at number objects.now) }
 {
@@ -89,7 +90,7 @@ pub fn is_array<B>(objects: &Objects<B>, number: u64) -> bool
 }
 
 /// The count of an object. `None` where it does not live.
-pub fn count<B>(objects: &Objects<B>, number: u64) -> Option<u128> {
+pub fn count(objects: &Table, number: u64) -> Option<u128> {
     if lives(objects, number) {
         Some(objects.count(number))
     } else {
@@ -98,7 +99,7 @@ pub fn count<B>(objects: &Objects<B>, number: u64) -> Option<u128> {
 }
 
 /// How many words an object holds.
-pub fn words_in<B>(objects: &Objects<B>, number: u64) -> usize {
+pub fn words_in(objects: &Table, number: u64) -> usize {
     match objects.body(number) {
         Some(body) => body.words().len(),
         None => 0,
@@ -106,21 +107,25 @@ pub fn words_in<B>(objects: &Objects<B>, number: u64) -> usize {
 }
 
 /// Makes an object of a script's class with so many fields, each null.
-pub fn make(
-    alloc: Global,
-    objects: &mut Table,
-    fields: usize,
-) -> Result<Result<u64, MakeFault>, NoMemory>
-    requires { fields ≤ 32 }
-{
+pub fn make(alloc: Global, objects: &mut Table, fields: usize) -> Result<u64, MakeFault> {
+    if fields > 32 {
+        return Err(MakeFault::ArrayLimit);
+    }
     let mut words = Vec::new(alloc);
-    words.resize(fields, Word::Null)?;
-    Ok(objects.new_script(0, 0, Words::new(words)))
+    if words.resize(fields, Word::Null).is_err() {
+        return Err(MakeFault::NoMemory);
+    }
+    objects.new_script(0, 0, Words::new(words))
 }
 
-/// Draws a counter and starts it with a number.
-pub fn draw(objects: &mut Table, start: i32, events: &mut Vec<Event>) -> Result<u64, MakeFault> {
-    let number = objects.draw(1, events)?;
+/// Draws a box of a kind and starts it with a number.
+pub fn draw(
+    objects: &mut Table,
+    kind: u16,
+    start: i32,
+    events: &mut Vec<Event>,
+) -> Result<u64, MakeFault> {
+    let number = objects.draw(kind, events)?;
     if !is_host(objects, number) {
         return Err(MakeFault::PoolEmpty);
     }
