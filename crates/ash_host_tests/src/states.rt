@@ -4,16 +4,18 @@ ghost use Rattle.ash_host.specs.declared.word.Word.{Word};
 ghost use Rattle.ash_host.specs.Objects.{object_at, Lives, AreNumbered, handle};
 ghost use Rattle.ash_slots.specs.Bodies.{words_of};
 ghost use Rattle.ash_objects.specs.Restoring.{stored_in};
-ghost use Rattle.ash_objects.specs.Table.{max_objects, max_elements};
+ghost use Rattle.ash_host.specs.Limits.{max_objects, max_elements};
 
 use crate::reporter::{Log, Reporter};
 use crate::table::{Table, new_box, new_boxes};
 use ash_host::{NoMemory, Word};
-use ash_objects::{Body, Objects, Saved, Script, Stored, StoredObjects, TableFault, Words};
+use ash_objects::{
+    Body, Objects, SavedHostObject, Script, StoredObject, StoredObjects, TableFault, Words,
+};
 use std::alloc::Global;
 
 // An object of a class with one field.
-fn script(alloc: Global, number: u64, field: u64) -> Result<Stored, NoMemory>
+fn script(alloc: Global, number: u64, field: u64) -> Result<StoredObject, NoMemory>
     ensures number { IfOk result (λ stored. stored.number ≡ number) }
     ensures words { IfOk result (λ stored. words_of stored.body ≡ Word.Object field ∷ []) }
 {
@@ -24,7 +26,7 @@ fn script(alloc: Global, number: u64, field: u64) -> Result<Stored, NoMemory>
         class: 0,
         fields: Words::new(words),
     };
-    Ok(Stored {
+    Ok(StoredObject {
         number,
         body: Body::Script(script),
     })
@@ -40,17 +42,17 @@ pub struct SavedHost<'a> {
 }
 
 // A host object.
-fn host(alloc: Global, number: u64, of: SavedHost<'_>) -> Result<Stored, NoMemory>
+fn host(alloc: Global, number: u64, of: SavedHost<'_>) -> Result<StoredObject, NoMemory>
     ensures number { IfOk result (λ stored. stored.number ≡ number) }
     ensures words { IfOk result (λ stored. words_of stored.body ≡ []) }
 {
     let mut state = Vec::new(alloc);
     state.extend_from_slice(of.state)?;
-    let saved = Saved {
+    let saved = SavedHostObject {
         kind: of.kind,
         state,
     };
-    Ok(Stored {
+    Ok(StoredObject {
         number,
         body: Body::Host(saved),
     })
