@@ -152,7 +152,7 @@ unfolding body_typed
 body_in script env of body h r = stmts_in script (body_scope env of) (written.stmts body) h r
 
 returning_in : (script : Script) (env : Environment) (of : Ty) (c : Routine) (body : Body)
-    → HasToken script.tokens (name c.name) c.place.at → OccursIn script (phrases.ARoutine env of c)
+    → HasToken script.tokens (name c.name) c.place.at → OccursIn script (phrases.RoutinePhrase env of c)
     → Fine script (returning c.place.at of c.body body)
 unfolding returning
 returning_in script env of c body h r =
@@ -160,7 +160,7 @@ returning_in script env of c body h r =
     (λ b. neither (is_void of) (returns_in c.body) b (λ v n. faulty (name c.name, h, refl, meaning.no_return r v n)))
 
 pub routine_in : (script : Script) (env : Environment) (of : Ty) (c : Routine)
-    → RoutineIn script.tokens c.place c.name c.parameters c.body → OccursIn script (phrases.ARoutine env of c)
+    → RoutineIn script.tokens c.place c.name c.parameters c.body → OccursIn script (phrases.RoutinePhrase env of c)
     → Fine script (routine_typed env of c)
 unfolding routine_typed
 routine_in script env of c h r =

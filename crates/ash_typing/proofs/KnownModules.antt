@@ -4,7 +4,7 @@ use Rattle.std.proofs.Common.{option_and_then, Ok, refl, ap, subst}
 use mathlib.Core.Path.{fun_ext}
 use Rattle.std.specs.Str.{bytes_eq}
 use Rattle.std.specs.List.{AllByRecursion, AllZip, IsDistinct}
-use Rattle.ash_registrations.specs.Calls as host
+use Rattle.ash_registrations.specs.Registrations as host
 use Rattle.ash_tree.specs.Tree as written
 use Rattle.ash_typed.specs.declared.types.ObjectType.{ObjectType}
 use Rattle.ash_typed.specs.declared.types.ObjectType.TheVariants.{Class as OfClass, Interface as OfInterface}
@@ -259,73 +259,73 @@ rules_known env is m ts cs fs vs = (
 
 -- what the items of a module see
 
-types_known : (calls : List host.Registration) (named : ModuleDeclarations) (ps : List written.Parameter)
-    → AllByRecursion (KnownParameter (ty_named calls named)) ps
-    → AllByRecursion IsVariableType (map (parameter_ty calls named) ps)
-types_known calls named [] h = tt
-types_known calls named (p ∷ ps) h = (h.0, types_known calls named ps h.1)
+types_known : (registrations : List host.Registration) (named : ModuleDeclarations) (ps : List written.Parameter)
+    → AllByRecursion (KnownParameter (ty_named registrations named)) ps
+    → AllByRecursion IsVariableType (map (parameter_ty registrations named) ps)
+types_known registrations named [] h = tt
+types_known registrations named (p ∷ ps) h = (h.0, types_known registrations named ps h.1)
 
-result_known : (calls : List host.Registration) (named : ModuleDeclarations) (of : Option written.Named)
-    → KnownResult (ty_named calls named) of → IsResultType (result_named calls named of)
-result_known calls named None h = refl
-result_known calls named (Some of) h = variable_is_result (ty_named calls named of) h
+result_known : (registrations : List host.Registration) (named : ModuleDeclarations) (of : Option written.Named)
+    → KnownResult (ty_named registrations named) of → IsResultType (result_named registrations named of)
+result_known registrations named None h = refl
+result_known registrations named (Some of) h = variable_is_result (ty_named registrations named of) h
 
-head_known : (calls : List host.Registration) (named : ModuleDeclarations) (f : written.Function)
-    → KnownFunction (ty_named calls named) f
-    → IsKnownFunction (function_declaration calls named f)
-head_known calls named f h =
-    record { result = result_known calls named f.result h.0; parameters = types_known calls named f.parameters h.1 }
+head_known : (registrations : List host.Registration) (named : ModuleDeclarations) (f : written.Function)
+    → KnownFunction (ty_named registrations named) f
+    → IsKnownFunction (function_declaration registrations named f)
+head_known registrations named f h =
+    record { result = result_known registrations named f.result h.0; parameters = types_known registrations named f.parameters h.1 }
 
-signatures_seen : (calls : List host.Registration) (named : ModuleDeclarations) (ms : List written.InterfaceMethod)
-    → AllByRecursion (KnownSignature (ty_named calls named)) ms
-    → AllByRecursion IsKnownFunction (map (signature_declaration calls named) ms)
-signatures_seen calls named [] h = tt
-signatures_seen calls named (m ∷ ms) h = (
+signatures_seen : (registrations : List host.Registration) (named : ModuleDeclarations) (ms : List written.InterfaceMethod)
+    → AllByRecursion (KnownSignature (ty_named registrations named)) ms
+    → AllByRecursion IsKnownFunction (map (signature_declaration registrations named) ms)
+signatures_seen registrations named [] h = tt
+signatures_seen registrations named (m ∷ ms) h = (
   record {
-    result = result_known calls named m.result h.0.0;
-    parameters = types_known calls named m.parameters h.0.1;
+    result = result_known registrations named m.result h.0.0;
+    parameters = types_known registrations named m.parameters h.0.1;
   },
-  signatures_seen calls named ms h.1,
+  signatures_seen registrations named ms h.1,
 )
 
-interfaces_seen : (calls : List host.Registration) (named : ModuleDeclarations) (is : List written.Interface)
-    → AllByRecursion (KnownInterface (ty_named calls named)) is
-    → AllByRecursion IsKnownInterface (map (interface_declaration calls named) is)
-interfaces_seen calls named [] h = tt
-interfaces_seen calls named (i ∷ is) h =
-    (record { methods = signatures_seen calls named i.methods h.0 }, interfaces_seen calls named is h.1)
+interfaces_seen : (registrations : List host.Registration) (named : ModuleDeclarations) (is : List written.Interface)
+    → AllByRecursion (KnownInterface (ty_named registrations named)) is
+    → AllByRecursion IsKnownInterface (map (interface_declaration registrations named) is)
+interfaces_seen registrations named [] h = tt
+interfaces_seen registrations named (i ∷ is) h =
+    (record { methods = signatures_seen registrations named i.methods h.0 }, interfaces_seen registrations named is h.1)
 
-variables_known : (calls : List host.Registration) (named : ModuleDeclarations) (vs : List written.Vars)
-    → AllByRecursion (KnownVars (ty_named calls named)) vs
-    → AllByRecursion IsKnownVariable (all_variables calls named vs)
-variables_known calls named [] h = tt
-variables_known calls named (v ∷ vs) h =
-    all_append IsKnownVariable (variables calls named v) (all_variables calls named vs)
-    (decls_known (ty_named calls named v.of) v.decls h.0) (variables_known calls named vs h.1)
+variables_known : (registrations : List host.Registration) (named : ModuleDeclarations) (vs : List written.Vars)
+    → AllByRecursion (KnownVars (ty_named registrations named)) vs
+    → AllByRecursion IsKnownVariable (all_variables registrations named vs)
+variables_known registrations named [] h = tt
+variables_known registrations named (v ∷ vs) h =
+    all_append IsKnownVariable (variables registrations named v) (all_variables registrations named vs)
+    (decls_known (ty_named registrations named v.of) v.decls h.0) (variables_known registrations named vs h.1)
 
-functions_known : (calls : List host.Registration) (named : ModuleDeclarations) (fs : List written.Function)
-    → AllByRecursion (KnownFunction (ty_named calls named)) fs
-    → AllByRecursion IsKnownFunction (map (function_declaration calls named) fs)
-functions_known calls named [] h = tt
-functions_known calls named (f ∷ fs) h = (head_known calls named f h.0, functions_known calls named fs h.1)
+functions_known : (registrations : List host.Registration) (named : ModuleDeclarations) (fs : List written.Function)
+    → AllByRecursion (KnownFunction (ty_named registrations named)) fs
+    → AllByRecursion IsKnownFunction (map (function_declaration registrations named) fs)
+functions_known registrations named [] h = tt
+functions_known registrations named (f ∷ fs) h = (head_known registrations named f h.0, functions_known registrations named fs h.1)
 
-construction_known : (calls : List host.Registration) (named : ModuleDeclarations) (cs : List written.Constructor)
-    → AllByRecursion (KnownConstructor (ty_named calls named)) cs
-    → AllByRecursion IsVariableType (constructed_by calls named cs)
-construction_known calls named [] h = tt
-construction_known calls named (c ∷ cs) h = types_known calls named c.parameters h.0
+construction_known : (registrations : List host.Registration) (named : ModuleDeclarations) (cs : List written.Constructor)
+    → AllByRecursion (KnownConstructor (ty_named registrations named)) cs
+    → AllByRecursion IsVariableType (constructed_by registrations named cs)
+construction_known registrations named [] h = tt
+construction_known registrations named (c ∷ cs) h = types_known registrations named c.parameters h.0
 
-classes_known : (calls : List host.Registration) (named : ModuleDeclarations) (cs : List written.Class)
-    → AllByRecursion (KnownClass (ty_named calls named)) cs
-    → AllByRecursion IsKnownClass (map (class_declaration calls named) cs)
-classes_known calls named [] h = tt
-classes_known calls named (c ∷ cs) h = (
+classes_known : (registrations : List host.Registration) (named : ModuleDeclarations) (cs : List written.Class)
+    → AllByRecursion (KnownClass (ty_named registrations named)) cs
+    → AllByRecursion IsKnownClass (map (class_declaration registrations named) cs)
+classes_known registrations named [] h = tt
+classes_known registrations named (c ∷ cs) h = (
   record {
-    fields = variables_known calls named (fields_of c.members) h.0.0;
-    methods = functions_known calls named (methods_of c.members) h.0.1;
-    parameters = construction_known calls named (constructors_of c.members) h.0.2;
+    fields = variables_known registrations named (fields_of c.members) h.0.0;
+    methods = functions_known registrations named (methods_of c.members) h.0.1;
+    parameters = construction_known registrations named (constructors_of c.members) h.0.2;
   },
-  classes_known calls named cs h.1,
+  classes_known registrations named cs h.1,
 )
 
 -- types are looked up by the names of classes and interfaces alone
@@ -346,61 +346,61 @@ class_from name i cs = object_at OfClass (first_from (is_class name) i cs)
 abbrev interface_from : List ℕ → ℕ → List Interface → Option ObjectType
 interface_from name i ts = object_at OfInterface (first_from (is_interface_named name) i ts)
 
-same_class : (calls : List host.Registration) (named : ModuleDeclarations) (name : List ℕ) (i : ℕ) (cs : List written.Class)
-    → class_from name i (map (class_declaration calls named) cs) ≡ class_from name i (map named_class cs)
-same_class calls named name i [] = refl
-same_class calls named name i (c ∷ cs) =
+same_class : (registrations : List host.Registration) (named : ModuleDeclarations) (name : List ℕ) (i : ℕ) (cs : List written.Class)
+    → class_from name i (map (class_declaration registrations named) cs) ≡ class_from name i (map named_class cs)
+same_class registrations named name i [] = refl
+same_class registrations named name i (c ∷ cs) =
     same_first OfClass i (bytes_eq name c.name) _ _
-    (first_from (is_class name) (i + 1) (map (class_declaration calls named) cs))
-    (first_from (is_class name) (i + 1) (map named_class cs)) (same_class calls named name (i + 1) cs)
+    (first_from (is_class name) (i + 1) (map (class_declaration registrations named) cs))
+    (first_from (is_class name) (i + 1) (map named_class cs)) (same_class registrations named name (i + 1) cs)
 
-same_interface : (calls : List host.Registration) (named : ModuleDeclarations) (name : List ℕ) (i : ℕ) (is : List written.Interface)
-    → interface_from name i (map (interface_declaration calls named) is) ≡ interface_from name i (map named_interface is)
-same_interface calls named name i [] = refl
-same_interface calls named name i (x ∷ is) =
+same_interface : (registrations : List host.Registration) (named : ModuleDeclarations) (name : List ℕ) (i : ℕ) (is : List written.Interface)
+    → interface_from name i (map (interface_declaration registrations named) is) ≡ interface_from name i (map named_interface is)
+same_interface registrations named name i [] = refl
+same_interface registrations named name i (x ∷ is) =
     same_first OfInterface i (bytes_eq name x.name) _ _
-    (first_from (is_interface_named name) (i + 1) (map (interface_declaration calls named) is))
-    (first_from (is_interface_named name) (i + 1) (map named_interface is)) (same_interface calls named name (i + 1) is)
+    (first_from (is_interface_named name) (i + 1) (map (interface_declaration registrations named) is))
+    (first_from (is_interface_named name) (i + 1) (map named_interface is)) (same_interface registrations named name (i + 1) is)
 
-pub same_object : (calls : List host.Registration) (is : List written.Item) (name : List ℕ)
-    → object_named calls (declarations calls is) name ≡ object_named calls (names_in is) name
+pub same_object : (registrations : List host.Registration) (is : List written.Item) (name : List ℕ)
+    → object_named registrations (declarations registrations is) name ≡ object_named registrations (names_in is) name
 unfolding object_named declarations
-same_object calls is name =
+same_object registrations is name =
     rw (
-      same_class calls (names_in is) name 0 (classes_of is),
-      same_interface calls (names_in is) name 0 (interfaces_of is),
+      same_class registrations (names_in is) name 0 (classes_of is),
+      same_interface registrations (names_in is) name 0 (interfaces_of is),
     ) refl
 
-same_element : (calls : List host.Registration) (is : List written.Item) (of : written.Element)
-    → element_named calls (declarations calls is) of ≡ element_named calls (names_in is) of
+same_element : (registrations : List host.Registration) (is : List written.Item) (of : written.Element)
+    → element_named registrations (declarations registrations is) of ≡ element_named registrations (names_in is) of
 unfolding element_named
-same_element calls is (written.PrimElement p k) = refl
-same_element calls is (written.HandleElement p name) = ap (option_and_then element_by) (same_object calls is name)
+same_element registrations is (written.PrimElement p k) = refl
+same_element registrations is (written.HandleElement p name) = ap (option_and_then element_by) (same_object registrations is name)
 
-same_array : (calls : List host.Registration) (is : List written.Item) (of : written.Element)
-    → array_named calls (declarations calls is) of ≡ array_named calls (names_in is) of
-same_array calls is of = ap (option_map OfArray) (same_element calls is of)
+same_array : (registrations : List host.Registration) (is : List written.Item) (of : written.Element)
+    → array_named registrations (declarations registrations is) of ≡ array_named registrations (names_in is) of
+same_array registrations is of = ap (option_map OfArray) (same_element registrations is of)
 
-pub same_type : (calls : List host.Registration) (is : List written.Item) (of : written.Named)
-    → ty_in (environment calls is) of ≡ ty_named calls (names_in is) of
+pub same_type : (registrations : List host.Registration) (is : List written.Item) (of : written.Named)
+    → ty_in (environment registrations is) of ≡ ty_named registrations (names_in is) of
 unfolding ty_named
-same_type calls is (written.Prim p k) = refl
-same_type calls is (written.Object p name) = ap object_ty (same_object calls is name)
-same_type calls is (written.Handle p name) = ap handle_ty (same_object calls is name)
-same_type calls is (written.Array p of) = ap object_ty (same_array calls is of)
-same_type calls is (written.ArrayHandle p of) = ap handle_ty (same_array calls is of)
+same_type registrations is (written.Prim p k) = refl
+same_type registrations is (written.Object p name) = ap object_ty (same_object registrations is name)
+same_type registrations is (written.Handle p name) = ap handle_ty (same_object registrations is name)
+same_type registrations is (written.Array p of) = ap object_ty (same_array registrations is of)
+same_type registrations is (written.ArrayHandle p of) = ap handle_ty (same_array registrations is of)
 
-pub module_known : (calls : List host.Registration) (is : List written.Item)
-    → KnownItems (ty_in (environment calls is)) is
-    → IsKnown (environment calls is)
+pub module_known : (registrations : List host.Registration) (is : List written.Item)
+    → KnownItems (ty_in (environment registrations is)) is
+    → IsKnown (environment registrations is)
 unfolding declarations
-module_known calls is h =
+module_known registrations is h =
     let named = names_in is in
-    let k = subst (λ (look : written.Named → Ty). KnownItems look is) (fun_ext (same_type calls is)) h in
+    let k = subst (λ (look : written.Named → Ty). KnownItems look is) (fun_ext (same_type registrations is)) h in
     record {
-      interfaces = interfaces_seen calls named (interfaces_of is) k.0;
-      classes = classes_known calls named (classes_of is) k.1;
-      functions = functions_known calls named (functions_of is) k.2;
-      globals = variables_known calls named (globals_of is) k.3;
+      interfaces = interfaces_seen registrations named (interfaces_of is) k.0;
+      classes = classes_known registrations named (classes_of is) k.1;
+      functions = functions_known registrations named (functions_of is) k.2;
+      globals = variables_known registrations named (globals_of is) k.3;
       locals = tt;
     }
