@@ -7,7 +7,7 @@ use Rattle.std.proofs.lemmas.Option.{slice_get_within, get_or_from_slice_get}
 use Rattle.std.proofs.lemmas.List.{map-append}
 use Rattle.std.specs.Option.{option_map_or}
 use Rattle.std.specs.List.{Contains}
-use Rattle.ash_registrations.specs.Calls.{Registration}
+use Rattle.ash_registrations.specs.Registrations.{Registration}
 use Rattle.ash_tree.specs.Tree.{Class, Item}
 use Rattle.ash_typing.specs.declared.fault.Rule.{Rule}
 use Rattle.ash_typing.specs.declared.fault.Rule.TheVariants as rules
@@ -41,10 +41,10 @@ rule_is_reported rules.ConstantOutOfRange at = refl
 rule_is_reported rules.DuplicateCase at = refl
 
 -- a fault of the walk is what is reported
-pub error_is_reported : (calls : List Registration) (items : List Item) (error : CheckError) → FailsWith error (module_typed calls items) → Reports (checked calls items) (fault_of_error error)
+pub error_is_reported : (registrations : List Registration) (items : List Item) (error : CheckError) → FailsWith error (module_typed registrations items) → Reports (checked registrations items) (fault_of_error error)
 unfolding checked
-error_is_reported calls items (errors.Fault f) fails = subst (λ why. IsReportedFault why (checked calls items)) (sym (rule_is_reported f.rule f.at)) (ap (checked_by (classes_of items)) fails)
-error_is_reported calls items errors.NoMemory fails = tt
+error_is_reported registrations items (errors.Fault f) fails = subst (λ why. IsReportedFault why (checked registrations items)) (sym (rule_is_reported f.rule f.at)) (ap (checked_by (classes_of items)) fails)
+error_is_reported registrations items errors.NoMemory fails = tt
 
 -- and so what is returned
 pub reported_if_err : {T : Type 0} (r : Result T CheckFault) (why : CheckFault) (answer : Result Module ScriptFault) (P : T → Type 0) → IsErrAnd r (λ fault. fault ≡ why) → Reports answer why → MatchResult r P (λ fault. Reports answer fault)
@@ -52,14 +52,14 @@ reported_if_err (Ok done) why answer P is reports = absurd is
 reported_if_err (Err fault) why answer P is reports = subst (λ f. Reports answer f) (sym is) reports
 
 -- where no rule is broken and no class reaches itself, the typed module
-pub typed_is_checked : (calls : List Registration) (items : List Item) (typed : Module) → module_typed calls items ≡ Ok typed → reported_cycle (classes_of items) ≡ None → checked calls items ≡ Ok typed
+pub typed_is_checked : (registrations : List Registration) (items : List Item) (typed : Module) → module_typed registrations items ≡ Ok typed → reported_cycle (classes_of items) ≡ None → checked registrations items ≡ Ok typed
 unfolding checked
-typed_is_checked calls items typed fine none = ap (checked_by (classes_of items)) fine ∙ ap (λ path. unless_cycle (classes_of items) path typed) none
+typed_is_checked registrations items typed fine none = ap (checked_by (classes_of items)) fine ∙ ap (λ path. unless_cycle (classes_of items) path typed) none
 
 -- else the cycle that is reported
-pub cycle_is_reported : (calls : List Registration) (items : List Item) (typed : Module) (first : ℕ) (others : List ℕ) → module_typed calls items ≡ Ok typed → reported_cycle (classes_of items) ≡ Some (first, others) → checked calls items ≡ Err (Cyclic (names_of_cycle (classes_of items) (first, others)))
+pub cycle_is_reported : (registrations : List Registration) (items : List Item) (typed : Module) (first : ℕ) (others : List ℕ) → module_typed registrations items ≡ Ok typed → reported_cycle (classes_of items) ≡ Some (first, others) → checked registrations items ≡ Err (Cyclic (names_of_cycle (classes_of items) (first, others)))
 unfolding checked
-cycle_is_reported calls items typed first others fine some = ap (checked_by (classes_of items)) fine ∙ ap (λ path. unless_cycle (classes_of items) path typed) some
+cycle_is_reported registrations items typed first others fine some = ap (checked_by (classes_of items)) fine ∙ ap (λ path. unless_cycle (classes_of items) path typed) some
 
 -- places of classes
 

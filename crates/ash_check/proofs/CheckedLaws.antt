@@ -1,6 +1,6 @@
 -- What holds of a script that is accepted, by its typed tree alone.
 use Rattle.std.proofs.Common.{◌≡◌, ℕ, List, length, Ok}
-use Rattle.ash_registrations.specs.Calls.{Registration}
+use Rattle.ash_registrations.specs.Registrations.{Registration}
 use Rattle.ash_tree.specs.Tree.{Item}
 use Rattle.ash_typed.specs.Modules.{Module}
 use Rattle.ash_typing.specs.Items.{module_typed}
@@ -13,10 +13,10 @@ use Rattle.ash_ranks.proofs.RankLaws.{typed_ranks}
 use Rattle.ash_check.specs.CheckedModules.{IsChecked}
 
 -- what is typed is sound, and ranks of the written classes are ranks of the typed ones
-pub is_checked : (calls : List Registration) (items : List Item) (typed : Module) (ranks : List ℕ) → ItemsDeclareInBlocks items → module_typed calls items ≡ Ok typed → AreRanks (Refers (classes_of items)) (length (classes_of items)) ranks → IsChecked calls typed ranks
-is_checked calls items typed ranks nested walked are =
-    let by_rules = (module_typed-exact calls items typed).0 walked in
+pub is_checked : (registrations : List Registration) (items : List Item) (typed : Module) (ranks : List ℕ) → ItemsDeclareInBlocks items → module_typed registrations items ≡ Ok typed → AreRanks (Refers (classes_of items)) (length (classes_of items)) ranks → IsChecked registrations typed ranks
+is_checked registrations items typed ranks nested walked are =
+    let by_rules = (module_typed-exact registrations items typed).0 walked in
     record {
-      sound = module_sound calls items typed nested by_rules;
-      ranked = typed_ranks calls items typed by_rules ranks are;
+      sound = module_sound registrations items typed nested by_rules;
+      ranked = typed_ranks registrations items typed by_rules ranks are;
     }

@@ -1,6 +1,6 @@
 -- What the check returns, by the rules of typing and by which classes reach themselves.
 use Rattle.std.proofs.Common.{◌≡◌, ◌↔◌, ◌∙◌, ℕ, List, Option, Some, None, Result, Ok, Err, refl, sym, ap}
-use Rattle.ash_registrations.specs.Calls.{Registration}
+use Rattle.ash_registrations.specs.Registrations.{Registration}
 use Rattle.ash_tree.specs.Tree.{Class, Item}
 use Rattle.ash_typed.specs.Modules.{Module}
 use Rattle.ash_typing.specs.declared.fault.Fault.{Fault}
@@ -39,21 +39,21 @@ by_accepted : (classes : List Class) (r : TypingResult Module) (typed : Module) 
 by_accepted classes (Ok m) typed h = let u = unless_accepted classes (reported_cycle classes) m typed h in (ap Ok u.1, u.0)
 by_accepted classes (Err f) typed h = absurd (not_accepted (Broken f) typed h)
 
-typed_accepted : (calls : List Registration) (items : List Item) (typed : Module) → checked calls items ≡ Ok typed → (module_typed calls items ≡ Ok typed) × (reported_cycle (classes_of items) ≡ None)
+typed_accepted : (registrations : List Registration) (items : List Item) (typed : Module) → checked registrations items ≡ Ok typed → (module_typed registrations items ≡ Ok typed) × (reported_cycle (classes_of items) ≡ None)
 unfolding checked
-typed_accepted calls items typed h = by_accepted (classes_of items) (module_typed calls items) typed h
+typed_accepted registrations items typed h = by_accepted (classes_of items) (module_typed registrations items) typed h
 
-pub accepted_is : (calls : List Registration) (items : List Item) (typed : Module) → (checked calls items ≡ Ok typed) ↔ (IsTyped calls items typed × ((class : ℕ) → Reaches (Refers (classes_of items)) class class → ⊥))
-accepted_is calls items typed = (go, back)
+pub accepted_is : (registrations : List Registration) (items : List Item) (typed : Module) → (checked registrations items ≡ Ok typed) ↔ (IsTyped registrations items typed × ((class : ℕ) → Reaches (Refers (classes_of items)) class class → ⊥))
+accepted_is registrations items typed = (go, back)
   where
-    go : checked calls items ≡ Ok typed → IsTyped calls items typed × ((class : ℕ) → Reaches (Refers (classes_of items)) class class → ⊥)
+    go : checked registrations items ≡ Ok typed → IsTyped registrations items typed × ((class : ℕ) → Reaches (Refers (classes_of items)) class class → ⊥)
     go h =
-        let t = typed_accepted calls items typed h in
-        let is : IsTyped calls items typed = (module_typed-exact calls items typed).0 t.0 in
+        let t = typed_accepted registrations items typed h in
+        let is : IsTyped registrations items typed = (module_typed-exact registrations items typed).0 t.0 in
         (is, (none_is_reported (classes_of items)).0 t.1)
 
-    back : IsTyped calls items typed × ((class : ℕ) → Reaches (Refers (classes_of items)) class class → ⊥) → checked calls items ≡ Ok typed
-    back h = typed_is_checked calls items typed ((module_typed-exact calls items typed).1 h.0) ((none_is_reported (classes_of items)).1 h.1)
+    back : IsTyped registrations items typed × ((class : ℕ) → Reaches (Refers (classes_of items)) class class → ⊥) → checked registrations items ≡ Ok typed
+    back h = typed_is_checked registrations items typed ((module_typed-exact registrations items typed).1 h.0) ((none_is_reported (classes_of items)).1 h.1)
 
 -- what is refused for a cycle
 
@@ -68,42 +68,42 @@ by_cyclic : (classes : List Class) (r : TypingResult Module) (names : List (List
 by_cyclic classes (Ok m) names h = let u = unless_cyclic classes (reported_cycle classes) m names h in (m, refl, u.0, u.1, u.2)
 by_cyclic classes (Err f) names h = absurd (other_fault f names h)
 
-typed_cyclic : (calls : List Registration) (items : List Item) (names : List (List ℕ)) → checked calls items ≡ Err (Cyclic names) → (typed : Module) × (module_typed calls items ≡ Ok typed) × (cycle : ℕ × List ℕ) × (reported_cycle (classes_of items) ≡ Some cycle) × (names ≡ names_of_cycle (classes_of items) cycle)
+typed_cyclic : (registrations : List Registration) (items : List Item) (names : List (List ℕ)) → checked registrations items ≡ Err (Cyclic names) → (typed : Module) × (module_typed registrations items ≡ Ok typed) × (cycle : ℕ × List ℕ) × (reported_cycle (classes_of items) ≡ Some cycle) × (names ≡ names_of_cycle (classes_of items) cycle)
 unfolding checked
-typed_cyclic calls items names h = by_cyclic (classes_of items) (module_typed calls items) names h
+typed_cyclic registrations items names h = by_cyclic (classes_of items) (module_typed registrations items) names h
 
 -- by the cycle that is returned
-pub cycle_is : (calls : List Registration) (items : List Item) (names : List (List ℕ)) → (checked calls items ≡ Err (Cyclic names)) ↔ ((typed : Module) × (first : ℕ) × (others : List ℕ) × IsTyped calls items typed × IsReportedCycle (Refers (classes_of items)) first others × (names ≡ names_of_cycle (classes_of items) (first, others)))
-cycle_is calls items names = (go, back)
+pub cycle_is : (registrations : List Registration) (items : List Item) (names : List (List ℕ)) → (checked registrations items ≡ Err (Cyclic names)) ↔ ((typed : Module) × (first : ℕ) × (others : List ℕ) × IsTyped registrations items typed × IsReportedCycle (Refers (classes_of items)) first others × (names ≡ names_of_cycle (classes_of items) (first, others)))
+cycle_is registrations items names = (go, back)
   where
-    go : checked calls items ≡ Err (Cyclic names) → (typed : Module) × (first : ℕ) × (others : List ℕ) × IsTyped calls items typed × IsReportedCycle (Refers (classes_of items)) first others × (names ≡ names_of_cycle (classes_of items) (first, others))
+    go : checked registrations items ≡ Err (Cyclic names) → (typed : Module) × (first : ℕ) × (others : List ℕ) × IsTyped registrations items typed × IsReportedCycle (Refers (classes_of items)) first others × (names ≡ names_of_cycle (classes_of items) (first, others))
     go h =
-        let t = typed_cyclic calls items names h in
-        let is : IsTyped calls items t.0 = (module_typed-exact calls items t.0).0 t.1 in
+        let t = typed_cyclic registrations items names h in
+        let is : IsTyped registrations items t.0 = (module_typed-exact registrations items t.0).0 t.1 in
         (t.0, (t.2).0, (t.2).1, is, (reported_is (classes_of items) (t.2).0 (t.2).1).0 t.3, t.4)
 
-    back : (typed : Module) × (first : ℕ) × (others : List ℕ) × IsTyped calls items typed × IsReportedCycle (Refers (classes_of items)) first others × (names ≡ names_of_cycle (classes_of items) (first, others)) → checked calls items ≡ Err (Cyclic names)
+    back : (typed : Module) × (first : ℕ) × (others : List ℕ) × IsTyped registrations items typed × IsReportedCycle (Refers (classes_of items)) first others × (names ≡ names_of_cycle (classes_of items) (first, others)) → checked registrations items ≡ Err (Cyclic names)
     back h =
         let found : reported_cycle (classes_of items) ≡ Some (h.1, h.2) = (reported_is (classes_of items) h.1 h.2).1 h.4 in
-        cycle_is_reported calls items h.0 h.1 h.2 ((module_typed-exact calls items h.0).1 h.3) found ∙ ap (λ ns. Err (Cyclic ns)) (sym h.5)
+        cycle_is_reported registrations items h.0 h.1 h.2 ((module_typed-exact registrations items h.0).1 h.3) found ∙ ap (λ ns. Err (Cyclic ns)) (sym h.5)
 
 some_cycle : (classes : List Class) (path : Option (ℕ × List ℕ)) → reported_cycle classes ≡ path → (class : ℕ) → Reaches (Refers classes) class class → (cycle : ℕ × List ℕ) × (reported_cycle classes ≡ Some cycle)
 some_cycle classes None h class reaches = absurd ((none_is_reported classes).0 h class reaches)
 some_cycle classes (Some cycle) h class reaches = (cycle, h)
 
 -- by the rules
-pub cyclic_is : (calls : List Registration) (items : List Item) → ((names : List (List ℕ)) × (checked calls items ≡ Err (Cyclic names))) ↔ ((typed : Module) × (class : ℕ) × IsTyped calls items typed × Reaches (Refers (classes_of items)) class class)
-cyclic_is calls items = (go, back)
+pub cyclic_is : (registrations : List Registration) (items : List Item) → ((names : List (List ℕ)) × (checked registrations items ≡ Err (Cyclic names))) ↔ ((typed : Module) × (class : ℕ) × IsTyped registrations items typed × Reaches (Refers (classes_of items)) class class)
+cyclic_is registrations items = (go, back)
   where
-    go : (names : List (List ℕ)) × (checked calls items ≡ Err (Cyclic names)) → (typed : Module) × (class : ℕ) × IsTyped calls items typed × Reaches (Refers (classes_of items)) class class
-    go h = let k = (cycle_is calls items h.0).0 h.1 in (k.0, k.1, k.3, (k.2, (k.4).cycle.path))
+    go : (names : List (List ℕ)) × (checked registrations items ≡ Err (Cyclic names)) → (typed : Module) × (class : ℕ) × IsTyped registrations items typed × Reaches (Refers (classes_of items)) class class
+    go h = let k = (cycle_is registrations items h.0).0 h.1 in (k.0, k.1, k.3, (k.2, (k.4).cycle.path))
 
-    back : (typed : Module) × (class : ℕ) × IsTyped calls items typed × Reaches (Refers (classes_of items)) class class → (names : List (List ℕ)) × (checked calls items ≡ Err (Cyclic names))
+    back : (typed : Module) × (class : ℕ) × IsTyped registrations items typed × Reaches (Refers (classes_of items)) class class → (names : List (List ℕ)) × (checked registrations items ≡ Err (Cyclic names))
     back h =
         let classes = classes_of items in
         let r = some_cycle classes (reported_cycle classes) refl h.1 h.3 in
         let foremost : IsReportedCycle (Refers classes) (r.0).0 (r.0).1 = (reported_is classes (r.0).0 (r.0).1).0 r.1 in
-        (names_of_cycle classes r.0, (cycle_is calls items (names_of_cycle classes r.0)).1 (h.0, (r.0).0, (r.0).1, h.2, foremost, refl))
+        (names_of_cycle classes r.0, (cycle_is registrations items (names_of_cycle classes r.0)).1 (h.0, (r.0).0, (r.0).1, h.2, foremost, refl))
 
 -- what is refused for a rule that is broken
 
@@ -121,6 +121,6 @@ by_broken : (classes : List Class) (r : TypingResult Module) (f : Fault) → che
 by_broken classes (Ok m) f h = absurd (unless_broken classes (reported_cycle classes) m f h)
 by_broken classes (Err other) f h = ap Err (same_fault other f h)
 
-pub broken_is : (calls : List Registration) (items : List Item) (fault : Fault) → (checked calls items ≡ Err (Broken fault)) ↔ (module_typed calls items ≡ Err fault)
+pub broken_is : (registrations : List Registration) (items : List Item) (fault : Fault) → (checked registrations items ≡ Err (Broken fault)) ↔ (module_typed registrations items ≡ Err fault)
 unfolding checked
-broken_is calls items fault = (by_broken (classes_of items) (module_typed calls items) fault, λ h. ap (checked_by (classes_of items)) h)
+broken_is registrations items fault = (by_broken (classes_of items) (module_typed registrations items) fault, λ h. ap (checked_by (classes_of items)) h)

@@ -3,7 +3,7 @@
 use Rattle.std.specs.Prelude.{◌≡◌, ℕ, List, [], ◌∷◌, Option, Some, None, Result, Ok, Err, map, slice_get, string_bytes}
 use Rattle.std.specs.List.{Contains}
 use Rattle.std.specs.Option.{option_map_or}
-use Rattle.ash_registrations.specs.Calls.{Registration}
+use Rattle.ash_registrations.specs.Registrations.{Registration}
 use Rattle.ash_tree.specs.Tree.{Class, Item}
 use Rattle.ash_typing.specs.declared.fault.Fault.{Fault}
 use Rattle.ash_typing.specs.declared.fault.Rule.{Rule}
@@ -42,7 +42,7 @@ checked_by classes (Err fault) = Err (Broken fault)
 
 -- The typed module of a script; or its first fault; or, where no rule is broken, the classes that could form a cycle.
 unfoldable pub checked : List Registration → List Item → Result Module ScriptFault
-checked calls items = checked_by (classes_of items) (module_typed calls items)
+checked registrations items = checked_by (classes_of items) (module_typed registrations items)
 
 -- what the code's faults report
 

@@ -5,7 +5,7 @@ use Rattle.std.specs.declared.vec.Vec.{Vec}
 use Rattle.std.specs.declared.alloc.Global.{Global}
 use Rattle.ash_registrations.specs.declared.registrations.Registrations.{Registrations}
 use Rattle.ash_registrations.specs.Registered.{registered}
-use Rattle.ash_registrations.specs.Calls as host
+use Rattle.ash_registrations.specs.Registrations as host
 use Rattle.ash_tree.specs.Views.{parameter_of, stmt_of}
 use Rattle.ash_typed.specs.Tree.{Expr}
 use Rattle.ash_typed.specs.Views.{expr_of}

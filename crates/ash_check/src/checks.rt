@@ -3,7 +3,7 @@
 ghost use Rattle.std.specs.Prelude.{◌≡◌, ◌↔◌, ◌<◌, ℕ, List, Ok, Err, length, map, string_bytes};
 ghost use Rattle.std.specs.Prelude.{All, IfOk};
 ghost use Rattle.std.specs.Prelude.{IfErr, OnOk, MatchResult};
-ghost use Rattle.ash_registrations.specs.Calls.{Registration};
+ghost use Rattle.ash_registrations.specs.Registrations.{Registration};
 ghost use Rattle.ash_registrations.specs.Registered as table;
 ghost use Rattle.ash_registry.specs.Registered.{registered};
 ghost use Rattle.ash_tree.specs.Tree.{Item};
@@ -146,19 +146,22 @@ pub fn check(
 /// the cycle from the first class that does, by the first of its shortest paths back. Else it returns the first fault
 /// of the walk. It does nothing when it runs.
 pub fn check_is_exact()
-    ensures accepted { (calls : List Registration) (items : List Item) (typed : modules.Module) →
-        (checked calls items ≡ Ok typed) ↔ (IsTyped calls items typed ×
+    ensures accepted { (registrations : List Registration) (items : List Item)
+        (typed : modules.Module) →
+        (checked registrations items ≡ Ok typed) ↔ (IsTyped registrations items typed ×
         ((class : ℕ) → Reaches (Refers (classes_of items)) class class → ⊥)) }
-    ensures cyclic { (calls : List Registration) (items : List Item) →
-        ((names : List (List ℕ)) × (checked calls items ≡ Err (Cyclic names))) ↔
-        ((typed : modules.Module) × (class : ℕ) × IsTyped calls items typed ×
+    ensures cyclic { (registrations : List Registration) (items : List Item) →
+        ((names : List (List ℕ)) × (checked registrations items ≡ Err (Cyclic names))) ↔
+        ((typed : modules.Module) × (class : ℕ) × IsTyped registrations items typed ×
         Reaches (Refers (classes_of items)) class class) }
-    ensures names { (calls : List Registration) (items : List Item) (names : List (List ℕ)) →
-        (checked calls items ≡ Err (Cyclic names)) ↔
-        ((typed : modules.Module) × (first : ℕ) × (others : List ℕ) × IsTyped calls items typed ×
+    ensures names { (registrations : List Registration) (items : List Item)
+        (names : List (List ℕ)) →
+        (checked registrations items ≡ Err (Cyclic names)) ↔
+        ((typed : modules.Module) × (first : ℕ) × (others : List ℕ) ×
+        IsTyped registrations items typed ×
         IsReportedCycle (Refers (classes_of items)) first others ×
         (names ≡ names_of_cycle (classes_of items) (first, others))) }
-    ensures broken { (calls : List Registration) (items : List Item) (fault : Fault) →
-        (checked calls items ≡ Err (Broken fault))
-        ↔ (definition.module_typed calls items ≡ Err fault) }
+    ensures broken { (registrations : List Registration) (items : List Item) (fault : Fault) →
+        (checked registrations items ≡ Err (Broken fault))
+        ↔ (definition.module_typed registrations items ≡ Err fault) }
 {}

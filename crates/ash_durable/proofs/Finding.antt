@@ -14,7 +14,7 @@ use Rattle.ash_journal.specs.Reading.{AreAt, bodies_of}
 use Rattle.ash_journal.specs.Runs.{Extends, NoContents}
 use Rattle.ash_journal.proofs.RunLaws.{same_extends}
 use Rattle.ash_meaning.specs.State.{State}
-use Rattle.ash_registry.specs.Calls.{Registration}
+use Rattle.ash_registry.specs.Registrations.{Registration}
 use Rattle.ash_durable.specs.Contents.{after_image, ReadsAs}
 use Rattle.ash_durable.specs.Faults.{opening_fault}
 use Rattle.ash_durable.specs.States.{AreHonest}

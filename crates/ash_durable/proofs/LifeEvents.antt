@@ -7,7 +7,7 @@ use Rattle.ash_journal.specs.Layout.{IsOpen}
 use Rattle.ash_journal.proofs.LayoutLaws.{open_closed}
 use Rattle.ash_subset.specs.Meaning.{End}
 use Rattle.ash_meaning.specs.State.{State, Request, Reply, Answered, empty}
-use Rattle.ash_registry.specs.Calls.{Registration}
+use Rattle.ash_registry.specs.Registrations.{Registration}
 use Rattle.ash_durable.specs.Hosting.{Hosted, first, second, IsRunning, IsSaved, IsHonest, IsAnswer, Handles}
 use Rattle.ash_durable.specs.States.{AreHonest, SettleNow, IsOne, IsEither, HaveState}
 use Rattle.ash_durable.specs.Store.{WereOnlyRead, IsClosedOrHasState, MakesOrNot, WasCreated}

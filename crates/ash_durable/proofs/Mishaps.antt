@@ -3,7 +3,7 @@ use Rattle.std.proofs.Common.{◌≡◌, inl, inr, ℕ, List, Err, subst}
 use Rattle.ash_journal.specs.Current.{Contents, Represent}
 use Rattle.ash_journal.proofs.SettleLaws.{represent_once}
 use Rattle.ash_meaning.specs.State.{State}
-use Rattle.ash_registry.specs.Calls.{Registration}
+use Rattle.ash_registry.specs.Registrations.{Registration}
 use Rattle.ash_durable.specs.Contents.{ReadsAs}
 use Rattle.ash_durable.specs.States.{IsStateOf}
 use Rattle.ash_durable.specs.Store.{StoreFaultIs, IsMishap}

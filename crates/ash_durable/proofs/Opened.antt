@@ -6,7 +6,7 @@ use Rattle.ash_journal.specs.declared.journal.Journal.{Journal}
 use Rattle.ash_journal.specs.Current.{Contents, Represent}
 use Rattle.ash_journal.specs.Journal.{first_disk, second_disk}
 use Rattle.ash_meaning.specs.State.{State, empty}
-use Rattle.ash_registry.specs.Calls.{Registration}
+use Rattle.ash_registry.specs.Registrations.{Registration}
 use Rattle.ash_durable.specs.Hosting.{Hosted, first, second, IsRunning}
 use Rattle.ash_durable.specs.States.{AreHonest, HoldsState, IsOne, IsEither}
 use Rattle.ash_durable.specs.Store.{HandsBack, WasMade, WasCreated, WasFound, WasOpened, Opens, OpensAgain}

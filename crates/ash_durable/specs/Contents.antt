@@ -8,7 +8,7 @@ use Rattle.ash_journal.specs.Current.{Contents}
 use Rattle.ash_journal.specs.Reading.{bodies_of}
 use Rattle.ash_meaning.specs.StoredModules.{Admits}
 use Rattle.ash_meaning.specs.State.{State}
-use Rattle.ash_registry.specs.Calls.{Registration}
+use Rattle.ash_registry.specs.Registrations.{Registration}
 use Rattle.ash_registry.specs.Text.{text_of}
 use Rattle.ash_durable.specs.States.{IsImageOf, LeadAll, IsStateOf, snapshot_of}
 use Rattle.ash_durable.specs.declared.fault.StoreFault.{StoreFault}

@@ -8,7 +8,7 @@ use Rattle.ash_journal.specs.Writes.{WasUnused}
 use Rattle.ash_subset.specs.Meaning.{End}
 use Rattle.ash_meaning.specs.State.{State, Request, Reply, Answered, empty}
 use Rattle.ash_meaning.specs.Step.{Steps}
-use Rattle.ash_registry.specs.Calls.{Registration}
+use Rattle.ash_registry.specs.Registrations.{Registration}
 use Rattle.ash_durable.specs.Hosting.{Hosted, first, second, IsRunning, IsSaved, IsAnswer, Handles}
 use Rattle.ash_durable.specs.Running.{IsFailure}
 use Rattle.ash_durable.specs.States.{AreHonest, SettleNow, IsOne, IsEither}

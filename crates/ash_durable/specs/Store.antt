@@ -14,7 +14,7 @@ use Rattle.ash_journal.specs.Reading.{AreAt, bodies_of}
 use Rattle.ash_journal.specs.Runs.{Extends, NoContents}
 use Rattle.ash_journal.specs.Writes.{WasUnused}
 use Rattle.ash_meaning.specs.State.{State, empty}
-use Rattle.ash_registry.specs.Calls.{Registration}
+use Rattle.ash_registry.specs.Registrations.{Registration}
 use Rattle.ash_durable.specs.Contents.{after_image, ReadsAs, IsMisshapen, IsNotAdmitted, AreOfOthers}
 use Rattle.ash_durable.specs.Hosting.{Hosted, IsRunning, IsSaved, IsHonest}
 use Rattle.ash_durable.specs.States.{AreHonest, HoldsState, IsImageOf, SettleNow, IsOne, IsEither, IsStateOf, HaveState}

@@ -7,7 +7,7 @@ ghost use Rattle.ash_durable.specs.States.{AreHonest, SettleNow};
 ghost use Rattle.ash_durable.specs.Store.{IsMishap, WasNotFound};
 ghost use Rattle.ash_durable.specs.declared.fault.OpenRefused.{OpenRefused};
 ghost use Rattle.ash_meaning.specs.State.{empty};
-ghost use Rattle.ash_registry.specs.Calls.{Registration};
+ghost use Rattle.ash_registry.specs.Registrations.{Registration};
 
 use ash_disk::Disk;
 

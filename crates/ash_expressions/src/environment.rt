@@ -3,7 +3,7 @@
 ghost use Rattle.std.specs.Prelude.{◌≡◌, map, option_map, IfOk};
 ghost use Rattle.std.specs.Option.{option_copied};
 ghost use Rattle.ash_registrations.specs.Registered.{registered};
-ghost use Rattle.ash_registrations.specs.Calls.{call_of};
+ghost use Rattle.ash_registrations.specs.Registrations.{registration_of};
 ghost use Rattle.ash_typing.specs.Environment as environment;
 ghost use Rattle.ash_expressions.specs.Views.{binding_of, interface_signature_of, class_signature_of};
 ghost use Rattle.ash_expressions.specs.Views.{environment_of, placed_class, known_of, callee_of};
@@ -75,7 +75,7 @@ fn global_named(signatures: &Signatures, name: &str) -> Option<(Expr, Ty)>
 
 /// A property of a registered type, with its type.
 fn host_property(call: &Registration) -> Option<(Member, Ty)>
-    ensures { result ≡ environment.property (call_of call.now) }
+    ensures { result ≡ environment.property (registration_of call.now) }
 {
     match call {
         Registration::Property { id, value, .. } => {
@@ -154,7 +154,7 @@ impl<'a, 'n> Environment<'a, 'n> {
     /// A registered type, as it is constructed.
     pub fn host_type_callee(&self, call: &Registration) -> Option<Callee<'a>>
         ensures constructs_host_object { option_map callee_of result
-            ≡ environment.host_type (registered self.now.registry.now) (call_of call.now) }
+            ≡ environment.host_type (registered self.now.registry.now) (registration_of call.now) }
     {
         match call {
             Registration::Type { name, kind } => Some(Callee {
@@ -222,7 +222,7 @@ impl<'a, 'n> Environment<'a, 'n> {
     /// A method or a property of a registered type.
     #[tactic(auto, unfolding(ash_typing::specs::Environment::host_member_in))]
     fn host_member(&self, kind: u16, name: &str) -> Option<&'a Registration>
-        ensures { option_map call_of (option_copied result)
+        ensures { option_map registration_of (option_copied result)
             ≡ environment.host_member_in (registered self.now.registry.now) kind name.now }
     {
         self.registry.member(self.type_name(kind), name)

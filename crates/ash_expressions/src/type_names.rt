@@ -2,7 +2,7 @@
 
 ghost use Rattle.std.specs.Prelude.{◌≡◌, option_map};
 ghost use Rattle.ash_registrations.specs.Registered.{registered};
-ghost use Rattle.ash_registrations.specs.Calls.{call_of};
+ghost use Rattle.ash_registrations.specs.Registrations.{registration_of};
 ghost use Rattle.ash_tree.specs.Views.{element_of, type_of};
 ghost use Rattle.ash_typing.specs.ModuleDeclarations as definition;
 ghost use Rattle.ash_expressions.specs.Views.{signatures_of};
@@ -16,7 +16,7 @@ use ash_typing::Ty;
 
 /// The type of a registered type's objects.
 fn host_object_type(call: &Registration) -> Option<ObjectType>
-    ensures { result ≡ definition.host_object (call_of call.now) }
+    ensures { result ≡ definition.host_object (registration_of call.now) }
 {
     match call {
         Registration::Type { kind, .. } => Some(ObjectType::Host(*kind)),

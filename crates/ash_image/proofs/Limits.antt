@@ -3,7 +3,7 @@ use Rattle.std.proofs.Common.{ℕ, zero, suc, ◌<◌, List, [], ◌∷◌, leng
 use Rattle.std.specs.List.{AllByRecursion}
 use Rattle.ash_host.specs.declared.word.Word.{Word}
 use Rattle.ash_host.specs.declared.word.Word.TheVariants as words
-use Rattle.ash_registry.specs.Calls.{Registration}
+use Rattle.ash_registry.specs.Registrations.{Registration}
 use Rattle.ash_image.specs.Image.{AreWithinLimits, IsWithinLimits, NamesObject, NameNoObject}
 use Rattle.ash_meaning.specs.StoredModules.{Admits, IsAdmitted, IsInt, loaded_module_in, loaded_modules_in, state_in}
 use Rattle.ash_meaning.specs.State.{LoadedModule}

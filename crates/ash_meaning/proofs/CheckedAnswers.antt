@@ -15,7 +15,7 @@ use Rattle.ash_parse.specs.ItemReader.{module_at}
 use Rattle.ash_parse.specs.Faults.{end_of, fault_of}
 use Rattle.ash_parse.specs.FirstFault.{FirstFault as FirstSyntaxFault, ReportsFirst}
 use Rattle.ash_parse.proofs.FirstFaults.{first_is_stop}
-use Rattle.ash_registry.specs.Calls.{Registration}
+use Rattle.ash_registry.specs.Registrations.{Registration}
 use Rattle.ash_typing.specs.declared.fault.Rule.{Rule}
 use Rattle.ash_typing.specs.declared.fault.Rule.TheVariants as rules
 use Rattle.ash_typed.specs.Modules.{Module as Typed}

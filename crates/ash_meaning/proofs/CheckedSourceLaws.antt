@@ -19,7 +19,7 @@ use Rattle.ash_parse.specs.Faults as parse_spec
 use Rattle.ash_parse.proofs.ItemComplete.{module_read as parsed_again}
 use Rattle.ash_parse.proofs.WholeModules.{module_derived}
 use Rattle.ash_parse.proofs.FirstFaults.{module_stops_first, first_is_stop}
-use Rattle.ash_registry.specs.Calls.{Registration}
+use Rattle.ash_registry.specs.Registrations.{Registration}
 use Rattle.ash_typing.specs.declared.fault.Rule.{Rule}
 use Rattle.ash_typing.specs.declared.fault.Rule.TheVariants as rules
 use Rattle.ash_typed.specs.Modules.{Module as Typed}

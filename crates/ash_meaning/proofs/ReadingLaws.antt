@@ -3,7 +3,7 @@ use Rattle.std.proofs.Common.{◌≡◌, ◌↔◌, ℕ, ◌<◌, ◌⊎◌, inl
 use Rattle.std.proofs.Common.{IfErr, refl, sym, ◌∙◌, ap, subst}
 use Rattle.ash_lex.specs.Tokens.{Lexeme}
 use Rattle.ash_tree.specs.Tree.{Item}
-use Rattle.ash_registry.specs.Calls.{Registration}
+use Rattle.ash_registry.specs.Registrations.{Registration}
 use Rattle.ash_meaning.specs.Lexing.{Lexes}
 use Rattle.ash_classes.specs.References.{classes_of}
 use Rattle.ash_check.specs.Checks.{Broken, Cyclic, names_of_cycle}

@@ -17,7 +17,7 @@ use Rattle.ash_parse.specs.Readers.{Halt, ParseResult}
 use Rattle.ash_parse.specs.ItemReader.{module_at}
 use Rattle.ash_parse.specs.Faults.{fault_of}
 use Rattle.ash_parse.specs.FirstFault.{FirstFault}
-use Rattle.ash_registry.specs.Calls.{Registration}
+use Rattle.ash_registry.specs.Registrations.{Registration}
 use Rattle.ash_typing.specs.declared.fault.Rule.{Rule}
 use Rattle.ash_typing.specs.declared.fault.Rule.TheVariants as rules
 use Rattle.ash_typing.specs.declared.fault.Fault.{Fault}
@@ -137,7 +137,7 @@ ChecksTokens registered tokens (Ok items) = IsTypedScript registered tokens item
 ChecksTokens registered tokens (Err refusal) = IsNoScript tokens refusal ⊎ IsUntypedScript registered tokens refusal
     ⊎ IsCyclicScript registered tokens refusal
 
--- what checking a source comes to, where these calls are registered
+-- what checking a source comes to, with these registrations
 pub data Checks (registered : List Registration) (source : List ℕ) (outcome : CheckResult) : Type 0 where
   no_tokens : (refusal : Refusal) → outcome ≡ Err refusal → Lexes source (Err refusal)
       → Checks registered source outcome

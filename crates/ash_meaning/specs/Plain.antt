@@ -4,7 +4,7 @@ use Rattle.std.specs.Prelude.{string_bytes}
 use Rattle.std.specs.Bool.{IsTrue}
 use Rattle.std.specs.List.{AllByRecursion}
 use Rattle.ash_host.specs.declared.word.Word.{Word}
-use Rattle.ash_registry.specs.Calls.{Registration}
+use Rattle.ash_registry.specs.Registrations.{Registration}
 use Rattle.ash_meaning.specs.declared.loaded_module.LoadedModule as declared
 use Rattle.ash_meaning.specs.declared.stored.StoredModule.{StoredModule}
 use Rattle.ash_meaning.specs.declared.request.Argument.{Argument}

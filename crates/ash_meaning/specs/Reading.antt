@@ -4,7 +4,7 @@
 -- far: one that can't is refused as such.
 use Rattle.std.specs.Prelude.{◌≡◌, ℕ, List, Option, Some, None, Result, Ok, Err}
 use Rattle.ash_tree.specs.Tree.{Item}
-use Rattle.ash_registry.specs.Calls.{Registration}
+use Rattle.ash_registry.specs.Registrations.{Registration}
 use Rattle.ash_meaning.specs.CheckedSource.{CheckResult, Checks, checked_source, TakesMemoryToRefuse}
 use Rattle.ash_subset.specs.Tree.{Module}
 use Rattle.ash_meaning.specs.Refusals.{Refusal}
@@ -20,7 +20,7 @@ ReadsScript items (Ok tree) = resolved items ≡ Some tree
 ReadsScript items (Err refusals.NotYet) = resolved items ≡ None
 ReadsScript items (Err _) = ⊥
 
--- what a source is read as, where these calls are registered
+-- what a source is read as, with these registrations
 pub data Reads (registered : List Registration) (source : List ℕ) (reading : ReadResult) : Type 0 where
   refused : (refusal : Refusal) → reading ≡ Err refusal → Checks registered source (Err refusal)
       → Reads registered source reading

@@ -1,7 +1,7 @@
 -- What outlives a request, and what is asked and replied.
 use Rattle.std.specs.Prelude.{ℕ, List, [], string_bytes, Result, Ok, Err}
 use Rattle.ash_host.specs.declared.word.Word.{Word}
-use Rattle.ash_registry.specs.Calls.{Registration}
+use Rattle.ash_registry.specs.Registrations.{Registration}
 use Rattle.ash_meaning.specs.Refusals.{Refusal, refusal_of}
 use Rattle.ash_meaning.specs.declared.refusal.Refusal as refusal
 use Rattle.ash_meaning.specs.declared.request.Argument as argument

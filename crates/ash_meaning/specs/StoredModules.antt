@@ -4,7 +4,7 @@ use Rattle.std.specs.Bool.{IsTrue}
 use Rattle.std.specs.List.{AllByRecursion}
 use Rattle.ash_host.specs.declared.word.Word.{Word}
 use Rattle.ash_host.specs.declared.word.Word.TheVariants.{Int}
-use Rattle.ash_registry.specs.Calls.{Registration}
+use Rattle.ash_registry.specs.Registrations.{Registration}
 use Rattle.ash_meaning.specs.declared.stored.StoredModule.{StoredModule}
 use Rattle.ash_meaning.specs.declared.stored.ModuleParts.{ModuleParts}
 use Rattle.ash_subset.specs.Tree.{Module}

@@ -5,7 +5,7 @@ ghost use Rattle.std.specs.List.{AllByRecursion};
 ghost use Rattle.ash_lex.specs.Tokens.{lexemes};
 ghost use Rattle.ash_tree.specs.Views.{module_of as items_of};
 ghost use Rattle.ash_tree.specs.Tree.{Item};
-ghost use Rattle.ash_registry.specs.Calls.{Registration};
+ghost use Rattle.ash_registry.specs.Registrations.{Registration};
 ghost use Rattle.ash_registry.specs.Registered.{registered};
 ghost use Rattle.ash_typed.specs.Modules.{Module as Typed};
 ghost use Rattle.ash_typing.specs.Nesting.{ItemsDeclareInBlocks};
@@ -55,7 +55,7 @@ fn module_with_tokens(
     }
 }
 
-/// The script that a source spells, where these calls are registered.
+/// The script that a source spells, with these registrations.
 ///
 /// # Errors
 ///
@@ -80,7 +80,7 @@ pub(crate) fn checked_module(
     }
 }
 
-/// Checks a source as `load` does, where these calls are registered, and runs nothing. It is `Ok` where nothing is
+/// Checks a source as `load` does, with these registrations, and runs nothing. It is `Ok` where nothing is
 /// reported, also of a script that is typed and can't be run so far.
 ///
 /// # Errors

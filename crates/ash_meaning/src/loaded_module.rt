@@ -5,7 +5,7 @@ ghost use Rattle.std.specs.Bool.{IsTrue};
 ghost use Rattle.std.specs.List.{AllByRecursion};
 ghost use Rattle.std.specs.Option.{ok_or};
 ghost use Rattle.std.specs.Vec.{vec_items};
-ghost use Rattle.ash_registry.specs.Calls.{Registration};
+ghost use Rattle.ash_registry.specs.Registrations.{Registration};
 ghost use Rattle.ash_registry.specs.Registered.{registered};
 ghost use Rattle.ash_meaning.specs.StoredModules.{IsInt};
 ghost use Rattle.ash_meaning.specs.Plain.{IsConsistent, AreEachConsistent, RestoresOne, RestoresEach};

@@ -2,7 +2,7 @@
 
 ghost use Rattle.std.specs.Prelude.{◌≡◌, ◌⊎◌, ◌↔◌, ℕ, List, Ok, Err, option_map, IfOk, IfErr};
 ghost use Rattle.ash_tree.specs.Views.{module_of as items_of};
-ghost use Rattle.ash_registry.specs.Calls.{Registration};
+ghost use Rattle.ash_registry.specs.Registrations.{Registration};
 ghost use Rattle.ash_registry.specs.Registered.{registered};
 ghost use Rattle.ash_meaning.specs.Reading.{ReadResult, Reads, module_or_none, read_source, module_read};
 ghost use Rattle.ash_meaning.specs.Reading.{TakesMemoryToRead};
@@ -31,7 +31,7 @@ fn resolved_module(alloc: Global, script: &ash_tree::Module) -> Result<Module, R
     }
 }
 
-/// The typed tree of a source, where these calls are registered.
+/// The typed tree of a source, with these registrations.
 ///
 /// # Errors
 ///

@@ -7,7 +7,7 @@ use Rattle.std.proofs.Common.{◌≡◌, ◌<◌, ◌⊎◌, inl, inr, ⊎_elim,
 use Rattle.std.proofs.Common.{None, IfSome, find, All, Any, Contains, slice_get, suc, refl, sym, ap, subst, ◌∙◌, arith}
 use Rattle.ash_classes.specs.References as written_references
 use Rattle.ash_classes.specs.Paths as paths
-use Rattle.ash_registrations.specs.Calls as host
+use Rattle.ash_registrations.specs.Registrations as host
 use Rattle.ash_tree.specs.declared.tree.types.Primitive.{Primitive}
 use Rattle.ash_tree.specs.declared.tree.types.Primitive.TheVariants as primitives
 use Rattle.ash_tree.specs.Tree as written
@@ -137,23 +137,23 @@ interface_is_named named name =
 host_is_named : (named : ModuleDeclarations) (name : List ℕ) (call : Option host.Registration)
     → IfSome (option_and_then host_object call) (IsNamed named name)
 host_is_named named name None = tt
-host_is_named named name (Some (host.AType other kind)) = tt
+host_is_named named name (Some (host.TypeRegistration other kind)) = tt
 host_is_named named name (Some _) = tt
 
-object_is_named : (calls : List host.Registration) (named : ModuleDeclarations) (name : List ℕ)
-    → IfSome (object_named calls named name) (IsNamed named name)
+object_is_named : (registrations : List host.Registration) (named : ModuleDeclarations) (name : List ℕ)
+    → IfSome (object_named registrations named name) (IsNamed named name)
 unfolding object_named
-object_is_named calls named name =
+object_is_named registrations named name =
     if_or (IsNamed named name) (class_type named.classes name)
-    (option_or (interface_type named.interfaces name) (option_and_then host_object (find (host.takes_name name) calls)))
+    (option_or (interface_type named.interfaces name) (option_and_then host_object (find (host.takes_name name) registrations)))
     (class_is_named named name)
     (if_or (IsNamed named name) (interface_type named.interfaces name)
-    (option_and_then host_object (find (host.takes_name name) calls)) (interface_is_named named name)
-    (host_is_named named name (find (host.takes_name name) calls)))
+    (option_and_then host_object (find (host.takes_name name) registrations)) (interface_is_named named name)
+    (host_is_named named name (find (host.takes_name name) registrations)))
 
-named_by : (calls : List host.Registration) (named : ModuleDeclarations) (name : List ℕ) (o : ObjectType)
-    → object_named calls named name ≡ Some o → IsNamed named name o
-named_by calls named name o e = let h = object_is_named calls named name in
+named_by : (registrations : List host.Registration) (named : ModuleDeclarations) (name : List ℕ) (o : ObjectType)
+    → object_named registrations named name ≡ Some o → IsNamed named name o
+named_by registrations named name o e = let h = object_is_named registrations named name in
     subst (λ (found : Option ObjectType). IfSome found (IsNamed named name)) e h
 
 -- two names of one interface are the same
@@ -169,20 +169,20 @@ abbrev HasClass : List written.Item → ℕ → (written.Class → Type 0) → T
 HasClass is place P = (c : written.Class) × (slice_get (classes_of is) place ≡ Some c) × P c
 
 -- the interfaces that are listed
-among_listed : (calls : List host.Registration) (named : ModuleDeclarations) (ns : List written.TypeName) (interface : ℕ)
-    → Among (λ i. i ≡ interface) (listed_in calls named ns)
-    → Among (λ n. object_named calls named n.name ≡ Some (objects.Interface interface)) ns
+among_listed : (registrations : List host.Registration) (named : ModuleDeclarations) (ns : List written.TypeName) (interface : ℕ)
+    → Among (λ i. i ≡ interface) (listed_in registrations named ns)
+    → Among (λ n. object_named registrations named n.name ≡ Some (objects.Interface interface)) ns
 unfolding Among
-among_listed calls named [] interface h = h
-among_listed calls named (n ∷ ns) interface h =
-    go (object_named calls named n.name) refl h (among_listed calls named ns interface)
+among_listed registrations named [] interface h = h
+among_listed registrations named (n ∷ ns) interface h =
+    go (object_named registrations named n.name) refl h (among_listed registrations named ns interface)
   where
-    go : (found : Option ObjectType) → object_named calls named n.name ≡ found
-        → Among (λ i. i ≡ interface) (with_place (interface_place found) (listed_in calls named ns))
-        → (Among (λ i. i ≡ interface) (listed_in calls named ns)
-        → Among (λ n. object_named calls named n.name ≡ Some (objects.Interface interface)) ns)
-        → (object_named calls named n.name ≡ Some (objects.Interface interface)) ⊎ Among
-        (λ n. object_named calls named n.name ≡ Some (objects.Interface interface)) ns
+    go : (found : Option ObjectType) → object_named registrations named n.name ≡ found
+        → Among (λ i. i ≡ interface) (with_place (interface_place found) (listed_in registrations named ns))
+        → (Among (λ i. i ≡ interface) (listed_in registrations named ns)
+        → Among (λ n. object_named registrations named n.name ≡ Some (objects.Interface interface)) ns)
+        → (object_named registrations named n.name ≡ Some (objects.Interface interface)) ⊎ Among
+        (λ n. object_named registrations named n.name ≡ Some (objects.Interface interface)) ns
     go (Some (objects.Interface i)) e (inl same) more = inl (e ∙ ap (λ place. Some (objects.Interface place)) same)
     go (Some (objects.Interface i)) e (inr rest) more = inr (more rest)
     go (Some (objects.Class i)) e h more = inr (more h)
@@ -190,16 +190,16 @@ among_listed calls named (n ∷ ns) interface h =
     go (Some (objects.Array of)) e h more = inr (more h)
     go None e h more = inr (more h)
 
-module _ (calls : List host.Registration) (is : List written.Item) where
+module _ (registrations : List host.Registration) (is : List written.Item) where
   abbrev seen : signatures.Signatures
-  seen = signatures_in calls (declarations calls is)
+  seen = signatures_in registrations (declarations registrations is)
 
   written_class : (place : ℕ) (c : signatures.ClassSignature) → slice_get seen.classes place ≡ Some c
-      → HasClass is place (λ w. signature_of_class (class_declaration calls (names_in is) w) ≡ c)
+      → HasClass is place (λ w. signature_of_class (class_declaration registrations (names_in is) w) ≡ c)
   unfolding declarations
   written_class place c h =
-      let signed = unmapped signature_of_class (declarations calls is).classes place c h in
-      let head = unmapped (class_declaration calls (names_in is)) (classes_of is) place signed.0 signed.1 in
+      let signed = unmapped signature_of_class (declarations registrations is).classes place c h in
+      let head = unmapped (class_declaration registrations (names_in is)) (classes_of is) place signed.0 signed.1 in
       (head.0, head.1, ap signature_of_class head.2 ∙ signed.2)
 
   -- a class of the name at the place
@@ -215,26 +215,26 @@ module _ (calls : List host.Registration) (is : List written.Item) where
   lister_written name interface place h lists =
       let at = written_class place lists.0 lists.1 in
       let listed = subst (λ (c : signatures.ClassSignature). Contains c.interfaces interface) (sym at.2) lists.2 in
-      let among = among_listed calls (names_in is) at.0.interfaces interface
-      (among_from (λ i. i ≡ interface) (listed_in calls (names_in is) at.0.interfaces) interface listed refl) in (
+      let among = among_listed registrations (names_in is) at.0.interfaces interface
+      (among_from (λ i. i ≡ interface) (listed_in registrations (names_in is) at.0.interfaces) interface listed refl) in (
         at.0,
         at.1,
         inr (any_among
             (λ n. n.name ≡ name) at.0.interfaces
-            (among_weaker (λ n. object_named calls (names_in is) n.name ≡ Some (objects.Interface interface))
+            (among_weaker (λ n. object_named registrations (names_in is) n.name ≡ Some (objects.Interface interface))
             (λ n. n.name ≡ name) at.0.interfaces
             (λ n e. same_names (names_in is) n.name name interface
-            (named_by calls (names_in is) n.name (objects.Interface interface) e) h) among)),
+            (named_by registrations (names_in is) n.name (objects.Interface interface) e) h) among)),
       )
 
-  object_written : (name : List ℕ) (o : ObjectType) (to : ℕ) → object_named calls (names_in is) name ≡ Some o
+  object_written : (name : List ℕ) (o : ObjectType) (to : ℕ) → object_named registrations (names_in is) name ≡ Some o
       → references.ObjectHolds seen to o → HasClass is to (λ w. written_references.IsOf w name)
   object_written name o to e references.is_class =
-      class_written name to (named_by calls (names_in is) name (objects.Class to) e)
+      class_written name to (named_by registrations (names_in is) name (objects.Class to) e)
   object_written name o to e (references.is_interface {interface = interface} lists) =
-      lister_written name interface to (named_by calls (names_in is) name (objects.Interface interface) e) lists
+      lister_written name interface to (named_by registrations (names_in is) name (objects.Interface interface) e) lists
   object_written name o to e (references.in_array {of = of} h) =
-      absurd (named_by calls (names_in is) name (objects.Array of) e)
+      absurd (named_by registrations (names_in is) name (objects.Array of) e)
 
   -- what may be named holds objects of the class
   abbrev ObjectMay : ℕ → Option ObjectType → Type 0
@@ -245,12 +245,12 @@ module _ (calls : List host.Registration) (is : List written.Item) where
   ElementMay to None = ⊥
   ElementMay to (Some of) = references.ElementHolds seen to of
 
-  object_found : (name : List ℕ) (found : Option ObjectType) (to : ℕ) → object_named calls (names_in is) name ≡ found
+  object_found : (name : List ℕ) (found : Option ObjectType) (to : ℕ) → object_named registrations (names_in is) name ≡ found
       → ObjectMay to found → HasClass is to (λ w. written_references.IsOf w name)
   object_found name None to e h = absurd h
   object_found name (Some o) to e h = object_written name o to e h
 
-  element_found : (name : List ℕ) (found : Option ObjectType) (to : ℕ) → object_named calls (names_in is) name ≡ found
+  element_found : (name : List ℕ) (found : Option ObjectType) (to : ℕ) → object_named registrations (names_in is) name ≡ found
       → ElementMay to (option_and_then element_by found) → HasClass is to (λ w. written_references.IsOf w name)
   element_found name None to e h = absurd h
   element_found name (Some (objects.Class class)) to e references.of_class =
@@ -286,48 +286,48 @@ module _ (calls : List host.Registration) (is : List written.Item) where
   no_primitives to primitives.Uint h = elim h [ ]
   no_primitives to primitives.Uint64 h = elim h [ ]
 
-  element_written : (of : written.Element) (to : ℕ) → ElementMay to (element_named calls (names_in is) of)
+  element_written : (of : written.Element) (to : ℕ) → ElementMay to (element_named registrations (names_in is) of)
       → HasClass is to (λ w. written_references.ElementNames of w)
   unfolding element_named
   element_written (written.PrimElement p primitive) to h = absurd (no_primitives to primitive h)
   element_written (written.HandleElement p name) to h =
-      element_found name (object_named calls (names_in is) name) to refl h
+      element_found name (object_named registrations (names_in is) name) to refl h
 
   -- a type that is written, of variables that can hold objects of the class
-  type_written : (of : written.Named) (to : ℕ) → references.Holds seen to (var_type (ty_named calls (names_in is) of))
+  type_written : (of : written.Named) (to : ℕ) → references.Holds seen to (var_type (ty_named registrations (names_in is) of))
       → HasClass is to (λ w. written_references.Names of w)
   unfolding ty_named
   type_written (written.Prim p primitive) to h = absurd (no_primitive to primitive h)
   type_written (written.Object p name) to h =
-      object_found name (object_named calls (names_in is) name) to refl
-      (object_holds to (object_named calls (names_in is) name) h)
+      object_found name (object_named registrations (names_in is) name) to refl
+      (object_holds to (object_named registrations (names_in is) name) h)
   type_written (written.Handle p name) to h =
-      object_found name (object_named calls (names_in is) name) to refl
-      (handle_holds to (object_named calls (names_in is) name) h)
+      object_found name (object_named registrations (names_in is) name) to refl
+      (handle_holds to (object_named registrations (names_in is) name) h)
   type_written (written.Array p of) to h =
       element_written of to
-      (array_holds to (element_named calls (names_in is) of) (object_holds to (array_named calls (names_in is) of) h))
+      (array_holds to (element_named registrations (names_in is) of) (object_holds to (array_named registrations (names_in is) of) h))
   type_written (written.ArrayHandle p of) to h =
       element_written of to
-      (array_holds to (element_named calls (names_in is) of) (handle_holds to (array_named calls (names_in is) of) h))
+      (array_holds to (element_named registrations (names_in is) of) (handle_holds to (array_named registrations (names_in is) of) h))
 
   -- a field of the type
   abbrev IsFieldOf : VarType → written.Member → Type 0
-  IsFieldOf of (written.AField v) = var_type (ty_named calls (names_in is) v.of) ≡ of
+  IsFieldOf of (written.AField v) = var_type (ty_named registrations (names_in is) v.of) ≡ of
   IsFieldOf of _ = ⊥
 
   field_written : (of : VarType) (ms : List written.Member)
-      → Among (λ d. type_declared d ≡ of) (all_variables calls (names_in is) (fields_of ms)) → Among (IsFieldOf of) ms
+      → Among (λ d. type_declared d ≡ of) (all_variables registrations (names_in is) (fields_of ms)) → Among (IsFieldOf of) ms
   unfolding Among
   field_written of [] h = h
   field_written of (written.AField v ∷ ms) h =
-      let named = ty_named calls (names_in is) v.of in
+      let named = ty_named registrations (names_in is) v.of in
       ⊎_elim (λ here.
       inl (among_all (var_type named ≡ of) v.decls
       (among_map (λ d. type_declared d ≡ of) (declared named) v.decls here)))
       (λ rest. inr (field_written of ms rest))
       (among_append
-      (λ d. type_declared d ≡ of) (variables calls (names_in is) v) (all_variables calls (names_in is) (fields_of ms))
+      (λ d. type_declared d ≡ of) (variables registrations (names_in is) v) (all_variables registrations (names_in is) (fields_of ms))
       h)
   field_written of (written.AMethod f ∷ ms) h = inr (field_written of ms h)
   field_written of (written.AConstructor c ∷ ms) h = inr (field_written of ms h)
@@ -350,31 +350,31 @@ module _ (calls : List host.Registration) (is : List written.Item) where
       let one = written_class from h.0 h.2 in
       let fields = subst (λ (c : signatures.ClassSignature). Contains c.fields h.1) (sym one.2) h.3 in
       let typed = among_map
-      (λ of. of ≡ h.1) type_declared (all_variables calls (names_in is) (fields_of one.0.members))
-      (among_from (λ of. of ≡ h.1) (map type_declared (all_variables calls (names_in is) (fields_of one.0.members)))
+      (λ of. of ≡ h.1) type_declared (all_variables registrations (names_in is) (fields_of one.0.members))
+      (among_from (λ of. of ≡ h.1) (map type_declared (all_variables registrations (names_in is) (fields_of one.0.members)))
       h.1 fields refl) in
       let other = members_written h.1 to one.0.members h.4 (field_written h.1 one.0.members typed) in
       (other.0, other.1, (one.0, one.1, any_among (λ m. written_references.Holds m other.0) one.0.members other.2))
 
-pub typed_refers : (calls : List host.Registration) (is : List written.Item) (m : Module) → IsTyped calls is m → (from to : ℕ)
-    → references.Refers (signatures.signatures_of (offered calls) m) from to
+pub typed_refers : (registrations : List host.Registration) (is : List written.Item) (m : Module) → IsTyped registrations is m → (from to : ℕ)
+    → references.Refers (signatures.signatures_of (offered registrations) m) from to
     → written_references.Refers (classes_of is) from to
-typed_refers calls is m typed from to h =
-    refers_written calls is from to (subst (λ s. references.Refers s from to) (same_signatures calls is m typed) h)
+typed_refers registrations is m typed from to h =
+    refers_written registrations is from to (subst (λ s. references.Refers s from to) (same_signatures registrations is m typed) h)
 
 length-mapped : {A B : Type 0} (f : A → B) (xs : List A) → length (map f xs) ≡ length xs
 length-mapped f [] = refl
 length-mapped f (x ∷ xs) = ap suc (length-mapped f xs)
 
-pub typed_ranks : (calls : List host.Registration) (is : List written.Item) (m : Module) → IsTyped calls is m → (ranks : List ℕ)
+pub typed_ranks : (registrations : List host.Registration) (is : List written.Item) (m : Module) → IsTyped registrations is m → (ranks : List ℕ)
     → paths.AreRanks (written_references.Refers (classes_of is)) (length (classes_of is)) ranks
-    → references.AreRanks (signatures.signatures_of (offered calls) m) ranks
-typed_ranks calls is m typed ranks are =
+    → references.AreRanks (signatures.signatures_of (offered registrations) m) ranks
+typed_ranks registrations is m typed ranks are =
     let long : length (classes_of is) ≡ length (map signatures.signature_of_class m.classes) =
-    sym (classes_length (environment calls is) 0 (classes_of is) m.classes typed.classes)
+    sym (classes_length (environment registrations is) 0 (classes_of is) m.classes typed.classes)
     ∙ sym (length-mapped signatures.signature_of_class m.classes) in
     record {
       count = are.count ∙ long;
       within = subst (λ n. All (λ rank. rank < n) ranks) long are.within;
-      fall = λ from to h. are.greater from to (typed_refers calls is m typed from to h);
+      fall = λ from to h. are.greater from to (typed_refers registrations is m typed from to h);
     }

@@ -8,7 +8,7 @@
 ghost use Rattle.std.specs.Prelude.{ℕ, List, length};
 ghost use Rattle.ash_classes.specs.References as written;
 ghost use Rattle.ash_classes.specs.Paths as paths;
-ghost use Rattle.ash_registrations.specs.Calls.{Registration};
+ghost use Rattle.ash_registrations.specs.Registrations.{Registration};
 ghost use Rattle.ash_tree.specs.Tree.{Item};
 ghost use Rattle.ash_typed.specs.Modules.{Module};
 ghost use Rattle.ash_typed.specs.References.{Refers, AreRanks};
@@ -19,12 +19,12 @@ ghost use Rattle.ash_typing.specs.TypedModules.{IsTyped};
 /// That a class of a typed module refers only to what it refers to as it is written, so that ranks of the written
 /// classes are ranks of the typed ones. It does nothing when it runs.
 pub fn typed_ranks_fall()
-    ensures refers { (calls : List Registration) (is : List Item) (typed : Module)
-        → IsTyped calls is typed → (from to : ℕ)
-        → Refers (signatures_of (offered calls) typed) from to
+    ensures refers { (registrations : List Registration) (is : List Item) (typed : Module)
+        → IsTyped registrations is typed → (from to : ℕ)
+        → Refers (signatures_of (offered registrations) typed) from to
         → written.Refers (written.classes_of is) from to }
-    ensures ranks { (calls : List Registration) (is : List Item) (typed : Module)
-        → IsTyped calls is typed → (ranks : List ℕ)
+    ensures ranks { (registrations : List Registration) (is : List Item) (typed : Module)
+        → IsTyped registrations is typed → (ranks : List ℕ)
         → paths.AreRanks (written.Refers (written.classes_of is)) (length (written.classes_of is))
-        ranks → AreRanks (signatures_of (offered calls) typed) ranks }
+        ranks → AreRanks (signatures_of (offered registrations) typed) ranks }
 {}

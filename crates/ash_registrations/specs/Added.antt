@@ -3,12 +3,12 @@ use Rattle.std.specs.Prelude.{◌≡◌, ◌+◌, Bool, true, false, List, [], �
 use Rattle.std.specs.Prelude.{nat_lt}
 use Rattle.ash_registrations.specs.declared.adding.AddFault.{AddFault}
 use Rattle.ash_registrations.specs.declared.adding.AddFault.TheVariants.{TooLong}
-use Rattle.ash_registrations.specs.Calls.{Registration}
-use Rattle.ash_registrations.specs.Text.{line_of, text_of}
+use Rattle.ash_registrations.specs.Registrations.{Registration}
+use Rattle.ash_registrations.specs.Text.{line_of, text_of, max_registered_text_bytes}
 
--- The text would pass 1,048,576 bytes with one more registration.
+-- The text would be too long with one more registration.
 abbrev pub is_too_long : List Registration → Registration → Bool
-is_too_long old added = nat_lt 1048576 (length (text_of old) + length (line_of added))
+is_too_long old added = nat_lt max_registered_text_bytes (length (text_of old) + length (line_of added))
 
 -- A registration is added after the others where its line fits into the text; else it is refused as too long, or
 -- memory ran out, and nothing changes.

@@ -1,4 +1,4 @@
-pub mod Calls
+pub mod Registrations
 pub mod Names
 pub mod Text
 pub mod Registered

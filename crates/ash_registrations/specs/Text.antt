@@ -4,8 +4,9 @@ use Rattle.std.specs.List.{flat_map, concat}
 use Rattle.std.specs.Fmt.{decimal}
 use Rattle.ash_tree.specs.declared.tree.types.Primitive.{Primitive}
 use Rattle.ash_tree.specs.declared.tree.types.Primitive.TheVariants.{Bool, Int, Int64, Uint, Uint64}
-use Rattle.ash_registrations.specs.Calls.{Operation, Registration, AType, AFactory, AMethod, AProperty, AService}
-use Rattle.ash_registrations.specs.Calls.{AFunction}
+use Rattle.ash_registrations.specs.Registrations.{Operation, Registration, TypeRegistration, FactoryRegistration}
+use Rattle.ash_registrations.specs.Registrations.{MethodRegistration, PropertyRegistration, ServiceRegistration}
+use Rattle.ash_registrations.specs.Registrations.{FunctionRegistration}
 
 -- `primitive_text primitive` is the name of a primitive type.
 abbrev pub primitive_text : Primitive → List ℕ
@@ -36,18 +37,22 @@ operation_text o =
 
 -- `line_of r` is the line of a registration, with its line feed.
 abbrev pub line_of : Registration → List ℕ
-line_of (AType name kind) = concat (codes "type " ∷ name ∷ codes " " ∷ decimal kind ∷ codes "\n" ∷ [])
-line_of (AFactory of parameters) =
+line_of (TypeRegistration name kind) = concat (codes "type " ∷ name ∷ codes " " ∷ decimal kind ∷ codes "\n" ∷ [])
+line_of (FactoryRegistration of parameters) =
     concat (codes "factory " ∷ of ∷ codes " (" ∷ parameters_text parameters ∷ codes ")\n" ∷ [])
-line_of (AMethod of id operation) =
+line_of (MethodRegistration of id operation) =
     concat (codes "method " ∷ of ∷ codes " " ∷ decimal id ∷ codes " " ∷ operation_text operation ∷ codes "\n" ∷ [])
-line_of (AProperty of id value name) =
+line_of (PropertyRegistration of id value name) =
     concat (codes "property " ∷ of ∷ codes " " ∷ decimal id ∷ codes " " ∷ primitive_text value ∷ codes " " ∷ name
     ∷ codes "\n" ∷ [])
-line_of (AService kind) = concat (codes "service " ∷ decimal kind ∷ codes "\n" ∷ [])
-line_of (AFunction service id operation) =
+line_of (ServiceRegistration kind) = concat (codes "service " ∷ decimal kind ∷ codes "\n" ∷ [])
+line_of (FunctionRegistration service id operation) =
     concat (codes "function " ∷ decimal service ∷ codes " " ∷ decimal id ∷ codes " " ∷ operation_text operation
     ∷ codes "\n" ∷ [])
+
+-- The whole text has at most so many bytes.
+abbrev pub max_registered_text_bytes : ℕ
+max_registered_text_bytes = 1048576
 
 -- `text_of registrations` is the whole text.
 abbrev pub text_of : List Registration → List ℕ

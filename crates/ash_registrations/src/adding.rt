@@ -3,7 +3,7 @@ ghost use Rattle.std.specs.Prelude.{◌≡◌, ℕ, List, false, string_bytes};
 ghost use Rattle.std.specs.List.{list_any};
 ghost use Rattle.std.specs.Str.{bytes_eq};
 ghost use Rattle.ash_registrations.specs.Added.{IsAdded};
-ghost use Rattle.ash_registrations.specs.Calls.{call_of, takes_name};
+ghost use Rattle.ash_registrations.specs.Registrations.{registration_of, takes_name};
 ghost use Rattle.ash_registrations.specs.Registered.{registered};
 ghost use Rattle.ash_registrations.specs.declared.adding.AddFault.TheVariants.{NoMemory};
 
@@ -12,7 +12,7 @@ use crate::{Registration, Registrations};
 use std::alloc::{AllocError, AllocFailed};
 
 /// The most bytes of the text.
-const MAX_TEXT: usize = 1_048_576;
+const MAX_REGISTERED_TEXT_BYTES: usize = 1_048_576;
 
 /// Why a registration is not added.
 #[derive(Clone, Copy, Debug, PartialEq, Eq)]
@@ -43,13 +43,13 @@ impl Registrations {
     /// Adds a registration that takes a name of a type or function, with that name.
     pub fn add_named(&mut self, registration: Registration, key: String) -> Result<(), AddFault>
         requires named { (name : List ℕ)
-            → takes_name name (call_of registration) ≡ bytes_eq name (string_bytes key) }
+            → takes_name name (registration_of registration) ≡ bytes_eq name (string_bytes key) }
         requires free { list_any (takes_name (string_bytes key)) (registered self.old) ≡ false }
-        ensures { IsAdded (call_of registration) result
+        ensures added { IsAdded (registration_of registration) result
             (registered self.old) (registered self.new) }
     {
         let added = line(self.alloc, &registration)?;
-        if self.text.len() + added.len() > MAX_TEXT {
+        if self.text.len() + added.len() > MAX_REGISTERED_TEXT_BYTES {
             return Err(AddFault::TooLong);
         }
         self.text.reserve(added.len())?;
@@ -62,12 +62,13 @@ impl Registrations {
 
     /// Adds a registration that takes no name of a type or function.
     pub fn add(&mut self, registration: Registration) -> Result<(), AddFault>
-        requires { (name : List ℕ) → takes_name name (call_of registration) ≡ false }
-        ensures { IsAdded (call_of registration) result
+        requires nameless { (name : List ℕ)
+            → takes_name name (registration_of registration) ≡ false }
+        ensures added { IsAdded (registration_of registration) result
             (registered self.old) (registered self.new) }
     {
         let line = line(self.alloc, &registration)?;
-        if self.text.len() + line.len() > MAX_TEXT {
+        if self.text.len() + line.len() > MAX_REGISTERED_TEXT_BYTES {
             return Err(AddFault::TooLong);
         }
         self.text.reserve(line.len())?;

@@ -2,14 +2,15 @@
 ghost use Rattle.std.specs.Prelude.{◌≡◌, find, slice_get, IfOk};
 ghost use Rattle.std.specs.List.{list_any, filter_map};
 ghost use Rattle.std.specs.Option.{option_copied};
-ghost use Rattle.ash_registrations.specs.Calls.{call_of};
-ghost use Rattle.ash_registrations.specs.Calls as spec;
+ghost use Rattle.ash_registrations.specs.Registrations.{registration_of};
+ghost use Rattle.ash_registrations.specs.Registrations as spec;
 
 use crate::Registration;
 use std::alloc::{AllocError, Global};
 
 pub(crate) fn any_names_type(registrations: &[Registration], name: &str) -> bool
-    ensures { result ≡ list_any (λ r. spec.names_type name.now (call_of r)) registrations.now }
+    ensures { result
+        ≡ list_any (λ r. spec.names_type name.now (registration_of r)) registrations.now }
 {
     registrations
         .iter()
@@ -17,7 +18,7 @@ pub(crate) fn any_names_type(registrations: &[Registration], name: &str) -> bool
 }
 
 pub(crate) fn any_takes_kind(registrations: &[Registration], kind: u16) -> bool
-    ensures { result ≡ list_any (λ r. spec.takes_kind kind (call_of r)) registrations.now }
+    ensures { result ≡ list_any (λ r. spec.takes_kind kind (registration_of r)) registrations.now }
 {
     registrations
         .iter()
@@ -25,7 +26,8 @@ pub(crate) fn any_takes_kind(registrations: &[Registration], kind: u16) -> bool
 }
 
 pub(crate) fn any_is_factory_of(registrations: &[Registration], of: &str) -> bool
-    ensures { result ≡ list_any (λ r. spec.is_factory_of of.now (call_of r)) registrations.now }
+    ensures { result
+        ≡ list_any (λ r. spec.is_factory_of of.now (registration_of r)) registrations.now }
 {
     registrations
         .iter()
@@ -34,7 +36,7 @@ pub(crate) fn any_is_factory_of(registrations: &[Registration], of: &str) -> boo
 
 pub(crate) fn any_takes_member(registrations: &[Registration], of: &str, name: &str) -> bool
     ensures { result
-        ≡ list_any (λ r. spec.takes_member of.now name.now (call_of r)) registrations.now }
+        ≡ list_any (λ r. spec.takes_member of.now name.now (registration_of r)) registrations.now }
 {
     registrations
         .iter()
@@ -42,7 +44,8 @@ pub(crate) fn any_takes_member(registrations: &[Registration], of: &str, name: &
 }
 
 pub(crate) fn any_takes_method(registrations: &[Registration], of: &str, id: u16) -> bool
-    ensures { result ≡ list_any (λ r. spec.takes_method of.now id (call_of r)) registrations.now }
+    ensures { result
+        ≡ list_any (λ r. spec.takes_method of.now id (registration_of r)) registrations.now }
 {
     registrations
         .iter()
@@ -50,7 +53,8 @@ pub(crate) fn any_takes_method(registrations: &[Registration], of: &str, id: u16
 }
 
 pub(crate) fn any_takes_property(registrations: &[Registration], of: &str, id: u16) -> bool
-    ensures { result ≡ list_any (λ r. spec.takes_property of.now id (call_of r)) registrations.now }
+    ensures { result
+        ≡ list_any (λ r. spec.takes_property of.now id (registration_of r)) registrations.now }
 {
     registrations
         .iter()
@@ -59,7 +63,7 @@ pub(crate) fn any_takes_property(registrations: &[Registration], of: &str, id: u
 
 pub(crate) fn any_takes_function(registrations: &[Registration], service: u16, id: u16) -> bool
     ensures { result
-        ≡ list_any (λ r. spec.takes_function service id (call_of r)) registrations.now }
+        ≡ list_any (λ r. spec.takes_function service id (registration_of r)) registrations.now }
 {
     registrations
         .iter()
@@ -83,7 +87,7 @@ pub(crate) fn find_member<'a>(
     name: &str,
 ) -> Option<&'a Registration>
     ensures { option_copied result
-        ≡ find (λ r. spec.takes_member of.now name.now (call_of r)) registrations.now }
+        ≡ find (λ r. spec.takes_member of.now name.now (registration_of r)) registrations.now }
 {
     registrations
         .iter()
@@ -95,7 +99,7 @@ pub(crate) fn find_factory<'a>(
     of: &str,
 ) -> Option<&'a Registration>
     ensures { option_copied result
-        ≡ find (λ r. spec.is_factory_of of.now (call_of r)) registrations.now }
+        ≡ find (λ r. spec.is_factory_of of.now (registration_of r)) registrations.now }
 {
     registrations
         .iter()
@@ -104,7 +108,7 @@ pub(crate) fn find_factory<'a>(
 
 pub(crate) fn find_kind(registrations: &[Registration], kind: u16) -> Option<&Registration>
     ensures { option_copied result
-        ≡ find (λ r. spec.takes_kind kind (call_of r)) registrations.now }
+        ≡ find (λ r. spec.takes_kind kind (registration_of r)) registrations.now }
 {
     registrations
         .iter()
@@ -116,7 +120,7 @@ pub(crate) fn kinds_of_services(
     registrations: &[Registration],
 ) -> Result<Vec<u16>, AllocError>
     ensures { IfOk result (λ kinds. kinds.items
-        ≡ filter_map (λ r. spec.service_kind (call_of r)) registrations.now) }
+        ≡ filter_map (λ r. spec.service_kind (registration_of r)) registrations.now) }
 {
     let mut kinds = Vec::new(alloc);
     for registration in registrations {

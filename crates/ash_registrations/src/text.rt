@@ -1,7 +1,9 @@
 //! The line of an accepted registration.
 ghost use Rattle.std.specs.Prelude.{◌≡◌, [], ◌∷◌, ◌++◌, codes, string_bytes, IfOk, OnOk};
-ghost use Rattle.ash_registrations.specs.Calls.{call_of, operation_of, AType, AFactory, AMethod, AProperty};
-ghost use Rattle.ash_registrations.specs.Calls.{AService, AFunction};
+ghost use Rattle.ash_registrations.specs.Registrations.{registration_of, operation_of, TypeRegistration};
+ghost use Rattle.ash_registrations.specs.Registrations.{FactoryRegistration, MethodRegistration};
+ghost use Rattle.ash_registrations.specs.Registrations.{PropertyRegistration};
+ghost use Rattle.ash_registrations.specs.Registrations.{ServiceRegistration, FunctionRegistration};
 ghost use Rattle.std.specs.List.{concat};
 ghost use Rattle.ash_registrations.specs.Text.{primitive_text, result_text, more_parameters, parameters_text};
 ghost use Rattle.ash_registrations.specs.Text.{operation_text, line_of};
@@ -79,14 +81,15 @@ fn operation(alloc: Global, operation: &Operation) -> Result<String, AllocError>
 }
 
 fn type_line(alloc: Global, name: &str, kind: u16) -> Result<String, AllocError>
-    ensures { IfOk result (λ text. string_bytes text ≡ line_of (AType name.now kind)) }
+    ensures { IfOk result (λ text. string_bytes text ≡ line_of (TypeRegistration name.now kind)) }
 {
     let kind = kind.to_string(alloc)?;
     ["type ", name, " ", kind.as_str(), "\n"].concat(alloc)
 }
 
 fn factory_line(alloc: Global, of: &str, types: &[Primitive]) -> Result<String, AllocError>
-    ensures { IfOk result (λ text. string_bytes text ≡ line_of (AFactory of.now types.now)) }
+    ensures { IfOk result (λ text. string_bytes text
+        ≡ line_of (FactoryRegistration of.now types.now)) }
 {
     let parameters = join_parameters(alloc, types)?;
     ["factory ", of, " (", parameters.as_str(), ")\n"].concat(alloc)
@@ -94,7 +97,7 @@ fn factory_line(alloc: Global, of: &str, types: &[Primitive]) -> Result<String, 
 
 fn method_line(alloc: Global, of: &str, id: u16, method: &Operation) -> Result<String, AllocError>
     ensures { IfOk result (λ text. string_bytes text
-        ≡ line_of (AMethod of.now id (operation_of method.now))) }
+        ≡ line_of (MethodRegistration of.now id (operation_of method.now))) }
 {
     let id = id.to_string(alloc)?;
     let method = operation(alloc, method)?;
@@ -124,14 +127,14 @@ fn property_line(
     name: &str,
 ) -> Result<String, AllocError>
     ensures { IfOk result (λ text. string_bytes text
-        ≡ line_of (AProperty of.now id value name.now)) }
+        ≡ line_of (PropertyRegistration of.now id value name.now)) }
 {
     let id = id.to_string(alloc)?;
     join_property(alloc, of, id.as_str(), primitive_name(value), name)
 }
 
 fn service_line(alloc: Global, kind: u16) -> Result<String, AllocError>
-    ensures { IfOk result (λ text. string_bytes text ≡ line_of (AService kind)) }
+    ensures { IfOk result (λ text. string_bytes text ≡ line_of (ServiceRegistration kind)) }
 {
     let kind = kind.to_string(alloc)?;
     ["service ", kind.as_str(), "\n"].concat(alloc)
@@ -144,7 +147,7 @@ fn function_line(
     function: &Operation,
 ) -> Result<String, AllocError>
     ensures { IfOk result (λ text. string_bytes text
-        ≡ line_of (AFunction service id (operation_of function.now))) }
+        ≡ line_of (FunctionRegistration service id (operation_of function.now))) }
 {
     let service = service.to_string(alloc)?;
     let id = id.to_string(alloc)?;
@@ -163,7 +166,7 @@ fn function_line(
 
 /// The line of a registration, with its line feed.
 pub(crate) fn line(alloc: Global, registration: &Registration) -> Result<String, AllocError>
-    ensures { IfOk result (λ text. string_bytes text ≡ line_of (call_of registration.now)) }
+    ensures { IfOk result (λ text. string_bytes text ≡ line_of (registration_of registration.now)) }
 {
     match registration {
         Registration::Type { name, kind } => type_line(alloc, name, *kind),

@@ -1,6 +1,6 @@
 pub mod Texts
 pub mod NameClasses
-pub mod Calls
+pub mod Registrations
 pub mod Text
 pub mod Refusals
 pub mod Registered

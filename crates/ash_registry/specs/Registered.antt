@@ -1,7 +1,7 @@
 -- This definition says what a registry shows.
 use Rattle.std.specs.Prelude.{List}
 use Rattle.ash_registry.specs.declared.registry.Registry.{Registry}
-use Rattle.ash_registrations.specs.Calls.{Registration}
+use Rattle.ash_registrations.specs.Registrations.{Registration}
 use Rattle.ash_registrations.specs.Registered as table
 
 -- `registered r` are the accepted registrations, in order.

@@ -1,7 +1,7 @@
 //! A registration that is accepted, and added.
 ghost use Rattle.std.specs.Prelude.{◌≡◌, ℕ, List, false, [], ◌∷◌, nat_le, string_bytes};
 ghost use Rattle.std.specs.List.{list_any};
-ghost use Rattle.ash_registrations.specs.Calls.{call_of, takes_name};
+ghost use Rattle.ash_registrations.specs.Registrations.{registration_of, takes_name};
 ghost use Rattle.std.specs.Str.{bytes_eq};
 ghost use Rattle.ash_registry.specs.Registered.{registered};
 ghost use Rattle.ash_registry.specs.Refusals.{RegisteredIf, cause_of_many};
@@ -18,11 +18,11 @@ impl Registry {
         max: usize,
     ) -> Result<(), RegistryFault>
         requires named { (name : List ℕ)
-            → takes_name name (call_of registration) ≡ bytes_eq name (string_bytes key) }
+            → takes_name name (registration_of registration) ≡ bytes_eq name (string_bytes key) }
         requires free { list_any (takes_name (string_bytes key)) (registered self.old) ≡ false }
         ensures { RegisteredIf
-            (cause_of_many (nat_le max count) (registered self.old) (call_of registration))
-            (call_of registration ∷ []) result (registered self.old) (registered self.new) }
+            (cause_of_many (nat_le max count) (registered self.old) (registration_of registration))
+            (registration_of registration ∷ []) result (registered self.old) (registered self.new) }
     {
         if count >= max {
             return Err(RegistryFault::TooMany);
@@ -38,10 +38,10 @@ impl Registry {
         count: usize,
         max: usize,
     ) -> Result<(), RegistryFault>
-        requires { (name : List ℕ) → takes_name name (call_of registration) ≡ false }
+        requires { (name : List ℕ) → takes_name name (registration_of registration) ≡ false }
         ensures { RegisteredIf
-            (cause_of_many (nat_le max count) (registered self.old) (call_of registration))
-            (call_of registration ∷ []) result (registered self.old) (registered self.new) }
+            (cause_of_many (nat_le max count) (registered self.old) (registration_of registration))
+            (registration_of registration ∷ []) result (registered self.old) (registered self.new) }
     {
         if count >= max {
             return Err(RegistryFault::TooMany);
@@ -51,9 +51,9 @@ impl Registry {
 
     // Adds a registration that nothing else refuses, and that takes no name of a type or function.
     pub(crate) fn add(&mut self, registration: Registration) -> Result<(), RegistryFault>
-        requires { (name : List ℕ) → takes_name name (call_of registration) ≡ false }
-        ensures { RegisteredIf (cause_of_many false (registered self.old) (call_of registration))
-            (call_of registration ∷ []) result (registered self.old) (registered self.new) }
+        requires { (name : List ℕ) → takes_name name (registration_of registration) ≡ false }
+        ensures { RegisteredIf (cause_of_many false (registered self.old) (registration_of registration))
+            (registration_of registration ∷ []) result (registered self.old) (registered self.new) }
     {
         self.table.add(registration)?;
         Ok(())

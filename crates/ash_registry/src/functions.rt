@@ -4,7 +4,7 @@ ghost use Rattle.std.specs.List.{list_any};
 ghost use Rattle.std.specs.Option.{option_map};
 ghost use Rattle.ash_tree.specs.Tree.{Declaration as DeclarationTree};
 ghost use Rattle.ash_tree.specs.Views.{declaration_of, signature_of};
-ghost use Rattle.ash_registrations.specs.Calls.{AFunction, is_service, is_function, takes_function, takes_name};
+ghost use Rattle.ash_registrations.specs.Registrations.{FunctionRegistration, is_service, is_function, takes_function, takes_name};
 ghost use Rattle.ash_registry.specs.declared.fault.RegistryFault.TheVariants.{NoService};
 ghost use Rattle.ash_registry.specs.Registered.{registered};
 ghost use Rattle.ash_registry.specs.Refusals.{RegisteredIf, RefusedWithoutAllocating, cause_of_many};
@@ -73,7 +73,7 @@ impl Registry {
     ) -> Result<(), RegistryFault>
         ensures { RegisteredIf
             (refusal_of_operation (registered self.old) service id (signature_of signature))
-            (AFunction service id (primitive_operation (signature_of signature)) ∷ [])
+            (FunctionRegistration service id (primitive_operation (signature_of signature)) ∷ [])
             result (registered self.old) (registered self.new) }
     {
         if self.names_unknown(&signature) {
@@ -99,8 +99,8 @@ impl Registry {
         ensures { RegisteredIf
             (cause_of_many (nat_le 256 (count_by is_function (registered self.old)))
             (registered self.old)
-            (AFunction service id (primitive_operation (signature_of signature))))
-            (AFunction service id (primitive_operation (signature_of signature)) ∷ []) result
+            (FunctionRegistration service id (primitive_operation (signature_of signature))))
+            (FunctionRegistration service id (primitive_operation (signature_of signature)) ∷ []) result
             (registered self.old) (registered self.new) }
     {
         let key = signature.name.clone()?;

@@ -4,8 +4,8 @@ ghost use Rattle.std.specs.List.{filter_map, list_any};
 ghost use Rattle.std.specs.Option.{option_map};
 ghost use Rattle.ash_tree.specs.Tree.{Declaration as DeclarationTree};
 ghost use Rattle.ash_tree.specs.Views.{declaration_of, signature_of, type_of};
-ghost use Rattle.ash_registrations.specs.Calls.{AType, AFactory, AMethod, AProperty, AService, is_member_of};
-ghost use Rattle.ash_registrations.specs.Calls.{is_service, takes_kind};
+ghost use Rattle.ash_registrations.specs.Registrations.{TypeRegistration, FactoryRegistration, MethodRegistration, PropertyRegistration, ServiceRegistration, is_member_of};
+ghost use Rattle.ash_registrations.specs.Registrations.{is_service, takes_kind};
 ghost use Rattle.ash_registry.specs.declared.fault.RegistryFault.TheVariants.{BadDeclaration, NameTaken, UnknownType};
 ghost use Rattle.ash_registry.specs.declared.fault.RegistryFault.TheVariants.{NotPrimitive};
 ghost use Rattle.ash_registry.specs.Registered.{registered};
@@ -39,7 +39,7 @@ impl Registry {
     pub fn object_type(&mut self, name: &str, kind: u16) -> Result<(), RegistryFault>
         ensures { (name_class : NameClass) → HasNameClass name.now name_class
             → RegisteredIf (refusal_of_type (registered self.old) name.now name_class kind)
-            (AType name.now kind ∷ []) result (registered self.old) (registered self.new) }
+            (TypeRegistration name.now kind ∷ []) result (registered self.old) (registered self.new) }
     {
         let name_kind = read_name(self.alloc, name)?;
         self.classified_type(name, name_kind, kind)
@@ -53,7 +53,7 @@ impl Registry {
     ) -> Result<(), RegistryFault>
         ensures { RegisteredIf
             (refusal_of_type (registered self.old) name.now (name_class_of name_kind) kind)
-            (AType name.now kind ∷ []) result (registered self.old) (registered self.new) }
+            (TypeRegistration name.now kind ∷ []) result (registered self.old) (registered self.new) }
     {
         match name_kind {
             NameKind::Name => self.named_type(name, kind),
@@ -64,7 +64,7 @@ impl Registry {
 
     fn named_type(&mut self, name: &str, kind: u16) -> Result<(), RegistryFault>
         ensures { RegisteredIf (refusal_of_type (registered self.old) name.now AName kind)
-            (AType name.now kind ∷ []) result (registered self.old) (registered self.new) }
+            (TypeRegistration name.now kind ∷ []) result (registered self.old) (registered self.new) }
     {
         if self.table.takes_name(name) || self.table.takes_kind(kind) {
             return Err(RegistryFault::NameTaken);
@@ -79,7 +79,7 @@ impl Registry {
     pub fn service(&mut self, kind: u16) -> Result<usize, RegistryFault>
         ensures index { IfOk result (λ index. index ≡ count_by is_service (registered self.old)) }
         ensures registers { RegisteredIf (refusal_of_service (registered self.old) kind)
-            (AService kind ∷ []) result (registered self.old) (registered self.new) }
+            (ServiceRegistration kind ∷ []) result (registered self.old) (registered self.new) }
         ensures without_allocating { RefusedWithoutAllocating
             (list_any (takes_kind kind) (registered self.old)) NameTaken result }
     {
@@ -133,7 +133,7 @@ impl Registry {
     ) -> Result<(), RegistryFault>
         ensures { RegisteredIf
             (refusal_of_signature (registered self.old) of.now id (signature_of signature))
-            (AMethod of.now id (primitive_operation (signature_of signature)) ∷ [])
+            (MethodRegistration of.now id (primitive_operation (signature_of signature)) ∷ [])
             result (registered self.old) (registered self.new) }
     {
         if self.names_unknown(&signature) {
@@ -155,8 +155,8 @@ impl Registry {
         ensures { RegisteredIf
             (cause_of_many (nat_le 32 (count_by (is_member_of of.now) (registered self.old)))
             (registered self.old)
-            (AMethod of.now id (primitive_operation (signature_of signature))))
-            (AMethod of.now id (primitive_operation (signature_of signature)) ∷ []) result
+            (MethodRegistration of.now id (primitive_operation (signature_of signature))))
+            (MethodRegistration of.now id (primitive_operation (signature_of signature)) ∷ []) result
             (registered self.old) (registered self.new) }
     {
         let operation = operation(self.alloc, signature)?;
@@ -248,7 +248,7 @@ impl Registry {
     ) -> Result<(), RegistryFault>
         ensures { RegisteredIf
             (refusal_of_primitive (registered self.old) of.now id value (string_bytes name))
-            (AProperty of.now id value (string_bytes name) ∷ [])
+            (PropertyRegistration of.now id value (string_bytes name) ∷ [])
             result (registered self.old) (registered self.new) }
     {
         if self.table.takes_member(of, name.as_str()) || self.table.takes_property(of, id) {
@@ -303,7 +303,7 @@ impl Registry {
             (cause (not (gives_handle_of of.now (signature_of signature).result)) BadDeclaration
             (refusal_of_constructor (registered self.old) of.now
             (signature_of signature).parameters))
-            (AFactory of.now (filter_map primitive_of (signature_of signature).parameters) ∷ [])
+            (FactoryRegistration of.now (filter_map primitive_of (signature_of signature).parameters) ∷ [])
             result (registered self.old) (registered self.new) }
     {
         if !gives_handle(&signature.result, of) {
@@ -316,7 +316,7 @@ impl Registry {
     fn constructor(&mut self, of: &str, parameters: &[Type]) -> Result<(), RegistryFault>
         ensures { RegisteredIf
             (refusal_of_constructor (registered self.old) of.now (map type_of parameters.now))
-            (AFactory of.now (filter_map primitive_of (map type_of parameters.now)) ∷ [])
+            (FactoryRegistration of.now (filter_map primitive_of (map type_of parameters.now)) ∷ [])
             result (registered self.old) (registered self.new) }
     {
         if self.any_unknown(parameters) {

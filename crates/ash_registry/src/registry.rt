@@ -2,8 +2,8 @@
 ghost use Rattle.std.specs.Prelude.{◌≡◌, ◌≤◌, [], find, length, IfOk};
 ghost use Rattle.std.specs.List.{filter_map};
 ghost use Rattle.std.specs.Option.{option_copied, option_map};
-ghost use Rattle.ash_registrations.specs.Calls.{call_of};
-ghost use Rattle.ash_registrations.specs.Calls as spec;
+ghost use Rattle.ash_registrations.specs.Registrations.{registration_of};
+ghost use Rattle.ash_registrations.specs.Registrations as spec;
 ghost use Rattle.ash_registrations.specs.Registered as table;
 ghost use Rattle.ash_registrations.specs.Text.{text_of};
 ghost use Rattle.ash_registry.specs.Registered.{registered};
@@ -47,7 +47,7 @@ impl Registry {
 
     /// The type or function of a name, as it was registered.
     pub fn named(&self, name: &str) -> Option<&Registration>
-        ensures { option_map call_of (option_copied result)
+        ensures { option_map registration_of (option_copied result)
             ≡ find (spec.takes_name name.now) (registered self.now) }
     {
         self.table.named(name)
@@ -55,7 +55,7 @@ impl Registry {
 
     /// The method or property of a type by its name, as it was registered.
     pub fn member(&self, of: &str, name: &str) -> Option<&Registration>
-        ensures { option_map call_of (option_copied result)
+        ensures { option_map registration_of (option_copied result)
             ≡ find (spec.takes_member of.now name.now) (registered self.now) }
     {
         self.table.member(of, name)
@@ -63,7 +63,7 @@ impl Registry {
 
     /// The factory of a type, as it was registered.
     pub fn factory_of(&self, of: &str) -> Option<&Registration>
-        ensures { option_map call_of (option_copied result)
+        ensures { option_map registration_of (option_copied result)
             ≡ find (spec.is_factory_of of.now) (registered self.now) }
     {
         self.table.factory_of(of)
@@ -71,7 +71,7 @@ impl Registry {
 
     /// The type or service of a kind, as it was registered.
     pub fn of_kind(&self, kind: u16) -> Option<&Registration>
-        ensures { option_map call_of (option_copied result)
+        ensures { option_map registration_of (option_copied result)
             ≡ find (spec.takes_kind kind) (registered self.now) }
     {
         self.table.of_kind(kind)

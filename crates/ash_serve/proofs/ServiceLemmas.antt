@@ -1,7 +1,7 @@
 -- Serving by a host that was opened or made.
 use Rattle.std.proofs.Common.{◌≡◌, ℕ, List, Option, Result, Ok, Err, refl, sym, subst}
 use Rattle.ash_disk.specs.Device.{Device}
-use Rattle.ash_registry.specs.Calls.{Registration}
+use Rattle.ash_registry.specs.Registrations.{Registration}
 use Rattle.ash_durable.specs.Hosting.{Hosted}
 use Rattle.ash_durable.specs.Store.{Creates, Opens}
 use Rattle.ash_durable.specs.declared.fault.OpenRefused.{OpenRefused}

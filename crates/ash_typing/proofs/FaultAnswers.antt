@@ -2,7 +2,7 @@
 use Rattle.std.proofs.Common.{◌≡◌, ℕ, Bool, true, false, List, Option, Some, None, Ok, Err, refl, sym, subst}
 use Rattle.std.specs.Prelude.{◌||◌, if◌then◌else◌}
 use Rattle.ash_lex.specs.Tokens.{Meaning, name}
-use Rattle.ash_registrations.specs.Calls.{Registration}
+use Rattle.ash_registrations.specs.Registrations.{Registration}
 use Rattle.ash_tree.specs.Tokens.{Tokens}
 use Rattle.ash_tree.specs.Tree.{Named, Item}
 use Rattle.ash_typed.specs.declared.types.ObjectType.{ObjectType}
@@ -22,21 +22,21 @@ use Rattle.ash_typing.specs.FaultMeaning as meaning
 use Rattle.ash_typing.specs.FaultMeaning.{IsWrong, Naming, named_by, TypeUse, written_by, is_misplaced}
 use Rattle.ash_typing.proofs.FaultTokens.{HasToken, HasStart}
 
--- a script of a module, where these calls are registered
+-- a script of a module, with these registrations
 pub record Script : Type 0 where
   pub tokens : Tokens
-  pub calls : List Registration
+  pub registrations : List Registration
   pub items : List Item
 
 abbrev pub OccursIn : Script → Phrase → Type 0
-OccursIn script x = Occurs script.calls script.items x
+OccursIn script x = Occurs script.registrations script.items x
 
 abbrev pub Wrong : Script → Rule → ℕ → Meaning → Type 0
-Wrong script rule at m = IsWrong script.calls script.items rule at m
+Wrong script rule at m = IsWrong script.registrations script.items rule at m
 
 -- types do not fit at an offset
 abbrev pub Mismatch : Script → ℕ → Type 0
-Mismatch script at = Mismatches script.calls script.items at
+Mismatch script at = Mismatches script.registrations script.items at
 
 -- a token is at the offset of a fault, means what one of its rule may, and there the rule is broken
 abbrev pub IsIn : Script → Fault → Type 0
@@ -121,22 +121,22 @@ is_in {script} (faulty {f = g} k) f h = subst (IsIn script) (same_fault g f h) k
 
 -- what a phrase of the module sees of it
 abbrev pub IsOf : Script → Environment → Type 0
-IsOf script env = (env.declarations ≡ declarations script.calls script.items) × (env.registered ≡ script.calls)
+IsOf script env = (env.declarations ≡ declarations script.registrations script.items) × (env.registered ≡ script.registrations)
 
 abbrev pub type_named : Environment → List ℕ → Option ObjectType
 type_named env text = object_named env.registered env.declarations text
 
 pub same_named : (script : Script) (env : Environment) (text : List ℕ) → IsOf script env
-    → type_named env text ≡ object_named script.calls (declarations script.calls script.items) text
+    → type_named env text ≡ object_named script.registrations (declarations script.registrations script.items) text
 same_named script env text see = rw (see.0, see.1) refl
 
 -- no type has the name, as the phrase sees it
 pub unnamed : (script : Script) (env : Environment) (text : List ℕ) → IsOf script env → type_named env text ≡ None
-    → object_named script.calls (declarations script.calls script.items) text ≡ None
+    → object_named script.registrations (declarations script.registrations script.items) text ≡ None
 unnamed script env text see h = subst (λ o. o ≡ None) (same_named script env text see) h
 
 same_types : (script : Script) (env : Environment) (of : Named) → IsOf script env
-    → ty_in env of ≡ ty_named script.calls (declarations script.calls script.items) of
+    → ty_in env of ≡ ty_named script.registrations (declarations script.registrations script.items) of
 same_types script env of see = rw (see.0, see.1) refl
 
 -- what is wrong with a type that a phrase writes

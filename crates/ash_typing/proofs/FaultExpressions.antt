@@ -3,7 +3,7 @@ use Rattle.std.proofs.Common.{◌≡◌, ℕ, suc, ◌+◌, arith, List, Bool, f
 use Rattle.std.proofs.Common.{length, nat_eq}
 use Rattle.std.specs.Prelude.{find}
 use Rattle.std.specs.Option.{option_and_then, option_map, option_or}
-use Rattle.ash_registrations.specs.Calls as host
+use Rattle.ash_registrations.specs.Registrations as host
 use Rattle.ash_lex.specs.Tokens.{name, number, reserved}
 use Rattle.ash_lex.specs.declared.words.ReservedWord.TheVariants as words
 use Rattle.ash_tree.specs.Tree as written
@@ -128,12 +128,12 @@ no_element : (a : Option (ℕ × head.Class)) (b : Option (ℕ × head.Interface
     (option_and_then host_object c)) ≡ None
 no_element (Some a) b c h = absurd (cc)
 no_element None (Some b) c h = absurd (cc)
-no_element None None (Some (host.AType text kind)) h = absurd (cc)
-no_element None None (Some (host.AFactory of ps)) h = refl
-no_element None None (Some (host.AMethod of id operation)) h = refl
-no_element None None (Some (host.AProperty of id value text)) h = refl
-no_element None None (Some (host.AService kind)) h = refl
-no_element None None (Some (host.AFunction service id operation)) h = refl
+no_element None None (Some (host.TypeRegistration text kind)) h = absurd (cc)
+no_element None None (Some (host.FactoryRegistration of ps)) h = refl
+no_element None None (Some (host.MethodRegistration of id operation)) h = refl
+no_element None None (Some (host.PropertyRegistration of id value text)) h = refl
+no_element None None (Some (host.ServiceRegistration kind)) h = refl
+no_element None None (Some (host.FunctionRegistration service id operation)) h = refl
 no_element None None None h = refl
 
 pub element_unnamed : (env : Environment) (text : List ℕ) → option_and_then element_by (type_named env text) ≡ None

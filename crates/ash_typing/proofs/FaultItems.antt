@@ -27,7 +27,7 @@ use Rattle.ash_typing.specs.Mismatches as mismatches
 use Rattle.ash_typing.specs.FaultMeaning as meaning
 use Rattle.ash_typing.specs.FaultMeaning.{has_constructor, counted_by, is_declared, stored_use}
 use Rattle.std.proofs.lemmas.List.{length-append}
-use Rattle.ash_registrations.specs.Calls.{Registration}
+use Rattle.ash_registrations.specs.Registrations.{Registration}
 use Rattle.ash_typing.proofs.FaultNames.{with_name, with_one, with_decls, names_after_item, names_after_globals}
 use Rattle.ash_typing.proofs.FaultNames.{classes_counted, interfaces_counted, names_after_method, names_after_fields}
 use Rattle.ash_typing.proofs.FaultNames.{names_after_constructor, names_after_listed}
@@ -199,8 +199,8 @@ class_in script env before c is h r =
 -- modules
 
 -- a module so far, after these items
-pub record HasItems (calls : List Registration) (before : List written.Item) (w : Walked) : Type 0 where
-  pub names : w.names ≡ names_before calls before
+pub record HasItems (registrations : List Registration) (before : List written.Item) (w : Walked) : Type 0 where
+  pub names : w.names ≡ names_before registrations before
   pub classes : length w.typed.classes ≡ length (classes_of before)
   pub interfaces : length w.typed.interfaces ≡ length (interfaces_of before)
 
@@ -280,8 +280,8 @@ item_in script env before w (written.AFunction f) is h k r =
 item_in script env before w (written.AGlobal v) is h k r =
     let x = phrases.Items env before (written.AGlobal v ∷ is) in
     let registered = (sees r).1 in
-    let here : w.names ≡ names_before script.calls before =
-    k.names ∙ ap (λ calls. names_before calls before) registered in
+    let here : w.names ≡ names_before script.registrations before =
+    k.names ∙ ap (λ registrations. names_before registrations before) registered in
     bind (vars_in script env w.names v h (miswritten script env x (stored_use v.of) (sees r) r refl)
     (λ of e. subst
     (λ names. OccursIn script (phrases.Variables env (at_type v.of) of names v.decls)) (sym here)
@@ -301,13 +301,13 @@ items_in script env before w (i ∷ is) h k r =
     items_in script env (before ++ i ∷ []) next is h.1 l (phrases.other_items r))
 
 module_by_in : (script : Script) → AllByRecursion (ItemIn script.tokens) script.items
-    → Fine script (module_by script.calls (declarations script.calls script.items) script.items)
+    → Fine script (module_by script.registrations (declarations script.registrations script.items) script.items)
 module_by_in script h =
-    bind (items_in script (module_environment script.calls (declarations script.calls script.items)) [] (nothing script.calls) script.items h
+    bind (items_in script (module_environment script.registrations (declarations script.registrations script.items)) [] (nothing script.registrations) script.items h
     (record { names = refl; classes = refl; interfaces = refl }) phrases.items)
     (λ w u. fine tt)
 
 pub module_in : (script : Script) → AllByRecursion (ItemIn script.tokens) script.items
-    → Fine script (module_typed script.calls script.items)
+    → Fine script (module_typed script.registrations script.items)
 unfolding module_typed
 module_in script h = module_by_in script h

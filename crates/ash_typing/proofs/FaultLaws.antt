@@ -2,7 +2,7 @@
 use Rattle.std.proofs.Common.{◌≡◌, ℕ, suc, List, [], ◌∷◌, true, Err, refl, sym, subst, arith}
 use Rattle.std.specs.List.{Any}
 use Rattle.ash_lex.specs.Tokens.{Meaning}
-use Rattle.ash_registrations.specs.Calls.{Registration}
+use Rattle.ash_registrations.specs.Registrations.{Registration}
 use Rattle.ash_tree.specs.declared.tree.places.Place.{Place}
 use Rattle.ash_tree.specs.Grammar.{Derives}
 use Rattle.ash_tree.specs.Tokens.{Tokens}
@@ -48,30 +48,30 @@ all_in (t ∷ ts) = (
 
 -- the fault
 
-pub fault_broken : (calls : List Registration) (free : ℕ) (tokens : Tokens) (is : List Item) (fault : Fault)
-    → Derives free tokens is → module_typed calls is ≡ Err fault → IsBrokenAt calls is tokens fault
-fault_broken calls free tokens is fault d h =
-    let script : Script = record { tokens = tokens; calls = calls; items = is } in
+pub fault_broken : (registrations : List Registration) (free : ℕ) (tokens : Tokens) (is : List Item) (fault : Fault)
+    → Derives free tokens is → module_typed registrations is ≡ Err fault → IsBrokenAt registrations is tokens fault
+fault_broken registrations free tokens is fault d h =
+    let script : Script = record { tokens = tokens; registrations = registrations; items = is } in
     let found : IsIn script fault = is_in (module_in script (items_in tokens d (all_in tokens))) fault h in
     any_map (λ (t : Meaning × Place). (t.0 ≡ found.0) × (t.1.at ≡ fault.at))
     (λ (t : Meaning × Place). (t.1.at ≡ fault.at) × (breaks_at fault.rule t.0 ≡ true)
-    × IsWrong calls is fault.rule fault.at t.0) tokens
+    × IsWrong registrations is fault.rule fault.at t.0) tokens
     (λ t k. (
       k.1,
       subst (λ m. breaks_at fault.rule m ≡ true) (sym k.0) found.2,
-      subst (λ m. IsWrong calls is fault.rule fault.at m) (sym k.0) found.3,
+      subst (λ m. IsWrong registrations is fault.rule fault.at m) (sym k.0) found.3,
     )) (found.1).token
 
-pub fault_at : (calls : List Registration) (free : ℕ) (tokens : Tokens) (is : List Item) (fault : Fault)
-    → Derives free tokens is → module_typed calls is ≡ Err fault → IsFaultOf tokens fault
-fault_at calls free tokens is fault d h =
+pub fault_at : (registrations : List Registration) (free : ℕ) (tokens : Tokens) (is : List Item) (fault : Fault)
+    → Derives free tokens is → module_typed registrations is ≡ Err fault → IsFaultOf tokens fault
+fault_at registrations free tokens is fault d h =
     any_map (λ (t : Meaning × Place). (t.1.at ≡ fault.at) × (breaks_at fault.rule t.0 ≡ true)
-    × IsWrong calls is fault.rule fault.at t.0)
+    × IsWrong registrations is fault.rule fault.at t.0)
     (λ (t : Meaning × Place). (t.1.at ≡ fault.at) × (breaks_at fault.rule t.0 ≡ true)) tokens
-    (λ t k. (k.0, k.1)) (fault_broken calls free tokens is fault d h)
+    (λ t k. (k.0, k.1)) (fault_broken registrations free tokens is fault d h)
 
-pub fault_token : (calls : List Registration) (free : ℕ) (tokens : Tokens) (is : List Item) (fault : Fault)
-    → Derives free tokens is → module_typed calls is ≡ Err fault → IsTokenOf tokens fault.at
-fault_token calls free tokens is fault d h =
+pub fault_token : (registrations : List Registration) (free : ℕ) (tokens : Tokens) (is : List Item) (fault : Fault)
+    → Derives free tokens is → module_typed registrations is ≡ Err fault → IsTokenOf tokens fault.at
+fault_token registrations free tokens is fault d h =
     any_map (λ (t : Meaning × Place). (t.1.at ≡ fault.at) × (breaks_at fault.rule t.0 ≡ true))
-    (λ (t : Meaning × Place). t.1.at ≡ fault.at) tokens (λ t k. k.0) (fault_at calls free tokens is fault d h)
+    (λ (t : Meaning × Place). t.1.at ≡ fault.at) tokens (λ t k. k.0) (fault_at registrations free tokens is fault d h)

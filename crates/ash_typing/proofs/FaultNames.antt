@@ -1,7 +1,7 @@
 -- The names that are taken where a phrase is, and those after it.
 use Rattle.std.proofs.Common.{◌≡◌, ℕ, suc, ◌+◌, ◌-◌, List, [], ◌∷◌, ◌++◌, map, length, refl, sym, ◌∙◌, ap, arith}
 use Rattle.std.proofs.lemmas.List.{append_assoc, append-nil, length-append, length-map}
-use Rattle.ash_registrations.specs.Calls.{Registration}
+use Rattle.ash_registrations.specs.Registrations.{Registration}
 use Rattle.ash_tree.specs.Tree as written
 use Rattle.ash_typed.specs.Limits.{max_globals, max_class_members}
 use Rattle.ash_typing.specs.Items.{Names}
@@ -62,30 +62,30 @@ globals_counted (written.AGlobal v ∷ is) i =
     omega arith
 
 -- what is taken after an item of these names, of which so many are variables
-after_item : (calls : List Registration) (before : List written.Item) (i : written.Item) (names : List (List ℕ)) (count : ℕ)
+after_item : (registrations : List Registration) (before : List written.Item) (i : written.Item) (names : List (List ℕ)) (count : ℕ)
     → item_names (i ∷ []) ≡ names → globals_in (i ∷ []) ≡ count
-    → names_with (names_before calls before) (item_names before ++ names) (max_globals - globals_in before - count)
-    ≡ names_before calls (before ++ i ∷ [])
-after_item calls before i names count e k =
+    → names_with (names_before registrations before) (item_names before ++ names) (max_globals - globals_in before - count)
+    ≡ names_before registrations (before ++ i ∷ [])
+after_item registrations before i names count e k =
     let counted = globals_counted before i in
-    same_names (names_before calls before) (item_names before ++ names) (item_names (before ++ i ∷ []))
+    same_names (names_before registrations before) (item_names before ++ names) (item_names (before ++ i ∷ []))
     (max_globals - globals_in before - count) (max_globals - globals_in (before ++ i ∷ []))
     (ap (λ ns. item_names before ++ ns) (sym e) ∙ sym (items_named before i)) (omega arith)
 
 -- after an item that declares one name, and no variable
-pub names_after_item : (calls : List Registration) (before : List written.Item) (i : written.Item) (text : List ℕ)
+pub names_after_item : (registrations : List Registration) (before : List written.Item) (i : written.Item) (text : List ℕ)
     → item_names (i ∷ []) ≡ text ∷ [] → globals_in (i ∷ []) ≡ 0
-    → with_name (names_before calls before) text ≡ names_before calls (before ++ i ∷ [])
-names_after_item calls before i text e k =
-    same_names (names_before calls before) (item_names before ++ text ∷ []) (item_names before ++ text ∷ [])
+    → with_name (names_before registrations before) text ≡ names_before registrations (before ++ i ∷ [])
+names_after_item registrations before i text e k =
+    same_names (names_before registrations before) (item_names before ++ text ∷ []) (item_names before ++ text ∷ [])
     (max_globals - globals_in before) (max_globals - globals_in before - 0) refl (omega arith)
-    ∙ after_item calls before i (text ∷ []) 0 e k
+    ∙ after_item registrations before i (text ∷ []) 0 e k
 
-pub names_after_globals : (calls : List Registration) (before : List written.Item) (v : written.Vars)
-    → with_decls (names_before calls before) v.decls ≡ names_before calls (before ++ written.AGlobal v ∷ [])
-names_after_globals calls before v =
-    decls_are (names_before calls before) v.decls
-    ∙ after_item calls before (written.AGlobal v) (names_of v) (length v.decls) (append-nil (names_of v))
+pub names_after_globals : (registrations : List Registration) (before : List written.Item) (v : written.Vars)
+    → with_decls (names_before registrations before) v.decls ≡ names_before registrations (before ++ written.AGlobal v ∷ [])
+names_after_globals registrations before v =
+    decls_are (names_before registrations before) v.decls
+    ∙ after_item registrations before (written.AGlobal v) (names_of v) (length v.decls) (append-nil (names_of v))
     (ap length (append-nil (names_of v)) ∙ length-map v.decls decl_name)
 
 -- classes and interfaces

@@ -227,9 +227,9 @@ pub arguments_in : (script : Script) (classes : List Class) (at : ℕ) (m : Mean
     → (nat_eq (length ps) (length ts) ≡ false → Wrong script rules.WrongArgumentCount at m) → Unfit script classes ps ts
     → Fine script (arguments_at classes at ps ts)
 unfolding arguments_at
-arguments_in script classes at m ps ts h calls k other z =
+arguments_in script classes at m ps ts h registrations k other z =
     either (nat_eq (length ps) (length ts)) (λ b. all_coerced_in script classes ps ts k z)
-    (λ b. faulty (m, h, calls, other b))
+    (λ b. faulty (m, h, registrations, other b))
 
 -- what is called takes these parameters
 pub called_with_in : (script : Script) (classes : List Class) (at : ℕ) (m : Meaning) (callee : Callee) (ts : List TypedExpr)
@@ -237,8 +237,8 @@ pub called_with_in : (script : Script) (classes : List Class) (at : ℕ) (m : Me
     → AllAt script.tokens ts → (nat_eq (length ps) (length ts) ≡ false → Wrong script rules.WrongArgumentCount at m)
     → Unfit script classes ps ts → At script (called classes at callee ts (Some ps))
 unfolding called
-called_with_in script classes at m callee ts ps h calls begins k other z =
-    bind (arguments_in script classes at m ps ts h calls k other z) (λ es u. fine (m, h, begins))
+called_with_in script classes at m callee ts ps h registrations begins k other z =
+    bind (arguments_in script classes at m ps ts h registrations k other z) (λ es u. fine (m, h, begins))
 
 -- what is wrong with these arguments of what takes these parameters, where they are known
 pub record Miscalls (script : Script) (classes : List Class) (at : ℕ) (m : Meaning) (ps : Option (List Ty))

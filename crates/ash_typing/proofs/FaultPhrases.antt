@@ -1,6 +1,6 @@
 -- Each phrase of a module sees what all its items declare, and all that is registered.
 use Rattle.std.proofs.Common.{◌≡◌, List, refl}
-use Rattle.ash_registrations.specs.Calls.{Registration}
+use Rattle.ash_registrations.specs.Registrations.{Registration}
 use Rattle.ash_tree.specs.Tree as written
 use Rattle.ash_typing.specs.Environment.{Environment}
 use Rattle.ash_typing.specs.ModuleDeclarations.{declarations}
@@ -18,17 +18,17 @@ use Rattle.ash_typing.specs.Phrases.{function, globals, in_brackets, suffixes, o
 use Rattle.ash_typing.specs.Phrases.{returned, body, variable, method, constructor, members}
 
 abbrev pub Sees : List Registration → List written.Item → Environment → Type 0
-Sees calls is env = (env.declarations ≡ declarations calls is) × (env.registered ≡ calls)
+Sees registrations is env = (env.declarations ≡ declarations registrations is) × (env.registered ≡ registrations)
 
 -- a statement changes only the locals that are seen after it
-seen_after : (calls : List Registration) (is : List written.Item) (scope : Scope) (s : written.Stmt)
-    → Sees calls is scope.env
-    → Sees calls is (after scope s).env
-seen_after calls is scope (written.Declare p v) h = h
-seen_after calls is scope _ h = h
+seen_after : (registrations : List Registration) (is : List written.Item) (scope : Scope) (s : written.Stmt)
+    → Sees registrations is scope.env
+    → Sees registrations is (after scope s).env
+seen_after registrations is scope (written.Declare p v) h = h
+seen_after registrations is scope _ h = h
 
-pub sees : {calls : List Registration} {is : List written.Item} {x : Phrase} → Occurs calls is x
-    → Sees calls is (environment_of x)
+pub sees : {registrations : List Registration} {is : List written.Item} {x : Phrase} → Occurs registrations is x
+    → Sees registrations is (environment_of x)
 sees (call_arguments r) = sees r
 sees (in_brackets r) = sees r
 sees (converted r) = sees r
@@ -68,14 +68,14 @@ sees (while_body r) = sees r
 sees (do_condition r) = sees r
 sees (do_body r) = sees r
 sees (for_head r) = sees r
-sees {calls} {is} (for_condition {scope = scope} {f = f} r) = seen_after calls is (block_of scope) f (sees r)
-sees {calls} {is} (for_steps {scope = scope} {f = f} r) = seen_after calls is (block_of scope) f (sees r)
-sees {calls} {is} (for_body {scope = scope} {f = f} r) = seen_after calls is (block_of scope) f (sees r)
+sees {registrations} {is} (for_condition {scope = scope} {f = f} r) = seen_after registrations is (block_of scope) f (sees r)
+sees {registrations} {is} (for_steps {scope = scope} {f = f} r) = seen_after registrations is (block_of scope) f (sees r)
+sees {registrations} {is} (for_body {scope = scope} {f = f} r) = seen_after registrations is (block_of scope) f (sees r)
 sees (switch_value r) = sees r
 sees (cases r e) = sees r
 sees (returned r) = sees r
 sees (statement r) = sees r
-sees {calls} {is} (other_statements {scope = scope} {s = s} r) = seen_after calls is scope s (sees r)
+sees {registrations} {is} (other_statements {scope = scope} {s = s} r) = seen_after registrations is scope s (sees r)
 sees (labelled r) = sees r
 sees (other_cases r) = sees r
 sees (parameters r) = sees r

@@ -3,7 +3,7 @@ use Rattle.std.proofs.Common.{◌≡◌, ◌+◌, ℕ, List, [], ◌∷◌, map,
 use Rattle.std.proofs.Common.{Ok, refl, subst}
 use mathlib.Core.Path.{fun_ext}
 use Rattle.std.specs.List.{AllByRecursion, AllZip, IsDistinct}
-use Rattle.ash_registrations.specs.Calls as host
+use Rattle.ash_registrations.specs.Registrations as host
 use Rattle.ash_tree.specs.Tree as written
 use Rattle.ash_typing.specs.declared.types.Ty.{Ty}
 use Rattle.ash_typing.specs.declared.types.Ty.TheVariants as ty
@@ -252,86 +252,86 @@ rules_known env is m ts cs fs vs = (
 
 -- what the items of a module see
 
-types_known : (calls : List host.Registration) (named : ModuleDeclarations) (ps : List written.Parameter)
-    → AllByRecursion (KnownParameter (ty_named calls named)) ps
-    → AllByRecursion IsVariableType (map (parameter_ty calls named) ps)
-types_known calls named [] h = tt
-types_known calls named (p ∷ ps) h = (h.0, types_known calls named ps h.1)
+types_known : (registrations : List host.Registration) (named : ModuleDeclarations) (ps : List written.Parameter)
+    → AllByRecursion (KnownParameter (ty_named registrations named)) ps
+    → AllByRecursion IsVariableType (map (parameter_ty registrations named) ps)
+types_known registrations named [] h = tt
+types_known registrations named (p ∷ ps) h = (h.0, types_known registrations named ps h.1)
 
-result_known : (calls : List host.Registration) (named : ModuleDeclarations) (of : Option written.Named)
-    → KnownResult (ty_named calls named) of → IsResultType (result_named calls named of)
-result_known calls named None h = refl
-result_known calls named (Some of) h = variable_is_result (ty_named calls named of) h
+result_known : (registrations : List host.Registration) (named : ModuleDeclarations) (of : Option written.Named)
+    → KnownResult (ty_named registrations named) of → IsResultType (result_named registrations named of)
+result_known registrations named None h = refl
+result_known registrations named (Some of) h = variable_is_result (ty_named registrations named of) h
 
-head_known : (calls : List host.Registration) (named : ModuleDeclarations) (f : written.Function)
-    → KnownFunction (ty_named calls named) f
-    → IsKnownFunction (function_declaration calls named f)
-head_known calls named f h =
-    record { result = result_known calls named f.result h.0; parameters = types_known calls named f.parameters h.1 }
+head_known : (registrations : List host.Registration) (named : ModuleDeclarations) (f : written.Function)
+    → KnownFunction (ty_named registrations named) f
+    → IsKnownFunction (function_declaration registrations named f)
+head_known registrations named f h =
+    record { result = result_known registrations named f.result h.0; parameters = types_known registrations named f.parameters h.1 }
 
-signatures_seen : (calls : List host.Registration) (named : ModuleDeclarations) (ms : List written.InterfaceMethod)
-    → AllByRecursion (KnownSignature (ty_named calls named)) ms
-    → AllByRecursion IsKnownFunction (map (signature_declaration calls named) ms)
-signatures_seen calls named [] h = tt
-signatures_seen calls named (m ∷ ms) h = (
+signatures_seen : (registrations : List host.Registration) (named : ModuleDeclarations) (ms : List written.InterfaceMethod)
+    → AllByRecursion (KnownSignature (ty_named registrations named)) ms
+    → AllByRecursion IsKnownFunction (map (signature_declaration registrations named) ms)
+signatures_seen registrations named [] h = tt
+signatures_seen registrations named (m ∷ ms) h = (
   record {
-    result = result_known calls named m.result h.0.0;
-    parameters = types_known calls named m.parameters h.0.1;
+    result = result_known registrations named m.result h.0.0;
+    parameters = types_known registrations named m.parameters h.0.1;
   },
-  signatures_seen calls named ms h.1,
+  signatures_seen registrations named ms h.1,
 )
 
-interfaces_seen : (calls : List host.Registration) (named : ModuleDeclarations) (is : List written.Interface)
-    → AllByRecursion (KnownInterface (ty_named calls named)) is
-    → AllByRecursion IsKnownInterface (map (interface_declaration calls named) is)
-interfaces_seen calls named [] h = tt
-interfaces_seen calls named (i ∷ is) h =
-    (record { methods = signatures_seen calls named i.methods h.0 }, interfaces_seen calls named is h.1)
+interfaces_seen : (registrations : List host.Registration) (named : ModuleDeclarations) (is : List written.Interface)
+    → AllByRecursion (KnownInterface (ty_named registrations named)) is
+    → AllByRecursion IsKnownInterface (map (interface_declaration registrations named) is)
+interfaces_seen registrations named [] h = tt
+interfaces_seen registrations named (i ∷ is) h =
+    (record { methods = signatures_seen registrations named i.methods h.0 }, interfaces_seen registrations named is h.1)
 
-variables_known : (calls : List host.Registration) (named : ModuleDeclarations) (vs : List written.Vars)
-    → AllByRecursion (KnownVars (ty_named calls named)) vs
-    → AllByRecursion IsKnownVariable (all_variables calls named vs)
-variables_known calls named [] h = tt
-variables_known calls named (v ∷ vs) h =
-    all_append IsKnownVariable (variables calls named v) (all_variables calls named vs)
-    (decls_known (ty_named calls named v.of) v.decls h.0) (variables_known calls named vs h.1)
+variables_known : (registrations : List host.Registration) (named : ModuleDeclarations) (vs : List written.Vars)
+    → AllByRecursion (KnownVars (ty_named registrations named)) vs
+    → AllByRecursion IsKnownVariable (all_variables registrations named vs)
+variables_known registrations named [] h = tt
+variables_known registrations named (v ∷ vs) h =
+    all_append IsKnownVariable (variables registrations named v) (all_variables registrations named vs)
+    (decls_known (ty_named registrations named v.of) v.decls h.0) (variables_known registrations named vs h.1)
 
-functions_known : (calls : List host.Registration) (named : ModuleDeclarations) (fs : List written.Function)
-    → AllByRecursion (KnownFunction (ty_named calls named)) fs
-    → AllByRecursion IsKnownFunction (map (function_declaration calls named) fs)
-functions_known calls named [] h = tt
-functions_known calls named (f ∷ fs) h = (head_known calls named f h.0, functions_known calls named fs h.1)
+functions_known : (registrations : List host.Registration) (named : ModuleDeclarations) (fs : List written.Function)
+    → AllByRecursion (KnownFunction (ty_named registrations named)) fs
+    → AllByRecursion IsKnownFunction (map (function_declaration registrations named) fs)
+functions_known registrations named [] h = tt
+functions_known registrations named (f ∷ fs) h = (head_known registrations named f h.0, functions_known registrations named fs h.1)
 
-construction_known : (calls : List host.Registration) (named : ModuleDeclarations) (cs : List written.Constructor)
-    → AllByRecursion (KnownConstructor (ty_named calls named)) cs
-    → AllByRecursion IsVariableType (constructed_by calls named cs)
-construction_known calls named [] h = tt
-construction_known calls named (c ∷ cs) h = types_known calls named c.parameters h.0
+construction_known : (registrations : List host.Registration) (named : ModuleDeclarations) (cs : List written.Constructor)
+    → AllByRecursion (KnownConstructor (ty_named registrations named)) cs
+    → AllByRecursion IsVariableType (constructed_by registrations named cs)
+construction_known registrations named [] h = tt
+construction_known registrations named (c ∷ cs) h = types_known registrations named c.parameters h.0
 
-classes_known : (calls : List host.Registration) (named : ModuleDeclarations) (cs : List written.Class)
-    → AllByRecursion (KnownClass (ty_named calls named)) cs
-    → AllByRecursion IsKnownClass (map (class_declaration calls named) cs)
-classes_known calls named [] h = tt
-classes_known calls named (c ∷ cs) h = (
+classes_known : (registrations : List host.Registration) (named : ModuleDeclarations) (cs : List written.Class)
+    → AllByRecursion (KnownClass (ty_named registrations named)) cs
+    → AllByRecursion IsKnownClass (map (class_declaration registrations named) cs)
+classes_known registrations named [] h = tt
+classes_known registrations named (c ∷ cs) h = (
   record {
-    fields = variables_known calls named (fields_of c.members) h.0.0;
-    methods = functions_known calls named (methods_of c.members) h.0.1;
-    parameters = construction_known calls named (constructors_of c.members) h.0.2;
+    fields = variables_known registrations named (fields_of c.members) h.0.0;
+    methods = functions_known registrations named (methods_of c.members) h.0.1;
+    parameters = construction_known registrations named (constructors_of c.members) h.0.2;
   },
-  classes_known calls named cs h.1,
+  classes_known registrations named cs h.1,
 )
 
-pub module_known : (calls : List host.Registration) (is : List written.Item)
-    → KnownItems (ty_in (environment calls is)) is
-    → IsKnown (environment calls is)
+pub module_known : (registrations : List host.Registration) (is : List written.Item)
+    → KnownItems (ty_in (environment registrations is)) is
+    → IsKnown (environment registrations is)
 unfolding declarations
-module_known calls is h =
+module_known registrations is h =
     let named = names_in is in
-    let k = subst (λ (look : written.Named → Ty). KnownItems look is) (fun_ext (same_type calls is)) h in
+    let k = subst (λ (look : written.Named → Ty). KnownItems look is) (fun_ext (same_type registrations is)) h in
     record {
-      interfaces = interfaces_seen calls named (interfaces_of is) k.0;
-      classes = classes_known calls named (classes_of is) k.1;
-      functions = functions_known calls named (functions_of is) k.2;
-      globals = variables_known calls named (globals_of is) k.3;
+      interfaces = interfaces_seen registrations named (interfaces_of is) k.0;
+      classes = classes_known registrations named (classes_of is) k.1;
+      functions = functions_known registrations named (functions_of is) k.2;
+      globals = variables_known registrations named (globals_of is) k.3;
       locals = tt;
     }

@@ -1,7 +1,7 @@
 -- The walk of a module answers exactly what the rules say.
 use Rattle.std.proofs.Common.{◌≡◌, ◌↔◌, List, length, Ok, refl, sym, ◌∙◌, ap, subst, arith}
 use Rattle.std.specs.List.{IsDistinct}
-use Rattle.ash_registrations.specs.Calls.{Registration}
+use Rattle.ash_registrations.specs.Registrations.{Registration}
 use Rattle.ash_tree.specs.Tree.{Item}
 use Rattle.ash_typing.specs.Typing.{IsKnown}
 use Rattle.ash_typing.specs.Items.{nothing, module_walked, items_typed, module_typed}
@@ -13,19 +13,19 @@ use Rattle.ash_typing.proofs.TypedItems.{walked_with, items_sound, items_complet
 use Rattle.ash_typing.proofs.KnownModules.{items_known, rules_known, module_known}
 use Rattle.ash_tree.specs.Items.{item_names, globals_of, variable_names}
 
-sound : (calls : List Registration) (is : List Item) (typed : Module) → module_typed calls is ≡ Ok typed
-    → IsTyped calls is typed
+sound : (registrations : List Registration) (is : List Item) (typed : Module) → module_typed registrations is ≡ Ok typed
+    → IsTyped registrations is typed
 unfolding module_typed IsDistinct
-sound calls is typed h =
-    let env = environment calls is in
-    let w = bind_ok (items_typed env (nothing calls) is) _ typed h in
-    let known = module_known calls is (items_known env is (nothing calls) w.0 w.1) in
-    let go = items_sound env known is (nothing calls) w.0 tt (omega arith) w.1 in
+sound registrations is typed h =
+    let env = environment registrations is in
+    let w = bind_ok (items_typed env (nothing registrations) is) _ typed h in
+    let known = module_known registrations is (items_known env is (nothing registrations) w.0 w.1) in
+    let go = items_sound env known is (nothing registrations) w.0 tt (omega arith) w.1 in
     let typed_is : typed
-    ≡ (walked_with (nothing calls) (item_names is) (length (variable_names (globals_of is))) go.interfaces
+    ≡ (walked_with (nothing registrations) (item_names is) (length (variable_names (globals_of is))) go.interfaces
     go.classes go.functions go.globals).typed = sym (ok_is _ typed w.2) ∙ ap module_walked go.after_is in
     let few = go.few in
-    subst (IsTyped calls is) (sym typed_is) (record {
+    subst (IsTyped registrations is) (sym typed_is) (record {
       differ = go.can.distinct;
       free = go.can.free;
       few_types = omega arith;
@@ -36,24 +36,24 @@ sound calls is typed h =
       globals = go.are_globals;
     })
 
-pub typed_known : (calls : List Registration) (is : List Item) (typed : Module) → IsTyped calls is typed
-    → IsKnown (environment calls is)
-typed_known calls is typed h =
-    module_known calls is (rules_known (environment calls is) is typed h.interfaces h.classes h.functions h.globals)
+pub typed_known : (registrations : List Registration) (is : List Item) (typed : Module) → IsTyped registrations is typed
+    → IsKnown (environment registrations is)
+typed_known registrations is typed h =
+    module_known registrations is (rules_known (environment registrations is) is typed h.interfaces h.classes h.functions h.globals)
 
-complete : (calls : List Registration) (is : List Item) (typed : Module) → IsTyped calls is typed
-    → module_typed calls is ≡ Ok typed
+complete : (registrations : List Registration) (is : List Item) (typed : Module) → IsTyped registrations is typed
+    → module_typed registrations is ≡ Ok typed
 unfolding module_typed
-complete calls is typed h =
-    let env = environment calls is in
-    let known = typed_known calls is typed h in
-    let can : CanTake (nothing calls).names (item_names is) (length (variable_names (globals_of is))) =
+complete registrations is typed h =
+    let env = environment registrations is in
+    let known = typed_known registrations is typed h in
+    let can : CanTake (nothing registrations).names (item_names is) (length (variable_names (globals_of is))) =
     record { free = h.free; distinct = h.differ; room = h.few_globals } in
     let few = h.few_types in
-    bind_is (items_typed env (nothing calls) is) _ _ typed
-    (items_complete env known is (nothing calls) typed.interfaces typed.classes typed.functions typed.globals can
+    bind_is (items_typed env (nothing registrations) is) _ _ typed
+    (items_complete env known is (nothing registrations) typed.interfaces typed.classes typed.functions typed.globals can
     (omega arith) h.interfaces h.classes h.functions h.globals) refl
 
-pub module_typed-exact : (calls : List Registration) (is : List Item) (typed : Module)
-    → (module_typed calls is ≡ Ok typed) ↔ IsTyped calls is typed
-module_typed-exact calls is typed = (sound calls is typed, complete calls is typed)
+pub module_typed-exact : (registrations : List Registration) (is : List Item) (typed : Module)
+    → (module_typed registrations is ≡ Ok typed) ↔ IsTyped registrations is typed
+module_typed-exact registrations is typed = (sound registrations is typed, complete registrations is typed)

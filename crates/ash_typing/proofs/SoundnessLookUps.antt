@@ -9,7 +9,7 @@ use Rattle.std.proofs.Common.{None, IfSome, find, filter_map, Contains, slice_ge
 use Rattle.std.proofs.Common.{subst, ◌∙◌, arith}
 use Rattle.ash_tree.specs.declared.tree.types.Primitive.{Primitive}
 use Rattle.ash_tree.specs.declared.tree.types.Primitive.TheVariants as primitives
-use Rattle.ash_registrations.specs.Calls as host
+use Rattle.ash_registrations.specs.Registrations as host
 use Rattle.ash_typed.specs.declared.types.ObjectType.{ObjectType}
 use Rattle.ash_typed.specs.declared.types.ObjectType.TheVariants.{Class as OfClass, Interface as OfInterface}
 use Rattle.ash_typed.specs.declared.types.ObjectType.TheVariants.{Host as OfHost, Array as OfArray}
@@ -226,9 +226,9 @@ property_found : (env : Environment) (kind : ℕ) (text : List ℕ) (call : host
     → ((id : ℕ) (of : Primitive) → property_at (name_of_kind env.registered kind) id call ≡ Some of
     → Contains ((seen_in env).signatures.host.properties kind id) of)
     → IfSome (property call) (IsSoundMember env (OfHost kind))
-property_found env kind text (host.AProperty other id of name) e among =
+property_found env kind text (host.PropertyRegistration other id of name) e among =
     let of_type = both (bytes_eq (name_of_kind env.registered kind) other) (bytes_eq text name) e in
-    let at : property_at (name_of_kind env.registered kind) id (host.AProperty other id of name) ≡ Some of =
+    let at : property_at (name_of_kind env.registered kind) id (host.PropertyRegistration other id of name) ≡ Some of =
     rw (of_type.0, same_number id) refl in
     subst (λ type. operations.IsMember (seen_in env).signatures (OfHost kind) (Property id type) type)
     (sym (primitive_type of)) (operations.property (among id of at))

@@ -2,7 +2,7 @@
 use Rattle.std.specs.List.{AllByRecursion, AllZip}
 use Rattle.std.proofs.Common.{◌≡◌, ◌≤◌, ◌+◌, ℕ, suc, length, length-append, List, [], ◌∷◌, map, Some, slice_get, refl}
 use Rattle.std.proofs.Common.{sym, ap, ap₂, subst, ◌∙◌, arith}
-use Rattle.ash_registrations.specs.Calls as host
+use Rattle.ash_registrations.specs.Registrations as host
 use Rattle.ash_tree.specs.Tree as written
 use Rattle.ash_typed.specs.Limits.{max_globals}
 use Rattle.ash_typed.specs.Modules as modules
@@ -42,14 +42,14 @@ globals_length env (v ∷ vs) (t ∷ ts) h =
     ∙ zip_length (IsDeclared env (ty_in env v.of)) v.decls t.values h.0.values) (globals_length env vs ts h.1)
     ∙ sym (count_names v (variable_names vs))
 
-pub module_sound : (calls : List host.Registration) (is : List written.Item) (m : modules.Module)
+pub module_sound : (registrations : List host.Registration) (is : List written.Item) (m : modules.Module)
     → ItemsDeclareInBlocks is
-    → IsTyped calls is m → sound.IsSound (offered calls) m
-module_sound calls is m nest typed =
-    let env = environment calls is in
-    let known = typed_known calls is m typed in
-    let same : signatures_in calls (declarations calls is) ≡ signatures.signatures_of (offered calls) m =
-    sym (same_signatures calls is m typed) in
+    → IsTyped registrations is m → sound.IsSound (offered registrations) m
+module_sound registrations is m nest typed =
+    let env = environment registrations is in
+    let known = typed_known registrations is m typed in
+    let same : signatures_in registrations (declarations registrations is) ≡ signatures.signatures_of (offered registrations) m =
+    sym (same_signatures registrations is m typed) in
     let count = classes_length env 0 (classes_of is) m.classes typed.classes in
     let interfaces = interfaces_length env (interfaces_of is) (classes_before 0 is) m.interfaces typed.interfaces in
     let few = typed.few_types in
@@ -77,12 +77,12 @@ module_sound calls is m nest typed =
           (globals_sound env (globals_of is) m.globals known typed.globals);
     }
   where
-    at : (m : modules.Module) → signatures_in calls (declarations calls is) ≡ signatures.signatures_of (offered calls) m
+    at : (m : modules.Module) → signatures_in registrations (declarations registrations is) ≡ signatures.signatures_of (offered registrations) m
         → (k : ℕ) (t : modules.Class) → slice_get m.classes k ≡ Some t
-        → slice_get (signatures_in calls (declarations calls is)).classes (0 + k) ≡ Some (signatures.signature_of_class t)
+        → slice_get (signatures_in registrations (declarations registrations is)).classes (0 + k) ≡ Some (signatures.signature_of_class t)
     at m same k t h =
         let here : k ≡ 0 + k = omega arith in
-        subst (λ n. slice_get (signatures_in calls (declarations calls is)).classes n ≡ Some (signatures.signature_of_class t))
+        subst (λ n. slice_get (signatures_in registrations (declarations registrations is)).classes n ≡ Some (signatures.signature_of_class t))
         here
         (subst (λ (s : signatures.Signatures). slice_get s.classes k ≡ Some (signatures.signature_of_class t))
         (sym same) (mapped signatures.signature_of_class m.classes k t h))

@@ -7,7 +7,7 @@ use Rattle.std.proofs.Common.{Contains, slice_get, bytes_eq, refl, sym, subst, s
 use Rattle.ash_tree.specs.declared.tree.types.Primitive.{Primitive}
 use Rattle.ash_tree.specs.declared.tree.types.Primitive.TheVariants as primitives
 use Rattle.ash_tree.specs.Tree as written
-use Rattle.ash_registrations.specs.Calls as host
+use Rattle.ash_registrations.specs.Registrations as host
 use Rattle.ash_typed.specs.declared.types.ObjectType.{ObjectType}
 use Rattle.ash_typed.specs.declared.types.ObjectType.TheVariants.{Class as OfClass, Interface as OfInterface}
 use Rattle.ash_typed.specs.declared.types.ObjectType.TheVariants.{Host as OfHost, Array as OfArray}
@@ -63,9 +63,9 @@ host_method_found : (env : Environment) (kind : ℕ) (text : List ℕ) (call : h
     → ((id : ℕ) (of : HostSignature) → method_at (name_of_kind env.registered kind) id call ≡ Some of
     → Contains ((seen_in env).signatures.host.methods kind id) of)
     → IfSome (host_method call) (IsSoundMethod env (OfHost kind))
-host_method_found env kind text (host.AMethod other id operation) e among =
+host_method_found env kind text (host.MethodRegistration other id operation) e among =
     let of_type = both (bytes_eq (name_of_kind env.registered kind) other) (bytes_eq text operation.name) e in
-    let at : method_at (name_of_kind env.registered kind) id (host.AMethod other id operation)
+    let at : method_at (name_of_kind env.registered kind) id (host.MethodRegistration other id operation)
     ≡ Some (host_signature operation) = rw (of_type.0, same_number id) refl in
     let is = among id (host_signature operation) at in (
       subst₂ (λ parameters result.
@@ -161,8 +161,8 @@ function_by key call = function_at key.0 key.1 call
 service_found : (env : Environment) (call : host.Registration)
     → ((key : ℕ × ℕ) (of : HostSignature) → function_by key call ≡ Some of
     → Contains (filter_map (function_by key) env.registered) of) → IfSome (service_function call) (IsSoundCallee env)
-service_found env (host.AFunction service id operation) among =
-    let at : function_at service id (host.AFunction service id operation) ≡ Some (host_signature operation) =
+service_found env (host.FunctionRegistration service id operation) among =
+    let at : function_at service id (host.FunctionRegistration service id operation) ≡ Some (host_signature operation) =
     rw (same_number service, same_number id) refl in
     let is = among (service, id) (host_signature operation) at in (
       subst₂ (λ parameters result.
@@ -175,7 +175,7 @@ service_found env _ among = tt
 
 -- the factory of a type
 factory_found : (env : Environment) (name : List ℕ) (kind : ℕ)
-    → ((k : ℕ) (of : List Primitive) → factory_at env.registered k (host.AType name kind) ≡ Some of
+    → ((k : ℕ) (of : List Primitive) → factory_at env.registered k (host.TypeRegistration name kind) ≡ Some of
     → Contains ((seen_in env).signatures.host.factories k) of)
     → IfSome (factory_in env.registered name) (λ parameters.
     operations.IsTarget (seen_in env).signatures (targets.Host kind) (map var_type parameters)
@@ -188,8 +188,8 @@ factory_found env name kind among = go (find (host.is_factory_of name) env.regis
         operations.IsTarget (seen_in env).signatures (targets.Host kind) (map var_type parameters)
         (Some (var_type (ty.Handle (OfHost kind)))) × AllByRecursion IsVariableType parameters)
     go None e = tt
-    go (Some (host.AFactory of parameters)) e =
-        let at : factory_at env.registered kind (host.AType name kind) ≡ Some parameters =
+    go (Some (host.FactoryRegistration of parameters)) e =
+        let at : factory_at env.registered kind (host.TypeRegistration name kind) ≡ Some parameters =
         rw (same_number kind, e) refl in (
           subst (λ types.
               operations.IsTarget (seen_in env).signatures (targets.Host kind) types
@@ -203,7 +203,7 @@ pub host_found : (env : Environment) (call : host.Registration)
     → ((k : ℕ) (of : List Primitive) → factory_at env.registered k call ≡ Some of
     → Contains ((seen_in env).signatures.host.factories k) of)
     → IfSome (host_type env.registered call) (IsSoundCallee env)
-host_found env (host.AType name kind) among = factory_found env name kind among
+host_found env (host.TypeRegistration name kind) among = factory_found env name kind among
 host_found env _ among = tt
 
 own_found : (env : Environment) (text : List ℕ) (class : ℕ) (c : Class) → IsKnown env → env.this ≡ Some class
@@ -287,17 +287,17 @@ callee_sound env text known =
 
 -- types that are named
 
-kind_found : (calls : List host.Registration) (declarations : ModuleDeclarations) (call : host.Registration)
-    → ((kind : ℕ) → kind_in call ≡ Some kind → Contains (filter_map kind_in calls) kind)
-    → IfSome (host_object call) (IsObjectType (signatures_in calls declarations))
-kind_found calls declarations (host.AType name kind) among = object_host (among kind refl)
-kind_found calls declarations _ among = tt
+kind_found : (registrations : List host.Registration) (declarations : ModuleDeclarations) (call : host.Registration)
+    → ((kind : ℕ) → kind_in call ≡ Some kind → Contains (filter_map kind_in registrations) kind)
+    → IfSome (host_object call) (IsObjectType (signatures_in registrations declarations))
+kind_found registrations declarations (host.TypeRegistration name kind) among = object_host (among kind refl)
+kind_found registrations declarations _ among = tt
 
-pub object_sound : (calls : List host.Registration) (declarations : ModuleDeclarations) (name : List ℕ)
-    → IfSome (object_named calls declarations name) (IsObjectType (signatures_in calls declarations))
+pub object_sound : (registrations : List host.Registration) (declarations : ModuleDeclarations) (name : List ℕ)
+    → IfSome (object_named registrations declarations name) (IsObjectType (signatures_in registrations declarations))
 unfolding object_named
-object_sound calls declarations name =
-    let s = signatures_in calls declarations in
+object_sound registrations declarations name =
+    let s = signatures_in registrations declarations in
     let Q = IsObjectType s in
     let class = if_map Q
     (λ (found : ℕ × Class). OfClass found.0) (first_from (is_class name) 0 declarations.classes)
@@ -315,15 +315,15 @@ object_sound calls declarations name =
     (first_place (is_interface_named name) declarations.interfaces)) in
     let kind = if_then
     (λ (call : host.Registration). (host.takes_name name call ≡ true)
-    × ((key : Unit {0}) (kind : ℕ) → kind_in call ≡ Some kind → Contains (filter_map kind_in calls) kind)) Q
-    host_object (find (host.takes_name name) calls)
-    (λ call h. kind_found calls declarations call (h.1 tt))
-    (found_with (host.takes_name name) (λ (key : Unit {0}). kind_in) calls) in
+    × ((key : Unit {0}) (kind : ℕ) → kind_in call ≡ Some kind → Contains (filter_map kind_in registrations) kind)) Q
+    host_object (find (host.takes_name name) registrations)
+    (λ call h. kind_found registrations declarations call (h.1 tt))
+    (found_with (host.takes_name name) (λ (key : Unit {0}). kind_in) registrations) in
     if_or Q (class_type declarations.classes name)
     (option_or (interface_type declarations.interfaces name)
-    (option_and_then host_object (find (host.takes_name name) calls))) class
+    (option_and_then host_object (find (host.takes_name name) registrations))) class
     (if_or Q (interface_type declarations.interfaces name)
-    (option_and_then host_object (find (host.takes_name name) calls)) interface kind)
+    (option_and_then host_object (find (host.takes_name name) registrations)) interface kind)
 
 primitive_element : (s : Signatures) (of : Primitive) → IsElement s (element_of of)
 primitive_element s primitives.Bool = truths
@@ -338,11 +338,11 @@ object_element s (OfInterface interface) (object_interface h) = element_interfac
 object_element s (OfHost kind) (object_host h) = element_host h
 object_element s (OfArray of) h = tt
 
-pub element_sound : (calls : List host.Registration) (declarations : ModuleDeclarations) (of : written.Element)
-    → IfSome (element_named calls declarations of) (IsElement (signatures_in calls declarations))
+pub element_sound : (registrations : List host.Registration) (declarations : ModuleDeclarations) (of : written.Element)
+    → IfSome (element_named registrations declarations of) (IsElement (signatures_in registrations declarations))
 unfolding element_named
-element_sound calls declarations (written.PrimElement p primitive) =
-    primitive_element (signatures_in calls declarations) primitive
-element_sound calls declarations (written.HandleElement p name) =
-    if_then (IsObjectType (signatures_in calls declarations)) (IsElement (signatures_in calls declarations)) element_by
-    (object_named calls declarations name) (object_element (signatures_in calls declarations)) (object_sound calls declarations name)
+element_sound registrations declarations (written.PrimElement p primitive) =
+    primitive_element (signatures_in registrations declarations) primitive
+element_sound registrations declarations (written.HandleElement p name) =
+    if_then (IsObjectType (signatures_in registrations declarations)) (IsElement (signatures_in registrations declarations)) element_by
+    (object_named registrations declarations name) (object_element (signatures_in registrations declarations)) (object_sound registrations declarations name)

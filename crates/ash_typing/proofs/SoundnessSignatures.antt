@@ -1,7 +1,7 @@
 -- What the items of a typed module see is what the written ones saw.
 use Rattle.std.specs.List.{AllZip}
 use Rattle.std.proofs.Common.{◌≡◌, ◌+◌, ℕ, List, [], ◌∷◌, ◌++◌, map, Option, Some, None, refl, sym, ap, ap₂, ◌∙◌}
-use Rattle.ash_registrations.specs.Calls as host
+use Rattle.ash_registrations.specs.Registrations as host
 use Rattle.ash_tree.specs.Tree as written
 use Rattle.ash_typed.specs.declared.types.ObjectType.{ObjectType}
 use Rattle.ash_typed.specs.StatementTree.{Initialization}
@@ -45,57 +45,57 @@ map-same f g one [] = refl
 map-same f g one (x ∷ xs) = ap₂ (λ y ys. y ∷ ys) (one x) (map-same f g one xs)
 
 -- what is written is looked up by these names as the environment does
-pub record NamesAgree (env : Environment) (calls : List host.Registration) (named : ModuleDeclarations) : Type 0 where
-  pub types : (of : written.Named) → ty_in env of ≡ ty_named calls named of
-  pub names : (name : List ℕ) → object_named env.registered env.declarations name ≡ object_named calls named name
+pub record NamesAgree (env : Environment) (registrations : List host.Registration) (named : ModuleDeclarations) : Type 0 where
+  pub types : (of : written.Named) → ty_in env of ≡ ty_named registrations named of
+  pub names : (name : List ℕ) → object_named env.registered env.declarations name ≡ object_named registrations named name
 
-within_class : {env : Environment} {calls : List host.Registration} {named : ModuleDeclarations}
-    → NamesAgree env calls named → (place : ℕ)
-    → NamesAgree (inside env place) calls named
+within_class : {env : Environment} {registrations : List host.Registration} {named : ModuleDeclarations}
+    → NamesAgree env registrations named → (place : ℕ)
+    → NamesAgree (inside env place) registrations named
 within_class agree place = record { types = agree.types; names = agree.names }
 
 -- functions and signatures
 
-same_result : {env : Environment} {calls : List host.Registration} {named : ModuleDeclarations}
-    → NamesAgree env calls named
-    → (of : Option written.Named) → result_in env of ≡ result_named calls named of
+same_result : {env : Environment} {registrations : List host.Registration} {named : ModuleDeclarations}
+    → NamesAgree env registrations named
+    → (of : Option written.Named) → result_in env of ≡ result_named registrations named of
 same_result agree None = refl
 same_result agree (Some of) = agree.types of
 
-same_parameters : {env : Environment} {calls : List host.Registration} {named : ModuleDeclarations}
-    → NamesAgree env calls named
-    → (ps : List written.Parameter) → map (type_of_parameter env) ps ≡ map var_type (map (parameter_ty calls named) ps)
+same_parameters : {env : Environment} {registrations : List host.Registration} {named : ModuleDeclarations}
+    → NamesAgree env registrations named
+    → (ps : List written.Parameter) → map (type_of_parameter env) ps ≡ map var_type (map (parameter_ty registrations named) ps)
 same_parameters agree [] = refl
 same_parameters agree (p ∷ ps) = ap₂ (λ of rest. var_type of ∷ rest) (agree.types p.of) (same_parameters agree ps)
 
-same_function : {env : Environment} {calls : List host.Registration} {named : ModuleDeclarations}
-    → NamesAgree env calls named
+same_function : {env : Environment} {registrations : List host.Registration} {named : ModuleDeclarations}
+    → NamesAgree env registrations named
     → (f : written.Function) (t : modules.Function) → IsFunction env f t
-    → signatures.signature_of t ≡ signature_of (function_declaration calls named f)
+    → signatures.signature_of t ≡ signature_of (function_declaration registrations named f)
 same_function agree f t is = λ i. record {
   name = is.routine.name i;
   result = (is.routine.result ∙ ap result_type (same_result agree f.result)) i;
   parameters = (is.routine.parameters ∙ same_parameters agree f.parameters) i;
 }
 
-same_signature : {env : Environment} {calls : List host.Registration} {named : ModuleDeclarations}
-    → NamesAgree env calls named
+same_signature : {env : Environment} {registrations : List host.Registration} {named : ModuleDeclarations}
+    → NamesAgree env registrations named
     → (m : written.InterfaceMethod) (t : modules.Signature) → IsSignature env m t
-    → t ≡ signature_of (signature_declaration calls named m)
+    → t ≡ signature_of (signature_declaration registrations named m)
 same_signature agree m t is = λ i. record {
   name = is.name i;
   result = (is.result ∙ ap result_type (same_result agree m.result)) i;
   parameters = (is.parameters ∙ same_parameters agree m.parameters) i;
 }
 
-same_methods : {env : Environment} {calls : List host.Registration} {named : ModuleDeclarations}
-    → NamesAgree env calls named
+same_methods : {env : Environment} {registrations : List host.Registration} {named : ModuleDeclarations}
+    → NamesAgree env registrations named
     → (fs : List written.Function) (ts : List modules.Function) → AllZip (IsFunction env) fs ts
-    → map signatures.signature_of ts ≡ map signature_of (map (function_declaration calls named) fs)
-same_methods {env} {calls} {named} agree fs ts h =
+    → map signatures.signature_of ts ≡ map signature_of (map (function_declaration registrations named) fs)
+same_methods {env} {registrations} {named} agree fs ts h =
     zip_same (IsFunction env) signatures.signature_of
-    (λ f. signature_of (function_declaration calls named f)) (same_function agree) fs ts h
-    ∙ sym (map-map signature_of (function_declaration calls named) fs)
+    (λ f. signature_of (function_declaration registrations named f)) (same_function agree) fs ts h
+    ∙ sym (map-map signature_of (function_declaration registrations named) fs)
 
 -- variables
 
@@ -109,53 +109,53 @@ same_variables env of ds vs h =
         → signatures.type_declared v ≡ type_declared (declared of d)
     one d v (is_declared i) = refl
 
-same_decls : {env : Environment} {calls : List host.Registration} {named : ModuleDeclarations}
-    → NamesAgree env calls named
+same_decls : {env : Environment} {registrations : List host.Registration} {named : ModuleDeclarations}
+    → NamesAgree env registrations named
     → (v : written.Vars) (vs : List Initialization) → AllZip (IsDeclared env (ty_in env v.of)) v.decls vs
-    → map signatures.type_declared vs ≡ map type_declared (variables calls named v)
+    → map signatures.type_declared vs ≡ map type_declared (variables registrations named v)
 same_decls {env} agree v vs h =
     same_variables env (ty_in env v.of) v.decls vs h
     ∙ ap (λ of. map type_declared (map (declared of) v.decls)) (agree.types v.of)
 
 -- classes
 
-same_fields : {env : Environment} {calls : List host.Registration} {named : ModuleDeclarations}
-    → NamesAgree env calls named
+same_fields : {env : Environment} {registrations : List host.Registration} {named : ModuleDeclarations}
+    → NamesAgree env registrations named
     → (vs : List written.Vars) (ts : List Initialization) → AreFields env vs ts
-    → map signatures.type_declared ts ≡ map type_declared (all_variables calls named vs)
+    → map signatures.type_declared ts ≡ map type_declared (all_variables registrations named vs)
 same_fields agree [] ts h = ap (map signatures.type_declared) h
-same_fields {env} {calls} {named} agree (v ∷ vs) ts h =
+same_fields {env} {registrations} {named} agree (v ∷ vs) ts h =
     ap (map signatures.type_declared) h.5 ∙ map-append signatures.type_declared h.0 h.1
     ∙ ap₂ (λ xs ys. xs ++ ys) (same_decls agree v h.0 h.3) (same_fields agree vs h.1 h.4)
-    ∙ sym (map-append type_declared (variables calls named v) (all_variables calls named vs))
+    ∙ sym (map-append type_declared (variables registrations named v) (all_variables registrations named vs))
 
-same_construction : {env : Environment} {calls : List host.Registration} {named : ModuleDeclarations}
-    → NamesAgree env calls named
+same_construction : {env : Environment} {registrations : List host.Registration} {named : ModuleDeclarations}
+    → NamesAgree env registrations named
     → (class : List ℕ) (cs : List written.Constructor) (t : Option modules.Function) → HasConstructor env class cs t
-    → signatures.parameters_of t ≡ map var_type (constructed_by calls named cs)
+    → signatures.parameters_of t ≡ map var_type (constructed_by registrations named cs)
 same_construction agree class [] None h = refl
 same_construction agree class [] (Some t) h = absurd h
 same_construction agree class (c ∷ []) None h = absurd h
 same_construction agree class (c ∷ []) (Some t) h = h.routine.parameters ∙ same_parameters agree c.parameters
 same_construction agree class (c ∷ (d ∷ cs)) t h = absurd h
 
-same_listed : {env : Environment} {calls : List host.Registration} {named : ModuleDeclarations}
-    → NamesAgree env calls named
+same_listed : {env : Environment} {registrations : List host.Registration} {named : ModuleDeclarations}
+    → NamesAgree env registrations named
     → (place : ℕ) (ns : List written.TypeName) (is : List modules.Implementation) → AllZip (IsListed env place) ns is
-    → map signatures.place_of_interface is ≡ listed_in calls named ns
+    → map signatures.place_of_interface is ≡ listed_in registrations named ns
 same_listed agree place [] [] h = refl
 same_listed agree place [] (i ∷ is) h = absurd h
 same_listed agree place (n ∷ ns) [] h = absurd h
-same_listed {env} {calls} {named} agree place (n ∷ ns) (i ∷ is) h =
+same_listed {env} {registrations} {named} agree place (n ∷ ns) (i ∷ is) h =
     ap (λ places. i.interface ∷ places) (same_listed agree place ns is h.1)
-    ∙ ap (λ (o : Option ObjectType). with_place (interface_place o) (listed_in calls named ns))
+    ∙ ap (λ (o : Option ObjectType). with_place (interface_place o) (listed_in registrations named ns))
     (sym h.0.interface ∙ agree.names n.name)
 
-same_class : {env : Environment} {calls : List host.Registration} {named : ModuleDeclarations}
-    → NamesAgree env calls named
+same_class : {env : Environment} {registrations : List host.Registration} {named : ModuleDeclarations}
+    → NamesAgree env registrations named
     → (place : ℕ) (c : written.Class) (t : modules.Class) → IsClass env place c t
-    → signatures.signature_of_class t ≡ signature_of_class (class_declaration calls named c)
-same_class {env} {calls} {named} agree place c t is =
+    → signatures.signature_of_class t ≡ signature_of_class (class_declaration registrations named c)
+same_class {env} {registrations} {named} agree place c t is =
     let inner = within_class agree place in
     let interfaces = same_listed agree place c.interfaces t.interfaces is.interfaces in
     let fields = same_fields inner (fields_of c.members) t.fields is.fields in
@@ -165,24 +165,24 @@ same_class {env} {calls} {named} agree place c t is =
 
 -- modules
 
-same_interface : {env : Environment} {calls : List host.Registration} {named : ModuleDeclarations}
-    → NamesAgree env calls named
+same_interface : {env : Environment} {registrations : List host.Registration} {named : ModuleDeclarations}
+    → NamesAgree env registrations named
     → (i : written.Interface) (classes : ℕ) (t : modules.Interface) → IsInterface env i classes t
-    → signatures.methods_of_interface t ≡ signatures_of_interface (interface_declaration calls named i)
-same_interface {env} {calls} {named} agree i classes t is =
+    → signatures.methods_of_interface t ≡ signatures_of_interface (interface_declaration registrations named i)
+same_interface {env} {registrations} {named} agree i classes t is =
     sym (map-itself t.methods)
     ∙ zip_same (IsSignature env) (λ m. m)
-    (λ m. signature_of (signature_declaration calls named m)) (same_signature agree) i.methods t.methods is.methods
-    ∙ sym (map-map signature_of (signature_declaration calls named) i.methods)
+    (λ m. signature_of (signature_declaration registrations named m)) (same_signature agree) i.methods t.methods is.methods
+    ∙ sym (map-map signature_of (signature_declaration registrations named) i.methods)
   where
     map-itself : (ms : List modules.Signature) → map (λ (m : modules.Signature). m) ms ≡ ms
     map-itself [] = refl
     map-itself (m ∷ ms) = ap (λ rest. m ∷ rest) (map-itself ms)
 
-same_interfaces : {env : Environment} {calls : List host.Registration} {named : ModuleDeclarations}
-    → NamesAgree env calls named
+same_interfaces : {env : Environment} {registrations : List host.Registration} {named : ModuleDeclarations}
+    → NamesAgree env registrations named
     → (is : List written.Interface) (ns : List ℕ) (ts : List modules.Interface) → AreInterfaces env is ns ts
-    → map signatures.methods_of_interface ts ≡ map signatures_of_interface (map (interface_declaration calls named) is)
+    → map signatures.methods_of_interface ts ≡ map signatures_of_interface (map (interface_declaration registrations named) is)
 same_interfaces agree [] [] [] h = refl
 same_interfaces agree [] [] (t ∷ ts) h = absurd h
 same_interfaces agree [] (n ∷ ns) ts h = absurd h
@@ -191,42 +191,42 @@ same_interfaces agree (i ∷ is) (n ∷ ns) [] h = absurd h
 same_interfaces agree (i ∷ is) (n ∷ ns) (t ∷ ts) h =
     ap₂ (λ x xs. x ∷ xs) (same_interface agree i n t h.0) (same_interfaces agree is ns ts h.1)
 
-same_classes : {env : Environment} {calls : List host.Registration} {named : ModuleDeclarations}
-    → NamesAgree env calls named
+same_classes : {env : Environment} {registrations : List host.Registration} {named : ModuleDeclarations}
+    → NamesAgree env registrations named
     → (place : ℕ) (cs : List written.Class) (ts : List modules.Class) → AreClasses env place cs ts
-    → map signatures.signature_of_class ts ≡ map signature_of_class (map (class_declaration calls named) cs)
+    → map signatures.signature_of_class ts ≡ map signature_of_class (map (class_declaration registrations named) cs)
 same_classes agree place [] [] h = refl
 same_classes agree place [] (t ∷ ts) h = absurd h
 same_classes agree place (c ∷ cs) [] h = absurd h
 same_classes agree place (c ∷ cs) (t ∷ ts) h =
     ap₂ (λ x xs. x ∷ xs) (same_class agree place c t h.0) (same_classes agree (place + 1) cs ts h.1)
 
-same_globals : {env : Environment} {calls : List host.Registration} {named : ModuleDeclarations}
-    → NamesAgree env calls named
+same_globals : {env : Environment} {registrations : List host.Registration} {named : ModuleDeclarations}
+    → NamesAgree env registrations named
     → (vs : List written.Vars) (ts : List modules.Variables) → AllZip (AreVariables env) vs ts
-    → signatures.types_of_globals ts ≡ map type_declared (all_variables calls named vs)
+    → signatures.types_of_globals ts ≡ map type_declared (all_variables registrations named vs)
 same_globals agree [] [] h = refl
 same_globals agree [] (t ∷ ts) h = absurd h
 same_globals agree (v ∷ vs) [] h = absurd h
-same_globals {env} {calls} {named} agree (v ∷ vs) (t ∷ ts) h =
+same_globals {env} {registrations} {named} agree (v ∷ vs) (t ∷ ts) h =
     ap₂ (λ xs ys. xs ++ ys) (same_decls agree v t.values h.0.values) (same_globals agree vs ts h.1)
-    ∙ sym (map-append type_declared (variables calls named v) (all_variables calls named vs))
+    ∙ sym (map-append type_declared (variables registrations named v) (all_variables registrations named vs))
 
 -- what the items of a module see
-pub same_signatures : (calls : List host.Registration) (is : List written.Item) (m : modules.Module)
-    → IsTyped calls is m
-    → signatures.signatures_of (offered calls) m ≡ signatures_in calls (declarations calls is)
+pub same_signatures : (registrations : List host.Registration) (is : List written.Item) (m : modules.Module)
+    → IsTyped registrations is m
+    → signatures.signatures_of (offered registrations) m ≡ signatures_in registrations (declarations registrations is)
 unfolding declarations
-same_signatures calls is m typed =
+same_signatures registrations is m typed =
     let named = names_in is in
-    let agree : NamesAgree (environment calls is) calls named =
-    record { types = same_type calls is; names = same_object calls is } in
+    let agree : NamesAgree (environment registrations is) registrations named =
+    record { types = same_type registrations is; names = same_object registrations is } in
     let interfaces = same_interfaces agree (interfaces_of is) (classes_before 0 is) m.interfaces typed.interfaces in
     let classes = same_classes agree 0 (classes_of is) m.classes typed.classes in
     let functions = same_methods agree (functions_of is) m.functions typed.functions in
     let globals = same_globals agree (globals_of is) m.globals typed.globals in
     λ i. record {
-      host = offered calls;
+      host = offered registrations;
       interfaces = interfaces i;
       classes = classes i;
       functions = functions i;

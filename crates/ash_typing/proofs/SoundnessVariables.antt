@@ -8,7 +8,7 @@ use Rattle.std.proofs.Common.{find, filter_map, Contains, slice_get, refl, sym, 
 use Rattle.ash_tree.specs.declared.tree.types.Primitive.{Primitive}
 use Rattle.ash_tree.specs.declared.tree.types.Primitive.TheVariants as primitives
 use Rattle.ash_tree.specs.Tree as written
-use Rattle.ash_registrations.specs.Calls as host
+use Rattle.ash_registrations.specs.Registrations as host
 use Rattle.ash_typed.specs.declared.types.ObjectType.{ObjectType}
 use Rattle.ash_typed.specs.declared.types.ObjectType.TheVariants.{Class as OfClass, Interface as OfInterface}
 use Rattle.ash_typed.specs.declared.types.ObjectType.TheVariants.{Host as OfHost, Array as OfArray}
@@ -72,29 +72,29 @@ handle_type : (s : signatures.Signatures) (o : Option ObjectType) → IfSome o (
 handle_type s None h v = absurd (cc)
 handle_type s (Some o) h v = signatures.handle h
 
-array_sound : (calls : List host.Registration) (declarations : ModuleDeclarations) (of : written.Element)
-    → IfSome (array_named calls declarations of) (signatures.IsObjectType (signatures_in calls declarations))
-array_sound calls declarations of = go (element_named calls declarations of) (element_sound calls declarations of)
+array_sound : (registrations : List host.Registration) (declarations : ModuleDeclarations) (of : written.Element)
+    → IfSome (array_named registrations declarations of) (signatures.IsObjectType (signatures_in registrations declarations))
+array_sound registrations declarations of = go (element_named registrations declarations of) (element_sound registrations declarations of)
   where
-    go : (found : Option Element) → IfSome found (signatures.IsElement (signatures_in calls declarations))
-        → IfSome (option_map OfArray found) (signatures.IsObjectType (signatures_in calls declarations))
+    go : (found : Option Element) → IfSome found (signatures.IsElement (signatures_in registrations declarations))
+        → IfSome (option_map OfArray found) (signatures.IsObjectType (signatures_in registrations declarations))
     go None h = tt
     go (Some e) h = signatures.array h
 
 -- a type of variables is in range
-pub type_sound : (calls : List host.Registration) (declarations : ModuleDeclarations) (of : written.Named)
-    → IsVariableType (ty_named calls declarations of)
-    → signatures.IsVariableType (signatures_in calls declarations) (var_type (ty_named calls declarations of))
+pub type_sound : (registrations : List host.Registration) (declarations : ModuleDeclarations) (of : written.Named)
+    → IsVariableType (ty_named registrations declarations of)
+    → signatures.IsVariableType (signatures_in registrations declarations) (var_type (ty_named registrations declarations of))
 unfolding ty_named
-type_sound calls declarations (written.Prim p primitive) v = primitive_type (signatures_in calls declarations) primitive
-type_sound calls declarations (written.Object p name) v =
-    object_type (signatures_in calls declarations) (object_named calls declarations name) (object_sound calls declarations name) v
-type_sound calls declarations (written.Handle p name) v =
-    handle_type (signatures_in calls declarations) (object_named calls declarations name) (object_sound calls declarations name) v
-type_sound calls declarations (written.Array p of) v =
-    object_type (signatures_in calls declarations) (array_named calls declarations of) (array_sound calls declarations of) v
-type_sound calls declarations (written.ArrayHandle p of) v =
-    handle_type (signatures_in calls declarations) (array_named calls declarations of) (array_sound calls declarations of) v
+type_sound registrations declarations (written.Prim p primitive) v = primitive_type (signatures_in registrations declarations) primitive
+type_sound registrations declarations (written.Object p name) v =
+    object_type (signatures_in registrations declarations) (object_named registrations declarations name) (object_sound registrations declarations name) v
+type_sound registrations declarations (written.Handle p name) v =
+    handle_type (signatures_in registrations declarations) (object_named registrations declarations name) (object_sound registrations declarations name) v
+type_sound registrations declarations (written.Array p of) v =
+    object_type (signatures_in registrations declarations) (array_named registrations declarations of) (array_sound registrations declarations of) v
+type_sound registrations declarations (written.ArrayHandle p of) v =
+    handle_type (signatures_in registrations declarations) (array_named registrations declarations of) (array_sound registrations declarations of) v
 
 -- objects
 
@@ -111,13 +111,13 @@ host_built : (env : Environment) (kind : ℕ) (call : host.Registration) → hos
     → ((k : ℕ) (of : List Primitive) → factory_at env.registered k call ≡ Some of
     → Contains (filter_map (factory_at env.registered k) env.registered) of)
     → IfSome (host_type env.registered call) (Builds env (OfHost kind))
-host_built env kind (host.AType name other) e among =
-    subst (λ k. IfSome (host_type env.registered (host.AType name other)) (Builds env (OfHost k)))
+host_built env kind (host.TypeRegistration name other) e among =
+    subst (λ k. IfSome (host_type env.registered (host.TypeRegistration name other)) (Builds env (OfHost k)))
     (sym (eqb-true kind other e)) (record {
       target = targets.Host other;
       called = refl;
       constructs = sound_statements.host;
-      takes = host_found env (host.AType name other) among;
+      takes = host_found env (host.TypeRegistration name other) among;
     })
 host_built env kind _ e among = tt
 

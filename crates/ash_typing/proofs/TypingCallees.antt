@@ -1,7 +1,7 @@
 -- What a name before brackets is has the types that a typed tree says.
 use Rattle.std.specs.Option.{option_and_then, option_map, option_or}
 use Rattle.std.proofs.Common.{◌≡◌, ℕ, List, [], ◌∷◌, Option, Some, None, IfSome, find, slice_get, refl, ap}
-use Rattle.ash_registrations.specs.Calls as host
+use Rattle.ash_registrations.specs.Registrations as host
 use Rattle.ash_typed.specs.declared.types.ObjectType.{ObjectType}
 use Rattle.ash_typed.specs.declared.types.ObjectType.TheVariants.{Class as OfClass, Interface as OfInterface}
 use Rattle.ash_typed.specs.declared.types.ObjectType.TheVariants.{Host as OfHost, Array as OfArray}
@@ -82,19 +82,19 @@ variable_type env text =
     local (if_or IsTyped (own_field_in env text) (global_in env.declarations.globals text) own global)
 
 service_type : (call : host.Registration) → IfSome (service_function call) IsTypedCallee
-service_type (host.AFunction service id operation) = refl
+service_type (host.FunctionRegistration service id operation) = refl
 service_type _ = tt
 
-host_result : (calls : List host.Registration) (call : host.Registration) → IfSome (host_type calls call) IsTypedCallee
-host_result calls (host.AType text kind) = refl
-host_result calls _ = tt
+host_result : (registrations : List host.Registration) (call : host.Registration) → IfSome (host_type registrations call) IsTypedCallee
+host_result registrations (host.TypeRegistration text kind) = refl
+host_result registrations _ = tt
 
 property_type : (call : host.Registration) → IfSome (property call) IsTypedMember
-property_type (host.AProperty of id primitive text) = refl
+property_type (host.PropertyRegistration of id primitive text) = refl
 property_type _ = tt
 
 host_method_type : (call : host.Registration) → IfSome (host_method call) IsTypedMethod
-host_method_type (host.AMethod of id operation) = refl
+host_method_type (host.MethodRegistration of id operation) = refl
 host_method_type _ = tt
 
 pub callee_type : (env : Environment) (text : List ℕ) → IfSome (callee_in env text) IsTypedCallee

@@ -7,7 +7,7 @@ use Rattle.std.proofs.Common.{IfSome, find, slice_get, refl, subst}
 use Rattle.ash_tree.specs.declared.tree.types.Primitive.{Primitive}
 use Rattle.ash_tree.specs.declared.tree.types.Primitive.TheVariants as primitives
 use Rattle.ash_tree.specs.Tree as written
-use Rattle.ash_registrations.specs.Calls as host
+use Rattle.ash_registrations.specs.Registrations as host
 use Rattle.ash_typed.specs.declared.types.ObjectType.{ObjectType}
 use Rattle.ash_typed.specs.declared.types.ObjectType.TheVariants.{Class as OfClass, Interface as OfInterface}
 use Rattle.ash_typed.specs.declared.types.ObjectType.TheVariants.{Host as OfHost, Array as OfArray}
@@ -228,20 +228,20 @@ function_known text fs known =
     (λ found h. h.result) (if_first IsKnownFunction (is_called text) 0 fs known)
 
 service_known : (call : host.Registration) → IfSome (service_function call) (λ callee. IsResultType callee.result)
-service_known (host.AFunction service id operation) = result_known operation.result
+service_known (host.FunctionRegistration service id operation) = result_known operation.result
 service_known _ = tt
 
-host_known : (calls : List host.Registration) (call : host.Registration)
-    → IfSome (host_type calls call) (λ callee. IsResultType callee.result)
-host_known calls (host.AType text kind) = refl
-host_known calls _ = tt
+host_known : (registrations : List host.Registration) (call : host.Registration)
+    → IfSome (host_type registrations call) (λ callee. IsResultType callee.result)
+host_known registrations (host.TypeRegistration text kind) = refl
+host_known registrations _ = tt
 
 property_known : (call : host.Registration) → IfSome (property call) (λ found. IsVariableType found.1)
-property_known (host.AProperty of id value text) = primitive_known value
+property_known (host.PropertyRegistration of id value text) = primitive_known value
 property_known _ = tt
 
 host_method_known : (call : host.Registration) → IfSome (host_method call) (λ m. IsResultType m.result)
-host_method_known (host.AMethod of id operation) = result_known operation.result
+host_method_known (host.MethodRegistration of id operation) = result_known operation.result
 host_method_known _ = tt
 
 pub callee_known : (env : Environment) (text : List ℕ) → IsKnown env

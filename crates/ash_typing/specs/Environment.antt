@@ -4,7 +4,7 @@ use Rattle.std.specs.Prelude.{if◌then◌else◌}
 use Rattle.std.specs.Option.{option_and_then, option_map, option_or}
 use Rattle.std.specs.Str.{bytes_eq}
 use Rattle.ash_tree.specs.declared.tree.types.Primitive.{Primitive}
-use Rattle.ash_registrations.specs.Calls as host
+use Rattle.ash_registrations.specs.Registrations as host
 use Rattle.ash_typed.specs.declared.types.VarType.{VarType}
 use Rattle.ash_typed.specs.declared.types.ObjectType.{ObjectType}
 use Rattle.ash_integers.specs.declared.int_type.IntType.TheVariants.{Uint}
@@ -75,9 +75,9 @@ with_locals env locals = record {
   locals = locals;
 }
 
--- `module_environment calls h` is what each item of a module sees.
+-- `module_environment registrations h` is what each item of a module sees.
 abbrev pub module_environment : List host.Registration → ModuleDeclarations → Environment
-module_environment calls h = record { declarations = h; registered = calls; this = None; locals = [] }
+module_environment registrations h = record { declarations = h; registered = registrations; this = None; locals = [] }
 
 -- `inside env place` is what the members of the class of a place see.
 abbrev pub inside : Environment → ℕ → Environment
@@ -185,7 +185,7 @@ function_in functions name =
     }) (first_from (is_called name) 0 functions)
 
 abbrev pub service_function : host.Registration → Option Callee
-service_function (host.AFunction service id operation) =
+service_function (host.FunctionRegistration service id operation) =
     Some (record {
       target = callables.Target (targets.Service service id (result_type (result_of operation.result)));
       result = result_of operation.result;
@@ -203,22 +203,22 @@ class_in classes name =
     }) (first_from (is_class name) 0 classes)
 
 abbrev pub factory_parameters : host.Registration → Option (List Ty)
-factory_parameters (host.AFactory of parameters) = Some (map ty_of parameters)
+factory_parameters (host.FactoryRegistration of parameters) = Some (map ty_of parameters)
 factory_parameters _ = None
 
 unfoldable pub factory_in : List host.Registration → List ℕ → Option (List Ty)
-factory_in calls of = option_and_then factory_parameters (find (host.is_factory_of of) calls)
+factory_in registrations of = option_and_then factory_parameters (find (host.is_factory_of of) registrations)
 
 abbrev pub host_type : List host.Registration → host.Registration → Option Callee
-host_type calls (host.AType name kind) = Some (record {
+host_type registrations (host.TypeRegistration name kind) = Some (record {
   target = callables.Target (targets.Host kind);
   result = ty.Handle (OfHost kind);
-  parameters = factory_in calls name;
+  parameters = factory_in registrations name;
 })
-host_type calls _ = None
+host_type registrations _ = None
 
 abbrev pub named_in : List host.Registration → List ℕ → Option host.Registration
-named_in calls name = find (host.takes_name name) calls
+named_in registrations name = find (host.takes_name name) registrations
 
 -- What is called is neither a method nor a function of the module.
 abbrev pub callee_beside : Environment → List ℕ → Option Callee
@@ -235,19 +235,19 @@ callee_in env name =
 -- Members of an object.
 
 abbrev pub type_name : Option host.Registration → List ℕ
-type_name (Some (host.AType name kind)) = name
+type_name (Some (host.TypeRegistration name kind)) = name
 type_name _ = []
 
--- `name_of_kind calls kind` is the name of a registered type, by its kind.
+-- `name_of_kind registrations kind` is the name of a registered type, by its kind.
 unfoldable pub name_of_kind : List host.Registration → ℕ → List ℕ
-name_of_kind calls kind = type_name (find (host.takes_kind kind) calls)
+name_of_kind registrations kind = type_name (find (host.takes_kind kind) registrations)
 
--- `host_member_in calls kind name` is a method or a property of a registered type.
+-- `host_member_in registrations kind name` is a method or a property of a registered type.
 unfoldable pub host_member_in : List host.Registration → ℕ → List ℕ → Option host.Registration
-host_member_in calls kind name = find (host.takes_member (name_of_kind calls kind) name) calls
+host_member_in registrations kind name = find (host.takes_member (name_of_kind registrations kind) name) registrations
 
 abbrev pub property : host.Registration → Option (Member × Ty)
-property (host.AProperty of id value name) = Some (members.Property id (var_type (ty_of value)), ty_of value)
+property (host.PropertyRegistration of id value name) = Some (members.Property id (var_type (ty_of value)), ty_of value)
 property _ = None
 
 -- `member_in env o name` is what an object holds by this name; an interface and an array hold nothing that has a name.
@@ -265,7 +265,7 @@ pub record Invoked : Type 0 where
   pub parameters : List Ty
 
 abbrev pub host_method : host.Registration → Option Invoked
-host_method (host.AMethod of id operation) = Some (record {
+host_method (host.MethodRegistration of id operation) = Some (record {
   method = methods.Host id (result_type (result_of operation.result));
   result = result_of operation.result;
   parameters = map ty_of operation.parameters;
@@ -327,7 +327,7 @@ method_of_array of name =
     (arrays.Length ∷ arrays.Resize ∷ arrays.InsertLast ∷ arrays.RemoveLast ∷ arrays.IsEmpty ∷ []))
 
 unfoldable pub method_of_kind : List host.Registration → ℕ → List ℕ → Option Invoked
-method_of_kind calls kind name = option_and_then host_method (host_member_in calls kind name)
+method_of_kind registrations kind name = option_and_then host_method (host_member_in registrations kind name)
 
 unfoldable pub method_in : Environment → ObjectType → List ℕ → Option Invoked
 method_in env (OfClass i) name = method_of_class env.declarations.classes i name
@@ -348,7 +348,8 @@ unfoldable pub class_construction : List Class → ℕ → Option Callee
 class_construction classes place = option_map (class_built place) (slice_get classes place)
 
 unfoldable pub kind_construction : List host.Registration → ℕ → Option Callee
-kind_construction calls kind = option_and_then (host_type calls) (find (host.takes_kind kind) calls)
+kind_construction registrations kind =
+    option_and_then (host_type registrations) (find (host.takes_kind kind) registrations)
 
 abbrev pub array_built : Element → ℕ → Callee
 array_built of count = record {

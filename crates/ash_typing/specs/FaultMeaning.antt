@@ -8,7 +8,7 @@ use Rattle.std.specs.Option.{is_some}
 use Rattle.std.specs.Str.{bytes_eq}
 use Rattle.ash_lex.specs.Tokens.{Meaning, name, reserved}
 use Rattle.ash_lex.specs.declared.words.ReservedWord.TheVariants as words
-use Rattle.ash_registrations.specs.Calls.{Registration}
+use Rattle.ash_registrations.specs.Registrations.{Registration}
 use Rattle.ash_tree.specs.Tree as written
 use Rattle.ash_tree.specs.Tokens.{Tokens}
 use Rattle.ash_tree.specs.declared.tree.places.Place.{Place}
@@ -164,185 +164,187 @@ counts unary.Increment = true
 counts unary.Decrement = true
 counts _ = false
 
--- What is wrong at an offset, where a token means this: in the module of this script, where these calls are registered.
-pub data IsWrong (calls : List Registration) (script : List written.Item) : Rule → ℕ → Meaning → Type 0 where
+-- What is wrong at an offset, where a token means this: in the module of this script, with these registrations.
+pub data IsWrong (registrations : List Registration) (script : List written.Item) : Rule → ℕ → Meaning → Type 0 where
   -- no local, field or global has this name
   no_variable : {env : Environment} {p : Place} {text : List ℕ}
-      → Occurs calls script (Expression env (written.Name p text))
+      → Occurs registrations script (Expression env (written.Name p text))
       → variable_in env text ≡ None
-      → IsWrong calls script rules.UnknownName p.at (name text)
+      → IsWrong registrations script rules.UnknownName p.at (name text)
   -- no method, function, class or registered type or function has this name
   no_callee : {env : Environment} {p : Place} {text : List ℕ} {es : written.Exprs}
-      → Occurs calls script (Expression env (written.Call p text es))
+      → Occurs registrations script (Expression env (written.Call p text es))
       → callee_in env text ≡ None
-      → IsWrong calls script rules.UnknownName p.at (name text)
+      → IsWrong registrations script rules.UnknownName p.at (name text)
   -- objects of the type of what is before the point have no field and no property of this name, or no method
   no_member : {env : Environment} {t : TypedExpr} {p : Place} {text : List ℕ} {ss : written.Suffixes} {o : ObjectType}
-      → Occurs calls script (Suffixes env t (written.suffix (written.Field p text) ss))
+      → Occurs registrations script (Suffixes env t (written.suffix (written.Field p text) ss))
       → object_of t.ty ≡ Some o
       → member_in env o text ≡ None
-      → IsWrong calls script rules.UnknownName p.at (name text)
+      → IsWrong registrations script rules.UnknownName p.at (name text)
   no_method : {env : Environment} {t : TypedExpr} {p : Place} {text : List ℕ} {es : written.Exprs} {ss : written.Suffixes}
       {o : ObjectType}
-      → Occurs calls script (Suffixes env t (written.suffix (written.Method p text es) ss))
+      → Occurs registrations script (Suffixes env t (written.suffix (written.Method p text es) ss))
       → object_of t.ty ≡ Some o
       → method_in env o text ≡ None
-      → IsWrong calls script rules.UnknownName p.at (name text)
+      → IsWrong registrations script rules.UnknownName p.at (name text)
   -- no class, interface or registered type has this name
   no_type : {x : Phrase} {used : TypeUse} {text : List ℕ}
-      → Occurs calls script x
+      → Occurs registrations script x
       → written_by x ≡ Some used
-      → object_named calls (declarations calls script) text ≡ None
-      → IsWrong calls script rules.UnknownType (at_type_name used.of) (name text)
+      → object_named registrations (declarations registrations script) text ≡ None
+      → IsWrong registrations script rules.UnknownType (at_type_name used.of) (name text)
   no_cast_type : {env : Environment} {p : Place} {to : written.TypeName} {e : written.Expr}
-      → Occurs calls script (Expression env (written.Cast p to e))
-      → object_named calls (declarations calls script) to.name ≡ None
-      → IsWrong calls script rules.UnknownType to.place.at (name to.name)
+      → Occurs registrations script (Expression env (written.Cast p to e))
+      → object_named registrations (declarations registrations script) to.name ≡ None
+      → IsWrong registrations script rules.UnknownType to.place.at (name to.name)
   no_element_type : {env : Environment} {p at : Place} {text : List ℕ} {es : written.Exprs}
-      → Occurs calls script (Expression env (written.NewArray p (written.HandleElement at text) es))
-      → object_named calls (declarations calls script) text ≡ None
-      → IsWrong calls script rules.UnknownType at.at (name text)
+      → Occurs registrations script (Expression env (written.NewArray p (written.HandleElement at text) es))
+      → object_named registrations (declarations registrations script) text ≡ None
+      → IsWrong registrations script rules.UnknownType at.at (name text)
   -- a class lists what is neither an interface nor a class
   no_interface : {env : Environment} {place : ℕ} {before : List written.TypeName} {n : written.TypeName}
       {ns : List written.TypeName}
-      → Occurs calls script (Interfaces env place before (n ∷ ns))
-      → is_declared (object_named calls (declarations calls script) n.name) ≡ false
-      → IsWrong calls script rules.UnknownType n.place.at (name n.name)
+      → Occurs registrations script (Interfaces env place before (n ∷ ns))
+      → is_declared (object_named registrations (declarations registrations script) n.name) ≡ false
+      → IsWrong registrations script rules.UnknownType n.place.at (name n.name)
   -- another one of its space has the name that is declared
   taken : {x : Phrase} {n : Naming}
-      → Occurs calls script x
+      → Occurs registrations script x
       → named_by x ≡ Some n
       → n.is_refused ≡ true
-      → IsWrong calls script rules.NameTaken n.at (name n.text)
+      → IsWrong registrations script rules.NameTaken n.at (name n.text)
   -- there are as many before as there may be
   too_many : {x : Phrase} {n : Naming}
-      → Occurs calls script x
+      → Occurs registrations script x
       → counted_by x ≡ Some n
       → n.is_refused ≡ true
-      → IsWrong calls script rules.TooMany n.at (name n.text)
+      → IsWrong registrations script rules.TooMany n.at (name n.text)
   -- what gives a value may end without one
   no_return : {env : Environment} {of : Ty} {r : Routine}
-      → Occurs calls script (RoutinePhrase env of r)
+      → Occurs registrations script (RoutinePhrase env of r)
       → is_void of ≡ false
       → returns_in r.body ≡ false
-      → IsWrong calls script rules.NoReturn r.place.at (name r.name)
+      → IsWrong registrations script rules.NoReturn r.place.at (name r.name)
   -- what is called takes another number of arguments than it is given
   call_count : {env : Environment} {p : Place} {text : List ℕ} {es : written.Exprs} {callee : Callee}
       {parameters : List Ty}
-      → Occurs calls script (Expression env (written.Call p text es))
+      → Occurs registrations script (Expression env (written.Call p text es))
       → callee_in env text ≡ Some callee
       → callee.parameters ≡ Some parameters
       → nat_eq (length parameters) (argument_count es) ≡ false
-      → IsWrong calls script rules.WrongArgumentCount p.at (name text)
+      → IsWrong registrations script rules.WrongArgumentCount p.at (name text)
   method_count : {env : Environment} {t : TypedExpr} {p : Place} {text : List ℕ} {es : written.Exprs}
       {ss : written.Suffixes} {o : ObjectType} {m : Invoked}
-      → Occurs calls script (Suffixes env t (written.suffix (written.Method p text es) ss))
+      → Occurs registrations script (Suffixes env t (written.suffix (written.Method p text es) ss))
       → object_of t.ty ≡ Some o
       → method_in env o text ≡ Some m
       → nat_eq (length m.parameters) (argument_count es) ≡ false
-      → IsWrong calls script rules.WrongArgumentCount p.at (name text)
+      → IsWrong registrations script rules.WrongArgumentCount p.at (name text)
   array_count : {env : Environment} {p : Place} {of : written.Element} {es : written.Exprs}
-      → Occurs calls script (Expression env (written.NewArray p of es))
+      → Occurs registrations script (Expression env (written.NewArray p of es))
       → nat_eq (length (array_parameters (argument_count es))) (argument_count es) ≡ false
-      → IsWrong calls script rules.WrongArgumentCount p.at (reserved words.Array)
+      → IsWrong registrations script rules.WrongArgumentCount p.at (reserved words.Array)
   variable_count : {env : Environment} {of_at at : ℕ} {o : ObjectType} {i : written.Initializer} {callee : Callee}
       {parameters : List Ty} {m : Meaning}
-      → Occurs calls script (Initializer env of_at at (ty.Object o) i)
+      → Occurs registrations script (Initializer env of_at at (ty.Object o) i)
       → construction env o (initial_count i) ≡ Some callee
       → callee.parameters ≡ Some parameters
       → nat_eq (length parameters) (initial_count i) ≡ false
-      → IsWrong calls script rules.WrongArgumentCount of_at m
+      → IsWrong registrations script rules.WrongArgumentCount of_at m
   -- a registered type is constructed, and has no factory
   call_factory : {env : Environment} {p : Place} {text : List ℕ} {es : written.Exprs} {callee : Callee}
-      → Occurs calls script (Expression env (written.Call p text es))
+      → Occurs registrations script (Expression env (written.Call p text es))
       → callee_in env text ≡ Some callee
       → callee.parameters ≡ None
-      → IsWrong calls script rules.NoFactory p.at (name text)
+      → IsWrong registrations script rules.NoFactory p.at (name text)
   variable_factory : {env : Environment} {of_at at : ℕ} {o : ObjectType} {i : written.Initializer} {m : Meaning}
-      → Occurs calls script (Initializer env of_at at (ty.Object o) i)
+      → Occurs registrations script (Initializer env of_at at (ty.Object o) i)
       → is_constructible (construction env o (initial_count i)) ≡ false
-      → IsWrong calls script rules.NoFactory of_at m
+      → IsWrong registrations script rules.NoFactory of_at m
   -- the type of the value of a `switch` does not hold the constant of a label
   out_of_range : {scope : Scope} {int_type : Option IntType} {before : List Label} {p : Place} {l : Label}
       {ss : written.Stmts} {cs : written.Cases} {m : Meaning}
-      → Occurs calls script (Cases scope int_type before (written.next_case (written.labelled p l ss) cs))
+      → Occurs registrations script (Cases scope int_type before (written.next_case (written.labelled p l ss) cs))
       → is_within int_type l ≡ false
-      → IsWrong calls script rules.ConstantOutOfRange p.at m
+      → IsWrong registrations script rules.ConstantOutOfRange p.at m
   -- a label before has the same constant
   duplicate : {scope : Scope} {int_type : Option IntType} {before : List Label} {p : Place} {l : Label}
       {ss : written.Stmts} {cs : written.Cases} {m : Meaning}
-      → Occurs calls script (Cases scope int_type before (written.next_case (written.labelled p l ss) cs))
+      → Occurs registrations script (Cases scope int_type before (written.next_case (written.labelled p l ss) cs))
       → list_any (is_same_constant l) before ≡ true
-      → IsWrong calls script rules.DuplicateCase p.at m
+      → IsWrong registrations script rules.DuplicateCase p.at m
   -- `this` where no object runs
   no_object : {env : Environment} {p : Place}
-      → Occurs calls script (Expression env (written.This p))
+      → Occurs registrations script (Expression env (written.This p))
       → env.this ≡ None
-      → IsWrong calls script rules.Misplaced p.at (reserved words.This)
+      → IsWrong registrations script rules.Misplaced p.at (reserved words.This)
   -- `break` and `continue` where there is nothing that they leave
   no_loop_to_leave : {scope : Scope} {p : Place}
-      → Occurs calls script (Statement scope (written.Break p))
+      → Occurs registrations script (Statement scope (written.Break p))
       → (scope.in_loop || scope.in_switch) ≡ false
-      → IsWrong calls script rules.Misplaced p.at (reserved words.Break)
+      → IsWrong registrations script rules.Misplaced p.at (reserved words.Break)
   no_loop : {scope : Scope} {p : Place}
-      → Occurs calls script (Statement scope (written.Continue p))
+      → Occurs registrations script (Statement scope (written.Continue p))
       → scope.in_loop ≡ false
-      → IsWrong calls script rules.Misplaced p.at (reserved words.Continue)
+      → IsWrong registrations script rules.Misplaced p.at (reserved words.Continue)
   -- `default` before another label
   early_default : {scope : Scope} {int_type : Option IntType} {before : List Label} {p : Place} {ss : written.Stmts}
       {cs : written.Cases}
-      → Occurs calls script (Cases scope int_type before (written.next_case (written.labelled p labels.Default ss) cs))
+      → Occurs registrations script
+      (Cases scope int_type before (written.next_case (written.labelled p labels.Default ss) cs))
       → is_last cs ≡ false
-      → IsWrong calls script rules.Misplaced p.at (reserved words.Default)
+      → IsWrong registrations script rules.Misplaced p.at (reserved words.Default)
   -- a type of objects is written where none of them may be
   misplaced_type : {x : Phrase} {used : TypeUse} {o : ObjectType} {m : Meaning}
-      → Occurs calls script x
+      → Occurs registrations script x
       → written_by x ≡ Some used
-      → ty_named calls (declarations calls script) used.of ≡ ty.Object o
+      → ty_named registrations (declarations registrations script) used.of ≡ ty.Object o
       → is_misplaced used o ≡ true
-      → IsWrong calls script rules.Misplaced (at_type used.of) m
+      → IsWrong registrations script rules.Misplaced (at_type used.of) m
   -- a class lists a class
   listed_class : {env : Environment} {place class : ℕ} {before : List written.TypeName} {n : written.TypeName}
       {ns : List written.TypeName}
-      → Occurs calls script (Interfaces env place before (n ∷ ns))
-      → object_named calls (declarations calls script) n.name ≡ Some (objects.Class class)
-      → IsWrong calls script rules.Misplaced n.place.at (name n.name)
+      → Occurs registrations script (Interfaces env place before (n ∷ ns))
+      → object_named registrations (declarations registrations script) n.name ≡ Some (objects.Class class)
+      → IsWrong registrations script rules.Misplaced n.place.at (name n.name)
   -- a constructor has another name than its class
   other_constructor : {env : Environment} {class : List ℕ} {before : List written.Member} {c : written.Constructor}
       {ms : List written.Member}
-      → Occurs calls script (ClassMembers env class before (written.AConstructor c ∷ ms))
+      → Occurs registrations script (ClassMembers env class before (written.AConstructor c ∷ ms))
       → bytes_eq c.name class ≡ false
-      → IsWrong calls script rules.Misplaced c.place.at (name c.name)
+      → IsWrong registrations script rules.Misplaced c.place.at (name c.name)
   -- the type of an expression does not fit where it is
   mismatch : {at : ℕ} {m : Meaning}
-      → Mismatches calls script at
-      → IsWrong calls script rules.TypeMismatch at m
+      → Mismatches registrations script at
+      → IsWrong registrations script rules.TypeMismatch at m
   -- what is left of `=` or of `op=` takes no value
   takes_none : {env : Environment} {p : Place} {op : AssignOp} {e v : written.Expr} {t : TypedExpr} {m : Meaning}
-      → Occurs calls script (Expression env (written.Assign p e op v))
+      → Occurs registrations script (Expression env (written.Assign p e op v))
       → typed env (is_assign op) e ≡ Ok t
       → takes_value t ≡ false
-      → IsWrong calls script rules.NotAssignable t.at m
+      → IsWrong registrations script rules.NotAssignable t.at m
   -- what is counted up or down is no place
   no_place : {env : Environment} {p : Place} {op : UnaryOp} {e : written.Expr} {t : TypedExpr} {m : Meaning}
-      → Occurs calls script (Expression env (written.Unary p op e))
+      → Occurs registrations script (Expression env (written.Unary p op e))
       → counts op ≡ true
       → typed env false e ≡ Ok t
       → assignable t.form t.tree ≡ None
-      → IsWrong calls script rules.NotAssignable t.at m
+      → IsWrong registrations script rules.NotAssignable t.at m
   no_place_before : {env : Environment} {t : TypedExpr} {s : written.Suffix} {ss : written.Suffixes} {m : Meaning}
-      → Occurs calls script (Suffixes env t (written.suffix s ss))
+      → Occurs registrations script (Suffixes env t (written.suffix s ss))
       → counts_after s ≡ true
       → assignable t.form t.tree ≡ None
-      → IsWrong calls script rules.NotAssignable t.at m
+      → IsWrong registrations script rules.NotAssignable t.at m
   -- a variable of objects begins with a value: objects are constructed
   object_assigned : {env : Environment} {of_at at : ℕ} {o : ObjectType} {e : written.Expr} {m : Meaning}
-      → Occurs calls script (Initializer env of_at at (ty.Object o) (written.Value e))
-      → IsWrong calls script rules.NotAssignable at m
+      → Occurs registrations script (Initializer env of_at at (ty.Object o) (written.Value e))
+      → IsWrong registrations script rules.NotAssignable at m
 
 -- A token of the list has its first byte at the offset of the fault, means what one of its rule may, and there the rule
 -- is broken.
 abbrev pub IsBrokenAt : List Registration → List written.Item → Tokens → Fault → Type 0
-IsBrokenAt calls script tokens f =
-    Any (λ token. (token.1.at ≡ f.at) × (breaks_at f.rule token.0 ≡ true) × IsWrong calls script f.rule f.at token.0)
+IsBrokenAt registrations script tokens f =
+    Any (λ token. (token.1.at ≡ f.at) × (breaks_at f.rule token.0 ≡ true)
+    × IsWrong registrations script f.rule f.at token.0)
     tokens

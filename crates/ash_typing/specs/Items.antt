@@ -6,7 +6,7 @@ use Rattle.std.specs.Prelude.{nat_le, if◌then◌else◌}
 use Rattle.std.specs.List.{list_any}
 use Rattle.std.specs.Option.{is_some}
 use Rattle.std.specs.Str.{bytes_eq}
-use Rattle.ash_registrations.specs.Calls as host
+use Rattle.ash_registrations.specs.Registrations as host
 use Rattle.ash_tree.specs.Tree as written
 use Rattle.ash_typing.specs.declared.fault.Rule.TheVariants.{UnknownType, NameTaken, TypeMismatch, NoReturn, Misplaced}
 use Rattle.ash_typing.specs.declared.fault.Rule.TheVariants.{TooMany}
@@ -317,8 +317,8 @@ items_typed env w (i ∷ is) = item_typed env w i >>= λ next. items_typed env n
 
 -- A module has at most `max_globals` variables.
 abbrev pub nothing : List host.Registration → Walked
-nothing calls = record {
-  names = record { registered = calls; taken = []; room = max_globals };
+nothing registrations = record {
+  names = record { registered = registrations; taken = []; room = max_globals };
   typed = record { interfaces = []; classes = []; functions = []; globals = [] };
 }
 
@@ -326,7 +326,7 @@ abbrev pub module_walked : Walked → Module
 module_walked w = w.typed
 
 abbrev pub module_by : List host.Registration → ModuleDeclarations → List written.Item → TypingResult Module
-module_by calls h is = items_typed (module_environment calls h) (nothing calls) is >>= λ w. Ok (module_walked w)
+module_by registrations h is = items_typed (module_environment registrations h) (nothing registrations) is >>= λ w. Ok (module_walked w)
 
 unfoldable pub module_typed : List host.Registration → List written.Item → TypingResult Module
-module_typed calls is = module_by calls (declarations calls is) is
+module_typed registrations is = module_by registrations (declarations registrations is) is

@@ -2,7 +2,7 @@
 -- the phrase takes. Types that are unknown fit, since the fault is at the type.
 use Rattle.std.specs.Prelude.{◌≡◌, ℕ, List, [], ◌∷◌, Bool, true, false, Option, Some, None, Ok, length, nat_eq}
 use Rattle.std.specs.Prelude.{if◌then◌else◌}
-use Rattle.ash_registrations.specs.Calls.{Registration}
+use Rattle.ash_registrations.specs.Registrations.{Registration}
 use Rattle.ash_tree.specs.Tree as written
 use Rattle.ash_tree.specs.declared.tree.places.Place.{Place}
 use Rattle.ash_tree.specs.declared.tree.types.Primitive.{Primitive}
@@ -104,175 +104,175 @@ pub data IsUnfit (classes : List Class) : List Ty → List TypedExpr → ℕ →
       → IsUnfit classes parameters ts at
       → IsUnfit classes (of ∷ parameters) (t ∷ ts) at
 
--- Types do not fit at this offset: in the module of this script, where these calls are registered.
-pub data Mismatches (calls : List Registration) (script : List written.Item) : ℕ → Type 0 where
+-- Types do not fit at this offset: in the module of this script, with these registrations.
+pub data Mismatches (registrations : List Registration) (script : List written.Item) : ℕ → Type 0 where
   -- an argument does not fit its parameter
   of_call : {env : Environment} {p : Place} {text : List ℕ} {es : written.Exprs} {callee : Callee}
       {parameters : List Ty} {ts : List TypedExpr} {at : ℕ}
-      → Occurs calls script (Expression env (written.Call p text es))
+      → Occurs registrations script (Expression env (written.Call p text es))
       → callee_in env text ≡ Some callee
       → callee.parameters ≡ Some parameters
       → all_typed env es ≡ Ok ts
       → IsUnfit env.declarations.classes parameters ts at
-      → Mismatches calls script at
+      → Mismatches registrations script at
   of_method : {env : Environment} {t : TypedExpr} {p : Place} {text : List ℕ} {es : written.Exprs} {ss : written.Suffixes}
       {o : ObjectType} {m : Invoked} {ts : List TypedExpr} {at : ℕ}
-      → Occurs calls script (Suffixes env t (written.suffix (written.Method p text es) ss))
+      → Occurs registrations script (Suffixes env t (written.suffix (written.Method p text es) ss))
       → object_of t.ty ≡ Some o
       → method_in env o text ≡ Some m
       → all_typed env es ≡ Ok ts
       → IsUnfit env.declarations.classes m.parameters ts at
-      → Mismatches calls script at
+      → Mismatches registrations script at
   of_array : {env : Environment} {p : Place} {of : written.Element} {es : written.Exprs} {ts : List TypedExpr} {at : ℕ}
-      → Occurs calls script (Expression env (written.NewArray p of es))
+      → Occurs registrations script (Expression env (written.NewArray p of es))
       → all_typed env es ≡ Ok ts
       → IsUnfit env.declarations.classes (array_parameters (length ts)) ts at
-      → Mismatches calls script at
+      → Mismatches registrations script at
   of_variable : {env : Environment} {of_at at : ℕ} {o : ObjectType} {es : List written.Expr} {callee : Callee}
       {parameters : List Ty} {ts : List TypedExpr} {arg_at : ℕ}
-      → Occurs calls script (Initializer env of_at at (ty.Object o) (written.Arguments es))
+      → Occurs registrations script (Initializer env of_at at (ty.Object o) (written.Arguments es))
       → all_typed env (written.exprs es) ≡ Ok ts
       → construction env o (length ts) ≡ Some callee
       → callee.parameters ≡ Some parameters
       → IsUnfit env.declarations.classes parameters ts arg_at
-      → Mismatches calls script arg_at
+      → Mismatches registrations script arg_at
   -- an operand is of no type that its operator takes; of two operands the fault is at the one that the operator takes
   -- nowhere
   operand : {env : Environment} {p : Place} {op : UnaryOp} {e : written.Expr} {t : TypedExpr}
-      → Occurs calls script (Expression env (written.Unary p op e))
+      → Occurs registrations script (Expression env (written.Unary p op e))
       → typed env false e ≡ Ok t
       → takes_operand op t.ty ≡ false
-      → Mismatches calls script t.at
+      → Mismatches registrations script t.at
   operand_before : {env : Environment} {t : TypedExpr} {s : written.Suffix} {ss : written.Suffixes}
-      → Occurs calls script (Suffixes env t (written.suffix s ss))
+      → Occurs registrations script (Suffixes env t (written.suffix s ss))
       → counts_after s ≡ true
       → may_be_integer t.ty ≡ false
-      → Mismatches calls script t.at
+      → Mismatches registrations script t.at
   operands : {env : Environment} {t u : TypedExpr} {op : BinaryOp} {e : written.Expr} {ls : written.Links} {at : ℕ}
-      → Occurs calls script (Links env t (written.link op e ls))
+      → Occurs registrations script (Links env t (written.link op e ls))
       → typed env false e ≡ Ok u
       → unify_operands op t u ≡ broken TypeMismatch at
-      → Mismatches calls script at
+      → Mismatches registrations script at
   converted : {env : Environment} {p : Place} {to : Primitive} {e : written.Expr} {t : TypedExpr}
-      → Occurs calls script (Expression env (written.Convert p to e))
+      → Occurs registrations script (Expression env (written.Convert p to e))
       → typed env false e ≡ Ok t
       → converts (ty_of to) t.ty ≡ false
-      → Mismatches calls script t.at
+      → Mismatches registrations script t.at
   -- `cast`, of an object to a class or an interface
   cast_from : {env : Environment} {p : Place} {to : written.TypeName} {e : written.Expr} {t : TypedExpr}
-      → Occurs calls script (Expression env (written.Cast p to e))
+      → Occurs registrations script (Expression env (written.Cast p to e))
       → typed env false e ≡ Ok t
       → may_be_object t.ty ≡ false
-      → Mismatches calls script t.at
+      → Mismatches registrations script t.at
   cast_to : {env : Environment} {p : Place} {to : written.TypeName} {e : written.Expr} {o : ObjectType}
-      → Occurs calls script (Expression env (written.Cast p to e))
-      → object_named calls (declarations calls script) to.name ≡ Some o
+      → Occurs registrations script (Expression env (written.Cast p to e))
+      → object_named registrations (declarations registrations script) to.name ≡ Some o
       → is_cast_type o ≡ false
-      → Mismatches calls script to.place.at
+      → Mismatches registrations script to.place.at
   -- c ? a : b
   choice_condition : {env : Environment} {p : Place} {c a b : written.Expr} {t : TypedExpr}
-      → Occurs calls script (Expression env (written.Conditional p c a b))
+      → Occurs registrations script (Expression env (written.Conditional p c a b))
       → typed env false c ≡ Ok t
       → may_be_bool t.ty ≡ false
-      → Mismatches calls script t.at
+      → Mismatches registrations script t.at
   branches : {env : Environment} {p : Place} {c a b : written.Expr} {x y : TypedExpr}
-      → Occurs calls script (Expression env (written.Conditional p c a b))
+      → Occurs registrations script (Expression env (written.Conditional p c a b))
       → typed env false a ≡ Ok x
       → typed env false b ≡ Ok y
       → common x.ty y.ty ≡ None
-      → Mismatches calls script (if is_void x.ty then x.at else y.at)
+      → Mismatches registrations script (if is_void x.ty then x.at else y.at)
   -- what is assigned does not fit the place, or the operator of `op=` takes no such operands
   assigned : {env : Environment} {p : Place} {op : AssignOp} {e v : written.Expr} {t u : TypedExpr}
-      → Occurs calls script (Expression env (written.Assign p e op v))
+      → Occurs registrations script (Expression env (written.Assign p e op v))
       → typed env (is_assign op) e ≡ Ok t
       → typed env false v ≡ Ok u
       → operator_of op ≡ None
       → fits env.declarations.classes t.ty u.ty ≡ false
-      → Mismatches calls script u.at
+      → Mismatches registrations script u.at
   updated : {env : Environment} {p : Place} {op : AssignOp} {c : Calculator} {e v : written.Expr} {t u : TypedExpr} {at : ℕ}
-      → Occurs calls script (Expression env (written.Assign p e op v))
+      → Occurs registrations script (Expression env (written.Assign p e op v))
       → typed env (is_assign op) e ≡ Ok t
       → typed env false v ≡ Ok u
       → operator_of op ≡ Some c
       → unify_operands (binary_of c) (term_at t.at t.ty Null) u ≡ broken TypeMismatch at
-      → Mismatches calls script at
+      → Mismatches registrations script at
   updated_place : {env : Environment} {p : Place} {op : AssignOp} {c : Calculator} {e v : written.Expr} {t : TypedExpr}
-      → Occurs calls script (Expression env (written.Assign p e op v))
+      → Occurs registrations script (Expression env (written.Assign p e op v))
       → typed env (is_assign op) e ≡ Ok t
       → operator_of op ≡ Some c
       → may_be_integer t.ty ≡ false
-      → Mismatches calls script t.at
+      → Mismatches registrations script t.at
   -- members and elements of what is no object, and of what is no array; and an index
   no_object : {env : Environment} {t : TypedExpr} {s : written.Suffix} {ss : written.Suffixes}
-      → Occurs calls script (Suffixes env t (written.suffix s ss))
+      → Occurs registrations script (Suffixes env t (written.suffix s ss))
       → names_member s ≡ true
       → may_be_object t.ty ≡ false
-      → Mismatches calls script t.at
+      → Mismatches registrations script t.at
   no_array : {env : Environment} {t : TypedExpr} {e : written.Expr} {ss : written.Suffixes}
-      → Occurs calls script (Suffixes env t (written.suffix (written.Index e) ss))
+      → Occurs registrations script (Suffixes env t (written.suffix (written.Index e) ss))
       → may_be_array t.ty ≡ false
-      → Mismatches calls script t.at
+      → Mismatches registrations script t.at
   no_index : {env : Environment} {t u : TypedExpr} {e : written.Expr} {ss : written.Suffixes}
-      → Occurs calls script (Suffixes env t (written.suffix (written.Index e) ss))
+      → Occurs registrations script (Suffixes env t (written.suffix (written.Index e) ss))
       → typed env false e ≡ Ok u
       → may_be_integer u.ty ≡ false
-      → Mismatches calls script u.at
+      → Mismatches registrations script u.at
   -- what a variable begins with; but of objects, its brackets have one value, and of a handle it has none
   initial_value : {env : Environment} {of_at at : ℕ} {of : Ty} {e : written.Expr} {t : TypedExpr}
-      → Occurs calls script (Initializer env of_at at of (written.Value e))
+      → Occurs registrations script (Initializer env of_at at of (written.Value e))
       → typed env false e ≡ Ok t
       → fits env.declarations.classes of t.ty ≡ false
-      → Mismatches calls script t.at
+      → Mismatches registrations script t.at
   initial_argument : {env : Environment} {of_at at : ℕ} {of : Ty} {es : List written.Expr} {t : TypedExpr}
-      → Occurs calls script (Initializer env of_at at of (written.Arguments es))
+      → Occurs registrations script (Initializer env of_at at of (written.Arguments es))
       → all_typed env (written.exprs es) ≡ Ok (t ∷ [])
       → fits env.declarations.classes of t.ty ≡ false
-      → Mismatches calls script t.at
+      → Mismatches registrations script t.at
   brackets : {env : Environment} {of_at at : ℕ} {of : Ty} {es : List written.Expr} {ts : List TypedExpr}
-      → Occurs calls script (Initializer env of_at at of (written.Arguments es))
+      → Occurs registrations script (Initializer env of_at at of (written.Arguments es))
       → is_object of ≡ false
       → all_typed env (written.exprs es) ≡ Ok ts
       → nat_eq (length ts) 1 ≡ false
-      → Mismatches calls script at
+      → Mismatches registrations script at
   handle_brackets : {env : Environment} {of_at at : ℕ} {o : ObjectType} {es : List written.Expr}
-      → Occurs calls script (Initializer env of_at at (ty.Handle o) (written.Arguments es))
-      → Mismatches calls script at
+      → Occurs registrations script (Initializer env of_at at (ty.Handle o) (written.Arguments es))
+      → Mismatches registrations script at
   -- conditions, and the value of a `switch`
   condition : {scope : Scope} {s : written.Stmt} {c : written.Expr} {t : TypedExpr}
-      → Occurs calls script (Statement scope s)
+      → Occurs registrations script (Statement scope s)
       → condition_of s ≡ Some c
       → typed scope.env false c ≡ Ok t
       → may_be_bool t.ty ≡ false
-      → Mismatches calls script t.at
+      → Mismatches registrations script t.at
   for_condition : {scope : Scope} {p : Place} {f s : written.Stmt} {c : written.Expr} {es : List written.Expr}
       {t : TypedExpr}
-      → Occurs calls script (Statement scope (written.For p f (Some c) es s))
+      → Occurs registrations script (Statement scope (written.For p f (Some c) es s))
       → typed (after (block_of scope) f).env false c ≡ Ok t
       → may_be_bool t.ty ≡ false
-      → Mismatches calls script t.at
+      → Mismatches registrations script t.at
   switch_value : {scope : Scope} {p : Place} {e : written.Expr} {cs : written.Cases} {t : TypedExpr}
-      → Occurs calls script (Statement scope (written.Switch p e cs))
+      → Occurs registrations script (Statement scope (written.Switch p e cs))
       → typed scope.env false e ≡ Ok t
       → may_be_integer t.ty ≡ false
-      → Mismatches calls script t.at
+      → Mismatches registrations script t.at
   -- `return`: a value that does not fit, one where none is given, and none where one is
   returned : {scope : Scope} {p : Place} {e : written.Expr} {t : TypedExpr}
-      → Occurs calls script (Statement scope (written.Return p (Some e)))
+      → Occurs registrations script (Statement scope (written.Return p (Some e)))
       → typed scope.env false e ≡ Ok t
       → fits scope.env.declarations.classes scope.result t.ty ≡ false
-      → Mismatches calls script t.at
+      → Mismatches registrations script t.at
   returned_value : {scope : Scope} {p : Place} {e : written.Expr}
-      → Occurs calls script (Statement scope (written.Return p (Some e)))
+      → Occurs registrations script (Statement scope (written.Return p (Some e)))
       → is_void scope.result ≡ true
-      → Mismatches calls script p.at
+      → Mismatches registrations script p.at
   returned_nothing : {scope : Scope} {p : Place}
-      → Occurs calls script (Statement scope (written.Return p None))
+      → Occurs registrations script (Statement scope (written.Return p None))
       → gives_nothing scope.result ≡ false
-      → Mismatches calls script p.at
+      → Mismatches registrations script p.at
   -- a class lacks a method of an interface that it lists, or has it with other types
   lacks_method : {env : Environment} {place interface : ℕ} {before : List written.TypeName} {n : written.TypeName}
       {ns : List written.TypeName}
-      → Occurs calls script (Interfaces env place before (n ∷ ns))
-      → object_named calls (declarations calls script) n.name ≡ Some (objects.Interface interface)
+      → Occurs registrations script (Interfaces env place before (n ∷ ns))
+      → object_named registrations (declarations registrations script) n.name ≡ Some (objects.Interface interface)
       → implemented env place interface ≡ None
-      → Mismatches calls script n.place.at
+      → Mismatches registrations script n.place.at

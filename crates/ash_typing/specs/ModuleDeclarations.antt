@@ -2,7 +2,7 @@
 -- the first counts, and what is of an unknown type is reported where it is declared.
 use Rattle.std.specs.Prelude.{ℕ, List, [], ◌∷◌, ◌++◌, Option, Some, None, map, find}
 use Rattle.std.specs.Option.{option_and_then, option_map, option_or}
-use Rattle.ash_registrations.specs.Calls as host
+use Rattle.ash_registrations.specs.Registrations as host
 use Rattle.ash_tree.specs.Tree as written
 use Rattle.ash_typed.specs.declared.types.ObjectType.{ObjectType}
 use Rattle.ash_tree.specs.declared.tree.types.Primitive.{Primitive}
@@ -26,7 +26,7 @@ abbrev pub class_type : List Class → List ℕ → Option ObjectType
 class_type classes name = option_map (λ (found : ℕ × Class). OfClass found.0) (first_from (is_class name) 0 classes)
 
 abbrev pub host_object : host.Registration → Option ObjectType
-host_object (host.AType name kind) = Some (OfHost kind)
+host_object (host.TypeRegistration name kind) = Some (OfHost kind)
 host_object _ = None
 
 abbrev pub interface_type : List Interface → List ℕ → Option ObjectType
@@ -35,9 +35,10 @@ interface_type interfaces name =
 
 -- The name is that of a class of the module, else of an interface, else of a registered type.
 unfoldable pub object_named : List host.Registration → ModuleDeclarations → List ℕ → Option ObjectType
-object_named calls named name =
+object_named registrations named name =
     option_or (class_type named.classes name)
-    (option_or (interface_type named.interfaces name) (option_and_then host_object (find (host.takes_name name) calls)))
+    (option_or (interface_type named.interfaces name)
+    (option_and_then host_object (find (host.takes_name name) registrations)))
 
 -- what the elements of an array are of
 
@@ -55,11 +56,12 @@ element_by (OfHost kind) = Some (elements.Host kind)
 element_by (OfArray of) = None
 
 unfoldable pub element_named : List host.Registration → ModuleDeclarations → written.Element → Option Element
-element_named calls named (written.PrimElement p primitive) = Some (element_of primitive)
-element_named calls named (written.HandleElement p name) = option_and_then element_by (object_named calls named name)
+element_named registrations named (written.PrimElement p primitive) = Some (element_of primitive)
+element_named registrations named (written.HandleElement p name) =
+    option_and_then element_by (object_named registrations named name)
 
 abbrev pub array_named : List host.Registration → ModuleDeclarations → written.Element → Option ObjectType
-array_named calls named of = option_map OfArray (element_named calls named of)
+array_named registrations named of = option_map OfArray (element_named registrations named of)
 
 abbrev pub object_ty : Option ObjectType → Ty
 object_ty None = ty.Unknown
@@ -69,18 +71,18 @@ abbrev pub handle_ty : Option ObjectType → Ty
 handle_ty None = ty.Unknown
 handle_ty (Some o) = ty.Handle o
 
--- `ty_named calls named of` is the type that is written.
+-- `ty_named registrations named of` is the type that is written.
 unfoldable pub ty_named : List host.Registration → ModuleDeclarations → written.Named → Ty
-ty_named calls named (written.Prim p primitive) = ty_of primitive
-ty_named calls named (written.Object p name) = object_ty (object_named calls named name)
-ty_named calls named (written.Handle p name) = handle_ty (object_named calls named name)
-ty_named calls named (written.Array p of) = object_ty (array_named calls named of)
-ty_named calls named (written.ArrayHandle p of) = handle_ty (array_named calls named of)
+ty_named registrations named (written.Prim p primitive) = ty_of primitive
+ty_named registrations named (written.Object p name) = object_ty (object_named registrations named name)
+ty_named registrations named (written.Handle p name) = handle_ty (object_named registrations named name)
+ty_named registrations named (written.Array p of) = object_ty (array_named registrations named of)
+ty_named registrations named (written.ArrayHandle p of) = handle_ty (array_named registrations named of)
 
--- `result_named calls named result` is what a function gives.
+-- `result_named registrations named result` is what a function gives.
 abbrev pub result_named : List host.Registration → ModuleDeclarations → Option written.Named → Ty
-result_named calls named None = ty.Void
-result_named calls named (Some of) = ty_named calls named of
+result_named registrations named None = ty.Void
+result_named registrations named (Some of) = ty_named registrations named of
 
 -- the same where they are seen
 
@@ -97,40 +99,41 @@ abbrev pub declared : Ty → written.Decl → Declared
 declared of d = record { name = d.name; of = of }
 
 abbrev pub variables : List host.Registration → ModuleDeclarations → written.Vars → List Declared
-variables calls named v = map (declared (ty_named calls named v.of)) v.decls
+variables registrations named v = map (declared (ty_named registrations named v.of)) v.decls
 
--- `all_variables calls named vs` are the variables of several declarations.
+-- `all_variables registrations named vs` are the variables of several declarations.
 abbrev pub all_variables : List host.Registration → ModuleDeclarations → List written.Vars → List Declared
-all_variables calls named [] = []
-all_variables calls named (v ∷ vs) = variables calls named v ++ all_variables calls named vs
+all_variables registrations named [] = []
+all_variables registrations named (v ∷ vs) = variables registrations named v ++ all_variables registrations named vs
 
 abbrev pub parameter_ty : List host.Registration → ModuleDeclarations → written.Parameter → Ty
-parameter_ty calls named p = ty_named calls named p.of
+parameter_ty registrations named p = ty_named registrations named p.of
 
 abbrev pub function_declaration : List host.Registration → ModuleDeclarations → written.Function → Function
-function_declaration calls named f = record {
+function_declaration registrations named f = record {
   name = f.name;
-  result = result_named calls named f.result;
-  parameters = map (parameter_ty calls named) f.parameters;
+  result = result_named registrations named f.result;
+  parameters = map (parameter_ty registrations named) f.parameters;
 }
 
 abbrev pub signature_declaration : List host.Registration → ModuleDeclarations → written.InterfaceMethod → Function
-signature_declaration calls named m = record {
+signature_declaration registrations named m = record {
   name = m.name;
-  result = result_named calls named m.result;
-  parameters = map (parameter_ty calls named) m.parameters;
+  result = result_named registrations named m.result;
+  parameters = map (parameter_ty registrations named) m.parameters;
 }
 
 abbrev pub interface_declaration : List host.Registration → ModuleDeclarations → written.Interface → Interface
-interface_declaration calls named i = record {
+interface_declaration registrations named i = record {
   name = i.name;
-  methods = map (signature_declaration calls named) i.methods;
+  methods = map (signature_declaration registrations named) i.methods;
 }
 
--- `constructed_by calls named cs` is what the construction of an object takes: nothing where no constructor is written.
+-- `constructed_by registrations named cs` is what the construction of an object takes: nothing where no constructor
+-- is written.
 abbrev pub constructed_by : List host.Registration → ModuleDeclarations → List written.Constructor → List Ty
-constructed_by calls named [] = []
-constructed_by calls named (c ∷ cs) = map (parameter_ty calls named) c.parameters
+constructed_by registrations named [] = []
+constructed_by registrations named (c ∷ cs) = map (parameter_ty registrations named) c.parameters
 
 -- the interfaces that a class lists
 
@@ -143,17 +146,17 @@ with_place None places = places
 with_place (Some place) places = place ∷ places
 
 abbrev pub listed_in : List host.Registration → ModuleDeclarations → List written.TypeName → List ℕ
-listed_in calls named [] = []
-listed_in calls named (n ∷ ns) =
-    with_place (interface_place (object_named calls named n.name)) (listed_in calls named ns)
+listed_in registrations named [] = []
+listed_in registrations named (n ∷ ns) =
+    with_place (interface_place (object_named registrations named n.name)) (listed_in registrations named ns)
 
 abbrev pub class_declaration : List host.Registration → ModuleDeclarations → written.Class → Class
-class_declaration calls named c = record {
+class_declaration registrations named c = record {
   name = c.name;
-  interfaces = listed_in calls named c.interfaces;
-  fields = all_variables calls named (fields_of c.members);
-  methods = map (function_declaration calls named) (methods_of c.members);
-  parameters = constructed_by calls named (constructors_of c.members);
+  interfaces = listed_in registrations named c.interfaces;
+  fields = all_variables registrations named (fields_of c.members);
+  methods = map (function_declaration registrations named) (methods_of c.members);
+  parameters = constructed_by registrations named (constructors_of c.members);
 }
 
 -- a class and an interface of which only the name is known, since types name no more of them
@@ -174,12 +177,12 @@ names_in is = record {
 }
 
 abbrev pub declarations_by : List host.Registration → ModuleDeclarations → List written.Item → ModuleDeclarations
-declarations_by calls named is = record {
-  interfaces = map (interface_declaration calls named) (interfaces_of is);
-  classes = map (class_declaration calls named) (classes_of is);
-  functions = map (function_declaration calls named) (functions_of is);
-  globals = all_variables calls named (globals_of is);
+declarations_by registrations named is = record {
+  interfaces = map (interface_declaration registrations named) (interfaces_of is);
+  classes = map (class_declaration registrations named) (classes_of is);
+  functions = map (function_declaration registrations named) (functions_of is);
+  globals = all_variables registrations named (globals_of is);
 }
 
 unfoldable pub declarations : List host.Registration → List written.Item → ModuleDeclarations
-declarations calls is = declarations_by calls (names_in is) is
+declarations registrations is = declarations_by registrations (names_in is) is

@@ -1,7 +1,7 @@
 -- The phrases of a module, and what each of them sees: of the module all that its items declare, of a class that its
 -- object runs, and of a body the variables before the phrase. It is not said that what comes before is free of faults.
 use Rattle.std.specs.Prelude.{◌≡◌, ℕ, ◌-◌, List, [], ◌∷◌, ◌++◌, map, length, false, Option, Some, Ok}
-use Rattle.ash_registrations.specs.Calls.{Registration}
+use Rattle.ash_registrations.specs.Registrations.{Registration}
 use Rattle.ash_tree.specs.Tree as written
 use Rattle.ash_tree.specs.declared.tree.places.Place.{Place}
 use Rattle.ash_tree.specs.declared.tree.types.Primitive.{Primitive}
@@ -29,8 +29,8 @@ use Rattle.ash_typing.specs.TypedModules.{signature_name, listed_name, environme
 -- Those that are registered, and those of the items before. There are at most `max_globals` variables in a
 -- module.
 abbrev pub names_before : List Registration → List written.Item → Names
-names_before calls before =
-    record { registered = calls; taken = item_names before; room = max_globals - length (variable_names (globals_of before)) }
+names_before registrations before =
+    record { registered = registrations; taken = item_names before; room = max_globals - length (variable_names (globals_of before)) }
 
 -- Those of the members before. There are at most `max_class_members` fields and methods in a class.
 abbrev pub names_of_members : List written.Member → Names
@@ -98,239 +98,239 @@ environment_of (Interfaces env place before ns) = env
 environment_of (ClassMembers env class before ms) = env
 environment_of (Items env before is) = env
 
--- A phrase is one of the module of this script, where these calls are registered, and sees this.
-pub data Occurs (calls : List Registration) (script : List written.Item) : Phrase → Type 0 where
+-- A phrase is one of the module of this script, with these registrations, and sees this.
+pub data Occurs (registrations : List Registration) (script : List written.Item) : Phrase → Type 0 where
   -- expressions
   call_arguments : {env : Environment} {p : Place} {text : List ℕ} {es : written.Exprs}
-      → Occurs calls script (Expression env (written.Call p text es))
-      → Occurs calls script (Arguments env es)
+      → Occurs registrations script (Expression env (written.Call p text es))
+      → Occurs registrations script (Arguments env es)
   in_brackets : {env : Environment} {p : Place} {e : written.Expr}
-      → Occurs calls script (Expression env (written.Brackets p e))
-      → Occurs calls script (Expression env e)
+      → Occurs registrations script (Expression env (written.Brackets p e))
+      → Occurs registrations script (Expression env e)
   converted : {env : Environment} {p : Place} {to : Primitive} {e : written.Expr}
-      → Occurs calls script (Expression env (written.Convert p to e))
-      → Occurs calls script (Expression env e)
+      → Occurs registrations script (Expression env (written.Convert p to e))
+      → Occurs registrations script (Expression env e)
   array_arguments : {env : Environment} {p : Place} {of : written.Element} {es : written.Exprs}
-      → Occurs calls script (Expression env (written.NewArray p of es))
-      → Occurs calls script (Arguments env es)
+      → Occurs registrations script (Expression env (written.NewArray p of es))
+      → Occurs registrations script (Arguments env es)
   cast : {env : Environment} {p : Place} {to : written.TypeName} {e : written.Expr}
-      → Occurs calls script (Expression env (written.Cast p to e))
-      → Occurs calls script (Expression env e)
+      → Occurs registrations script (Expression env (written.Cast p to e))
+      → Occurs registrations script (Expression env e)
   before_suffixes : {env : Environment} {p : Place} {e : written.Expr} {ss : written.Suffixes}
-      → Occurs calls script (Expression env (written.Postfix p e ss))
-      → Occurs calls script (Expression env e)
+      → Occurs registrations script (Expression env (written.Postfix p e ss))
+      → Occurs registrations script (Expression env e)
   suffixes : {env : Environment} {p : Place} {e : written.Expr} {ss : written.Suffixes} {t : TypedExpr}
-      → Occurs calls script (Expression env (written.Postfix p e ss))
+      → Occurs registrations script (Expression env (written.Postfix p e ss))
       → typed env false e ≡ Ok t
-      → Occurs calls script (Suffixes env t ss)
+      → Occurs registrations script (Suffixes env t ss)
   operand : {env : Environment} {p : Place} {op : UnaryOp} {e : written.Expr}
-      → Occurs calls script (Expression env (written.Unary p op e))
-      → Occurs calls script (Expression env e)
+      → Occurs registrations script (Expression env (written.Unary p op e))
+      → Occurs registrations script (Expression env e)
   first_operand : {env : Environment} {p : Place} {e : written.Expr} {ls : written.Links}
-      → Occurs calls script (Expression env (written.Binary p e ls))
-      → Occurs calls script (Expression env e)
+      → Occurs registrations script (Expression env (written.Binary p e ls))
+      → Occurs registrations script (Expression env e)
   links : {env : Environment} {p : Place} {e : written.Expr} {ls : written.Links} {t : TypedExpr}
-      → Occurs calls script (Expression env (written.Binary p e ls))
+      → Occurs registrations script (Expression env (written.Binary p e ls))
       → typed env false e ≡ Ok t
-      → Occurs calls script (Links env t ls)
+      → Occurs registrations script (Links env t ls)
   condition : {env : Environment} {p : Place} {c a b : written.Expr}
-      → Occurs calls script (Expression env (written.Conditional p c a b))
-      → Occurs calls script (Expression env c)
+      → Occurs registrations script (Expression env (written.Conditional p c a b))
+      → Occurs registrations script (Expression env c)
   chosen : {env : Environment} {p : Place} {c a b : written.Expr}
-      → Occurs calls script (Expression env (written.Conditional p c a b))
-      → Occurs calls script (Expression env a)
+      → Occurs registrations script (Expression env (written.Conditional p c a b))
+      → Occurs registrations script (Expression env a)
   otherwise : {env : Environment} {p : Place} {c a b : written.Expr}
-      → Occurs calls script (Expression env (written.Conditional p c a b))
-      → Occurs calls script (Expression env b)
+      → Occurs registrations script (Expression env (written.Conditional p c a b))
+      → Occurs registrations script (Expression env b)
   target : {env : Environment} {p : Place} {op : AssignOp} {e v : written.Expr}
-      → Occurs calls script (Expression env (written.Assign p e op v))
-      → Occurs calls script (Expression env e)
+      → Occurs registrations script (Expression env (written.Assign p e op v))
+      → Occurs registrations script (Expression env e)
   value : {env : Environment} {p : Place} {op : AssignOp} {e v : written.Expr}
-      → Occurs calls script (Expression env (written.Assign p e op v))
-      → Occurs calls script (Expression env v)
+      → Occurs registrations script (Expression env (written.Assign p e op v))
+      → Occurs registrations script (Expression env v)
   argument : {env : Environment} {e : written.Expr} {es : written.Exprs}
-      → Occurs calls script (Arguments env (written.expr e es))
-      → Occurs calls script (Expression env e)
+      → Occurs registrations script (Arguments env (written.expr e es))
+      → Occurs registrations script (Expression env e)
   other_arguments : {env : Environment} {e : written.Expr} {es : written.Exprs}
-      → Occurs calls script (Arguments env (written.expr e es))
-      → Occurs calls script (Arguments env es)
+      → Occurs registrations script (Arguments env (written.expr e es))
+      → Occurs registrations script (Arguments env es)
   linked : {env : Environment} {t : TypedExpr} {op : BinaryOp} {e : written.Expr} {ls : written.Links}
-      → Occurs calls script (Links env t (written.link op e ls))
-      → Occurs calls script (Expression env e)
+      → Occurs registrations script (Links env t (written.link op e ls))
+      → Occurs registrations script (Expression env e)
   other_links : {env : Environment} {t u next : TypedExpr} {op : BinaryOp} {e : written.Expr} {ls : written.Links}
-      → Occurs calls script (Links env t (written.link op e ls))
+      → Occurs registrations script (Links env t (written.link op e ls))
       → typed env false e ≡ Ok u
       → operate op t u ≡ Ok next
-      → Occurs calls script (Links env next ls)
+      → Occurs registrations script (Links env next ls)
   method_arguments : {env : Environment} {t : TypedExpr} {p : Place} {text : List ℕ} {es : written.Exprs}
       {ss : written.Suffixes}
-      → Occurs calls script (Suffixes env t (written.suffix (written.Method p text es) ss))
-      → Occurs calls script (Arguments env es)
+      → Occurs registrations script (Suffixes env t (written.suffix (written.Method p text es) ss))
+      → Occurs registrations script (Arguments env es)
   index : {env : Environment} {t : TypedExpr} {e : written.Expr} {ss : written.Suffixes}
-      → Occurs calls script (Suffixes env t (written.suffix (written.Index e) ss))
-      → Occurs calls script (Expression env e)
+      → Occurs registrations script (Suffixes env t (written.suffix (written.Index e) ss))
+      → Occurs registrations script (Expression env e)
   other_suffixes : {env : Environment} {t next : TypedExpr} {s : written.Suffix} {ss : written.Suffixes}
-      → Occurs calls script (Suffixes env t (written.suffix s ss))
+      → Occurs registrations script (Suffixes env t (written.suffix s ss))
       → suffix_typed env t s ≡ Ok next
-      → Occurs calls script (Suffixes env next ss)
+      → Occurs registrations script (Suffixes env next ss)
   -- variables
   initial_value : {env : Environment} {of_at at : ℕ} {of : Ty} {e : written.Expr}
-      → Occurs calls script (Initializer env of_at at of (written.Value e))
-      → Occurs calls script (Expression env e)
+      → Occurs registrations script (Initializer env of_at at of (written.Value e))
+      → Occurs registrations script (Expression env e)
   initial_arguments : {env : Environment} {of_at at : ℕ} {of : Ty} {es : List written.Expr}
-      → Occurs calls script (Initializer env of_at at of (written.Arguments es))
-      → Occurs calls script (Arguments env (written.exprs es))
+      → Occurs registrations script (Initializer env of_at at of (written.Arguments es))
+      → Occurs registrations script (Arguments env (written.exprs es))
   local : {scope : Scope} {at : ℕ} {of : Ty} {d : written.Decl} {ds : List written.Decl}
-      → Occurs calls script (Locals scope at of (d ∷ ds))
-      → Occurs calls script (Initializer scope.env at d.place.at of d.initializer)
+      → Occurs registrations script (Locals scope at of (d ∷ ds))
+      → Occurs registrations script (Initializer scope.env at d.place.at of d.initializer)
   other_locals : {scope : Scope} {at : ℕ} {of : Ty} {d : written.Decl} {ds : List written.Decl}
-      → Occurs calls script (Locals scope at of (d ∷ ds))
-      → Occurs calls script (Locals (with_variables scope (declared of d ∷ [])) at of ds)
+      → Occurs registrations script (Locals scope at of (d ∷ ds))
+      → Occurs registrations script (Locals (with_variables scope (declared of d ∷ [])) at of ds)
   -- statements
   locals : {scope : Scope} {p : Place} {v : written.Vars} {of : Ty}
-      → Occurs calls script (Statement scope (written.Declare p v))
+      → Occurs registrations script (Statement scope (written.Declare p v))
       → known_ty v.of (ty_in scope.env v.of) ≡ Ok of
-      → Occurs calls script (Locals scope (at_type v.of) of v.decls)
+      → Occurs registrations script (Locals scope (at_type v.of) of v.decls)
   evaluated : {scope : Scope} {p : Place} {e : written.Expr}
-      → Occurs calls script (Statement scope (written.Evaluate p e))
-      → Occurs calls script (Expression scope.env e)
+      → Occurs registrations script (Statement scope (written.Evaluate p e))
+      → Occurs registrations script (Expression scope.env e)
   block : {scope : Scope} {p : Place} {ss : written.Stmts}
-      → Occurs calls script (Statement scope (written.Block p ss))
-      → Occurs calls script (Statements (block_of scope) ss)
+      → Occurs registrations script (Statement scope (written.Block p ss))
+      → Occurs registrations script (Statements (block_of scope) ss)
   if_condition : {scope : Scope} {p : Place} {c : written.Expr} {s : written.Stmt}
-      → Occurs calls script (Statement scope (written.If p c s))
-      → Occurs calls script (Expression scope.env c)
+      → Occurs registrations script (Statement scope (written.If p c s))
+      → Occurs registrations script (Expression scope.env c)
   if_body : {scope : Scope} {p : Place} {c : written.Expr} {s : written.Stmt}
-      → Occurs calls script (Statement scope (written.If p c s))
-      → Occurs calls script (Statement scope s)
+      → Occurs registrations script (Statement scope (written.If p c s))
+      → Occurs registrations script (Statement scope s)
   else_condition : {scope : Scope} {p : Place} {c : written.Expr} {s t : written.Stmt}
-      → Occurs calls script (Statement scope (written.IfElse p c s t))
-      → Occurs calls script (Expression scope.env c)
+      → Occurs registrations script (Statement scope (written.IfElse p c s t))
+      → Occurs registrations script (Expression scope.env c)
   then_body : {scope : Scope} {p : Place} {c : written.Expr} {s t : written.Stmt}
-      → Occurs calls script (Statement scope (written.IfElse p c s t))
-      → Occurs calls script (Statement scope s)
+      → Occurs registrations script (Statement scope (written.IfElse p c s t))
+      → Occurs registrations script (Statement scope s)
   else_body : {scope : Scope} {p : Place} {c : written.Expr} {s t : written.Stmt}
-      → Occurs calls script (Statement scope (written.IfElse p c s t))
-      → Occurs calls script (Statement scope t)
+      → Occurs registrations script (Statement scope (written.IfElse p c s t))
+      → Occurs registrations script (Statement scope t)
   while_condition : {scope : Scope} {p : Place} {c : written.Expr} {s : written.Stmt}
-      → Occurs calls script (Statement scope (written.While p c s))
-      → Occurs calls script (Expression scope.env c)
+      → Occurs registrations script (Statement scope (written.While p c s))
+      → Occurs registrations script (Expression scope.env c)
   while_body : {scope : Scope} {p : Place} {c : written.Expr} {s : written.Stmt}
-      → Occurs calls script (Statement scope (written.While p c s))
-      → Occurs calls script (Statement (loop_of scope) s)
+      → Occurs registrations script (Statement scope (written.While p c s))
+      → Occurs registrations script (Statement (loop_of scope) s)
   do_condition : {scope : Scope} {p : Place} {c : written.Expr} {s : written.Stmt}
-      → Occurs calls script (Statement scope (written.DoWhile p s c))
-      → Occurs calls script (Expression scope.env c)
+      → Occurs registrations script (Statement scope (written.DoWhile p s c))
+      → Occurs registrations script (Expression scope.env c)
   do_body : {scope : Scope} {p : Place} {c : written.Expr} {s : written.Stmt}
-      → Occurs calls script (Statement scope (written.DoWhile p s c))
-      → Occurs calls script (Statement (loop_of scope) s)
+      → Occurs registrations script (Statement scope (written.DoWhile p s c))
+      → Occurs registrations script (Statement (loop_of scope) s)
   for_head : {scope : Scope} {p : Place} {f s : written.Stmt} {c : Option written.Expr} {es : List written.Expr}
-      → Occurs calls script (Statement scope (written.For p f c es s))
-      → Occurs calls script (Statement (block_of scope) f)
+      → Occurs registrations script (Statement scope (written.For p f c es s))
+      → Occurs registrations script (Statement (block_of scope) f)
   for_condition : {scope : Scope} {p : Place} {f s : written.Stmt} {c : written.Expr} {es : List written.Expr}
-      → Occurs calls script (Statement scope (written.For p f (Some c) es s))
-      → Occurs calls script (Expression (after (block_of scope) f).env c)
+      → Occurs registrations script (Statement scope (written.For p f (Some c) es s))
+      → Occurs registrations script (Expression (after (block_of scope) f).env c)
   for_steps : {scope : Scope} {p : Place} {f s : written.Stmt} {c : Option written.Expr} {es : List written.Expr}
-      → Occurs calls script (Statement scope (written.For p f c es s))
-      → Occurs calls script (Arguments (after (block_of scope) f).env (written.exprs es))
+      → Occurs registrations script (Statement scope (written.For p f c es s))
+      → Occurs registrations script (Arguments (after (block_of scope) f).env (written.exprs es))
   for_body : {scope : Scope} {p : Place} {f s : written.Stmt} {c : Option written.Expr} {es : List written.Expr}
-      → Occurs calls script (Statement scope (written.For p f c es s))
-      → Occurs calls script (Statement (loop_of (after (block_of scope) f)) s)
+      → Occurs registrations script (Statement scope (written.For p f c es s))
+      → Occurs registrations script (Statement (loop_of (after (block_of scope) f)) s)
   switch_value : {scope : Scope} {p : Place} {e : written.Expr} {cs : written.Cases}
-      → Occurs calls script (Statement scope (written.Switch p e cs))
-      → Occurs calls script (Expression scope.env e)
+      → Occurs registrations script (Statement scope (written.Switch p e cs))
+      → Occurs registrations script (Expression scope.env e)
   cases : {scope : Scope} {p : Place} {e : written.Expr} {cs : written.Cases} {t : TypedExpr}
-      → Occurs calls script (Statement scope (written.Switch p e cs))
+      → Occurs registrations script (Statement scope (written.Switch p e cs))
       → typed scope.env false e ≡ Ok t
-      → Occurs calls script (Cases (switch_of scope) (integer_type_in t.ty) [] cs)
+      → Occurs registrations script (Cases (switch_of scope) (integer_type_in t.ty) [] cs)
   returned : {scope : Scope} {p : Place} {e : written.Expr}
-      → Occurs calls script (Statement scope (written.Return p (Some e)))
-      → Occurs calls script (Expression scope.env e)
+      → Occurs registrations script (Statement scope (written.Return p (Some e)))
+      → Occurs registrations script (Expression scope.env e)
   statement : {scope : Scope} {s : written.Stmt} {ss : written.Stmts}
-      → Occurs calls script (Statements scope (written.stmt s ss))
-      → Occurs calls script (Statement scope s)
+      → Occurs registrations script (Statements scope (written.stmt s ss))
+      → Occurs registrations script (Statement scope s)
   other_statements : {scope : Scope} {s : written.Stmt} {ss : written.Stmts}
-      → Occurs calls script (Statements scope (written.stmt s ss))
-      → Occurs calls script (Statements (after scope s) ss)
+      → Occurs registrations script (Statements scope (written.stmt s ss))
+      → Occurs registrations script (Statements (after scope s) ss)
   labelled : {scope : Scope} {int_type : Option IntType} {before : List Label} {p : Place} {l : Label}
       {ss : written.Stmts} {cs : written.Cases}
-      → Occurs calls script (Cases scope int_type before (written.next_case (written.labelled p l ss) cs))
-      → Occurs calls script (Statements scope ss)
+      → Occurs registrations script (Cases scope int_type before (written.next_case (written.labelled p l ss) cs))
+      → Occurs registrations script (Statements scope ss)
   other_cases : {scope : Scope} {int_type : Option IntType} {before : List Label} {p : Place} {l : Label}
       {ss : written.Stmts} {cs : written.Cases}
-      → Occurs calls script (Cases scope int_type before (written.next_case (written.labelled p l ss) cs))
-      → Occurs calls script (Cases scope int_type (before ++ l ∷ []) cs)
+      → Occurs registrations script (Cases scope int_type before (written.next_case (written.labelled p l ss) cs))
+      → Occurs registrations script (Cases scope int_type (before ++ l ∷ []) cs)
   -- functions
   parameters : {env : Environment} {of : Ty} {r : Routine}
-      → Occurs calls script (RoutinePhrase env of r)
-      → Occurs calls script (Parameters env [] r.parameters)
+      → Occurs registrations script (RoutinePhrase env of r)
+      → Occurs registrations script (Parameters env [] r.parameters)
   other_parameters : {env : Environment} {before : List Declared} {x : written.Parameter} {xs : List written.Parameter}
       {of : Ty}
-      → Occurs calls script (Parameters env before (x ∷ xs))
+      → Occurs registrations script (Parameters env before (x ∷ xs))
       → passed_ty x.of (ty_in env x.of) ≡ Ok of
-      → Occurs calls script (Parameters env (before ++ record { name = x.name; of = of } ∷ []) xs)
+      → Occurs registrations script (Parameters env (before ++ record { name = x.name; of = of } ∷ []) xs)
   body : {env : Environment} {of : Ty} {r : Routine} {passed : List Declared}
-      → Occurs calls script (RoutinePhrase env of r)
+      → Occurs registrations script (RoutinePhrase env of r)
       → parameters_typed env [] r.parameters ≡ Ok passed
-      → Occurs calls script (Statements (body_scope (with_locals env passed) of) (written.stmts r.body))
+      → Occurs registrations script (Statements (body_scope (with_locals env passed) of) (written.stmts r.body))
   -- variables of a module or of a class
   variable : {env : Environment} {at : ℕ} {of : Ty} {names : Names} {d : written.Decl} {ds : List written.Decl}
-      → Occurs calls script (Variables env at of names (d ∷ ds))
-      → Occurs calls script (Initializer env at d.place.at of d.initializer)
+      → Occurs registrations script (Variables env at of names (d ∷ ds))
+      → Occurs registrations script (Initializer env at d.place.at of d.initializer)
   other_variables : {env : Environment} {at : ℕ} {of : Ty} {names : Names} {d : written.Decl} {ds : List written.Decl}
-      → Occurs calls script (Variables env at of names (d ∷ ds))
-      → Occurs calls script (Variables env at of (with_decl names d) ds)
+      → Occurs registrations script (Variables env at of names (d ∷ ds))
+      → Occurs registrations script (Variables env at of (with_decl names d) ds)
   -- interfaces
   method_parameters : {env : Environment} {before : List written.InterfaceMethod} {m : written.InterfaceMethod}
       {ms : List written.InterfaceMethod}
-      → Occurs calls script (Methods env before (m ∷ ms))
-      → Occurs calls script (Parameters env [] m.parameters)
+      → Occurs registrations script (Methods env before (m ∷ ms))
+      → Occurs registrations script (Parameters env [] m.parameters)
   other_methods : {env : Environment} {before : List written.InterfaceMethod} {m : written.InterfaceMethod}
       {ms : List written.InterfaceMethod}
-      → Occurs calls script (Methods env before (m ∷ ms))
-      → Occurs calls script (Methods env (before ++ m ∷ []) ms)
+      → Occurs registrations script (Methods env before (m ∷ ms))
+      → Occurs registrations script (Methods env (before ++ m ∷ []) ms)
   -- classes
   other_interfaces : {env : Environment} {place : ℕ} {before : List written.TypeName} {n : written.TypeName}
       {ns : List written.TypeName}
-      → Occurs calls script (Interfaces env place before (n ∷ ns))
-      → Occurs calls script (Interfaces env place (before ++ n ∷ []) ns)
+      → Occurs registrations script (Interfaces env place before (n ∷ ns))
+      → Occurs registrations script (Interfaces env place (before ++ n ∷ []) ns)
   fields : {env : Environment} {class : List ℕ} {before : List written.Member} {v : written.Vars}
       {ms : List written.Member} {of : Ty}
-      → Occurs calls script (ClassMembers env class before (written.AField v ∷ ms))
+      → Occurs registrations script (ClassMembers env class before (written.AField v ∷ ms))
       → known_ty v.of (ty_in env v.of) ≡ Ok of
-      → Occurs calls script (Variables env (at_type v.of) of (names_of_members before) v.decls)
+      → Occurs registrations script (Variables env (at_type v.of) of (names_of_members before) v.decls)
   method : {env : Environment} {class : List ℕ} {before : List written.Member} {f : written.Function}
       {ms : List written.Member} {of : Ty}
-      → Occurs calls script (ClassMembers env class before (written.AMethod f ∷ ms))
+      → Occurs registrations script (ClassMembers env class before (written.AMethod f ∷ ms))
       → result_typed env f.result ≡ Ok of
-      → Occurs calls script (RoutinePhrase env of (routine_of f))
+      → Occurs registrations script (RoutinePhrase env of (routine_of f))
   constructor : {env : Environment} {class : List ℕ} {before : List written.Member} {c : written.Constructor}
       {ms : List written.Member}
-      → Occurs calls script (ClassMembers env class before (written.AConstructor c ∷ ms))
-      → Occurs calls script (RoutinePhrase env ty.Void (constructing c))
+      → Occurs registrations script (ClassMembers env class before (written.AConstructor c ∷ ms))
+      → Occurs registrations script (RoutinePhrase env ty.Void (constructing c))
   other_members : {env : Environment} {class : List ℕ} {before : List written.Member} {m : written.Member}
       {ms : List written.Member}
-      → Occurs calls script (ClassMembers env class before (m ∷ ms))
-      → Occurs calls script (ClassMembers env class (before ++ m ∷ []) ms)
+      → Occurs registrations script (ClassMembers env class before (m ∷ ms))
+      → Occurs registrations script (ClassMembers env class (before ++ m ∷ []) ms)
   -- items
-  items : Occurs calls script (Items (environment calls script) [] script)
+  items : Occurs registrations script (Items (environment registrations script) [] script)
   other_items : {env : Environment} {before : List written.Item} {i : written.Item} {is : List written.Item}
-      → Occurs calls script (Items env before (i ∷ is))
-      → Occurs calls script (Items env (before ++ i ∷ []) is)
+      → Occurs registrations script (Items env before (i ∷ is))
+      → Occurs registrations script (Items env (before ++ i ∷ []) is)
   interfaces : {env : Environment} {before : List written.Item} {c : written.Class} {is : List written.Item}
-      → Occurs calls script (Items env before (written.AClass c ∷ is))
-      → Occurs calls script (Interfaces env (length (classes_of before)) [] c.interfaces)
+      → Occurs registrations script (Items env before (written.AClass c ∷ is))
+      → Occurs registrations script (Interfaces env (length (classes_of before)) [] c.interfaces)
   members : {env : Environment} {before : List written.Item} {c : written.Class} {is : List written.Item}
-      → Occurs calls script (Items env before (written.AClass c ∷ is))
-      → Occurs calls script (ClassMembers (inside env (length (classes_of before))) c.name [] c.members)
+      → Occurs registrations script (Items env before (written.AClass c ∷ is))
+      → Occurs registrations script (ClassMembers (inside env (length (classes_of before))) c.name [] c.members)
   methods : {env : Environment} {before : List written.Item} {i : written.Interface} {is : List written.Item}
-      → Occurs calls script (Items env before (written.AnInterface i ∷ is))
-      → Occurs calls script (Methods env [] i.methods)
+      → Occurs registrations script (Items env before (written.AnInterface i ∷ is))
+      → Occurs registrations script (Methods env [] i.methods)
   function : {env : Environment} {before : List written.Item} {f : written.Function} {is : List written.Item} {of : Ty}
-      → Occurs calls script (Items env before (written.AFunction f ∷ is))
+      → Occurs registrations script (Items env before (written.AFunction f ∷ is))
       → result_typed env f.result ≡ Ok of
-      → Occurs calls script (RoutinePhrase env of (routine_of f))
+      → Occurs registrations script (RoutinePhrase env of (routine_of f))
   globals : {env : Environment} {before : List written.Item} {v : written.Vars} {is : List written.Item} {of : Ty}
-      → Occurs calls script (Items env before (written.AGlobal v ∷ is))
+      → Occurs registrations script (Items env before (written.AGlobal v ∷ is))
       → known_ty v.of (ty_in env v.of) ≡ Ok of
-      → Occurs calls script (Variables env (at_type v.of) of (names_before calls before) v.decls)
+      → Occurs registrations script (Variables env (at_type v.of) of (names_before registrations before) v.decls)

@@ -1,6 +1,6 @@
 -- What expressions and statements see, as sound typed trees speak of it.
 use Rattle.std.specs.Prelude.{◌||◌, List, map}
-use Rattle.ash_registrations.specs.Calls as host
+use Rattle.ash_registrations.specs.Registrations as host
 use Rattle.ash_typed.specs.Modules.{Signature}
 use Rattle.ash_typed.specs.Signatures.{ClassSignature, Signatures}
 use Rattle.ash_typed.specs.SoundExpressions as expressions
@@ -24,10 +24,10 @@ signature_of_class c = record {
   methods = map signature_of c.methods;
 }
 
--- `signatures_in calls declarations` is what a module declares, where these calls are registered.
+-- `signatures_in registrations declarations` is what a module declares, with these registrations.
 abbrev pub signatures_in : List host.Registration → ModuleDeclarations → Signatures
-signatures_in calls declarations = record {
-  host = offered calls;
+signatures_in registrations declarations = record {
+  host = offered registrations;
   interfaces = map signatures_of_interface declarations.interfaces;
   classes = map signature_of_class declarations.classes;
   functions = map signature_of declarations.functions;

@@ -5,7 +5,7 @@ use Rattle.std.specs.Prelude.{length}
 use Rattle.std.specs.Bool.{IsTrue}
 use Rattle.std.specs.List.{AllByRecursion, AllZip, IsDistinct}
 use Rattle.std.specs.Str.{bytes_eq}
-use Rattle.ash_registrations.specs.Calls as host
+use Rattle.ash_registrations.specs.Registrations as host
 use Rattle.ash_tree.specs.Tree as written
 use Rattle.ash_typing.specs.declared.types.Ty.{Ty}
 use Rattle.ash_typing.specs.declared.types.Ty.TheVariants as ty
@@ -30,7 +30,7 @@ use Rattle.ash_typing.specs.Implementations.{implemented}
 
 -- No type and no function is registered by this name.
 abbrev pub IsFree : List host.Registration → List ℕ → Type 0
-IsFree calls name = named_in calls name ≡ None
+IsFree registrations name = named_in registrations name ≡ None
 
 -- types
 
@@ -169,18 +169,18 @@ AreClasses env place _ _ = ⊥
 
 -- modules
 
--- `environment calls is` is what each item of a module sees.
+-- `environment registrations is` is what each item of a module sees.
 abbrev pub environment : List host.Registration → List written.Item → Environment
-environment calls is = module_environment calls (declarations calls is)
+environment registrations is = module_environment registrations (declarations registrations is)
 
--- A module, where these calls are registered. It has at most 256 classes and interfaces, and 256 variables. What it
+-- A module, with these registrations. It has at most 256 classes and interfaces, and 256 variables. What it
 -- declares differs in name, and has no registered name.
-pub record IsTyped (calls : List host.Registration) (is : List written.Item) (typed : Module) : Type 0 where
+pub record IsTyped (registrations : List host.Registration) (is : List written.Item) (typed : Module) : Type 0 where
   pub differ : IsDistinct bytes_eq (item_names is)
-  pub free : AllByRecursion (IsFree calls) (item_names is)
+  pub free : AllByRecursion (IsFree registrations) (item_names is)
   pub few_types : length (classes_of is) + length (interfaces_of is) ≤ max_module_types
   pub few_globals : length (variable_names (globals_of is)) ≤ max_globals
-  pub interfaces : AreInterfaces (environment calls is) (interfaces_of is) (classes_before 0 is) typed.interfaces
-  pub classes : AreClasses (environment calls is) 0 (classes_of is) typed.classes
-  pub functions : AllZip (IsFunction (environment calls is)) (functions_of is) typed.functions
-  pub globals : AllZip (AreVariables (environment calls is)) (globals_of is) typed.globals
+  pub interfaces : AreInterfaces (environment registrations is) (interfaces_of is) (classes_before 0 is) typed.interfaces
+  pub classes : AreClasses (environment registrations is) 0 (classes_of is) typed.classes
+  pub functions : AllZip (IsFunction (environment registrations is)) (functions_of is) typed.functions
+  pub globals : AllZip (AreVariables (environment registrations is)) (globals_of is) typed.globals

@@ -2,7 +2,7 @@
 //! exists.
 
 ghost use Rattle.std.specs.Prelude.{◌≡◌, ◌↔◌, ℕ, List, Ok, Err, IsOk};
-ghost use Rattle.ash_registrations.specs.Calls.{Registration};
+ghost use Rattle.ash_registrations.specs.Registrations.{Registration};
 ghost use Rattle.ash_tree.specs.Grammar.{Derives};
 ghost use Rattle.ash_tree.specs.Tokens.{Tokens};
 ghost use Rattle.ash_tree.specs.Tree as written;
@@ -35,34 +35,38 @@ pub fn typing_of_statements()
 /// then its answer is that tree, the only one. All types that such a module names are known. It does nothing when it
 /// runs.
 pub fn typing_of_modules()
-    ensures agrees { (calls : List Registration) (is : List written.Item) (typed : modules.Module)
-        → (module_typed calls is ≡ Ok typed) ↔ IsTyped calls is typed }
-    ensures no_fault { (calls : List Registration) (is : List written.Item)
-        → IsOk (module_typed calls is) ↔ ((typed : modules.Module) × IsTyped calls is typed) }
-    ensures one_tree { (calls : List Registration) (is : List written.Item) (t u : modules.Module)
-        → IsTyped calls is t → IsTyped calls is u → t ≡ u }
-    ensures known { (calls : List Registration) (is : List written.Item) (typed : modules.Module)
-        → IsTyped calls is typed → IsKnown (environment calls is) }
+    ensures agrees { (registrations : List Registration) (is : List written.Item)
+        (typed : modules.Module)
+        → (module_typed registrations is ≡ Ok typed) ↔ IsTyped registrations is typed }
+    ensures no_fault { (registrations : List Registration) (is : List written.Item)
+        → IsOk (module_typed registrations is)
+        ↔ ((typed : modules.Module) × IsTyped registrations is typed) }
+    ensures one_tree { (registrations : List Registration) (is : List written.Item)
+        (t u : modules.Module)
+        → IsTyped registrations is t → IsTyped registrations is u → t ≡ u }
+    ensures known { (registrations : List Registration) (is : List written.Item)
+        (typed : modules.Module)
+        → IsTyped registrations is typed → IsKnown (environment registrations is) }
 {}
 
 /// That the fault of a module is at one of the tokens that derive it, whatever is registered, and at one that means
 /// what a fault of its rule may be at. It does nothing when it runs.
 pub fn faults_are_at_tokens()
-    ensures at_a_token { (calls : List Registration) (free : ℕ) (tokens : Tokens)
+    ensures at_a_token { (registrations : List Registration) (free : ℕ) (tokens : Tokens)
         (is : List written.Item) (fault : Fault)
-        → Derives free tokens is → module_typed calls is ≡ Err fault
+        → Derives free tokens is → module_typed registrations is ≡ Err fault
         → IsTokenOf tokens fault.at }
-    ensures at_its_token { (calls : List Registration) (free : ℕ) (tokens : Tokens)
+    ensures at_its_token { (registrations : List Registration) (free : ℕ) (tokens : Tokens)
         (is : List written.Item) (fault : Fault)
-        → Derives free tokens is → module_typed calls is ≡ Err fault
+        → Derives free tokens is → module_typed registrations is ≡ Err fault
         → IsFaultOf tokens fault }
 {}
 
 /// That where the fault of a module is reported, its rule is broken: a phrase is there of which what the rule says is
 /// true, with what that phrase sees. It does nothing when it runs.
 pub fn faults_are_what_they_say()
-    ensures broken_there { (calls : List Registration) (free : ℕ) (tokens : Tokens)
+    ensures broken_there { (registrations : List Registration) (free : ℕ) (tokens : Tokens)
         (is : List written.Item) (fault : Fault)
-        → Derives free tokens is → module_typed calls is ≡ Err fault
-        → IsBrokenAt calls is tokens fault }
+        → Derives free tokens is → module_typed registrations is ≡ Err fault
+        → IsBrokenAt registrations is tokens fault }
 {}

@@ -1,7 +1,7 @@
 //! That what the rules of typing type is sound, as the typed tree alone says it.
 
 ghost use Rattle.std.specs.Prelude.{ℕ, Bool, List};
-ghost use Rattle.ash_registrations.specs.Calls.{Registration};
+ghost use Rattle.ash_registrations.specs.Registrations.{Registration};
 ghost use Rattle.ash_tree.specs.Grammar.{Derives};
 ghost use Rattle.ash_tree.specs.Tokens.{Tokens};
 ghost use Rattle.ash_tree.specs.Tree as written;
@@ -28,9 +28,10 @@ pub fn typed_is_sound()
         → expressions.IsWellTyped (seen_in env) t.tree (value_type t.ty) }
     ensures statements { (scope : Scope) → IsKnownScope scope → (ss : written.Stmts) (ts : Stmts)
         → AllDeclareInBlocks ss → AreStmts scope ss ts → statements.AreStmts (seen_at scope) ts }
-    ensures modules { (calls : List Registration) (is : List written.Item) (typed : Module)
-        → ItemsDeclareInBlocks is → IsTyped calls is typed → IsSound (offered calls) typed }
-    ensures derived { (calls : List Registration) (free : ℕ) (tokens : Tokens)
-        (is : List written.Item) (typed : Module) → Derives free tokens is → IsTyped calls is typed
-        → IsSound (offered calls) typed }
+    ensures modules { (registrations : List Registration) (is : List written.Item) (typed : Module)
+        → ItemsDeclareInBlocks is → IsTyped registrations is typed
+        → IsSound (offered registrations) typed }
+    ensures derived { (registrations : List Registration) (free : ℕ) (tokens : Tokens)
+        (is : List written.Item) (typed : Module) → Derives free tokens is
+        → IsTyped registrations is typed → IsSound (offered registrations) typed }
 {}

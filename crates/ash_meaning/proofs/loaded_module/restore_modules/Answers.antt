@@ -1,7 +1,7 @@
 use Rattle.std.proofs.Common.{◌≡◌, ◌≤◌, ◌∷◌, ◌++◌, List, [], length, refl, sym, ◌∙◌, ap, subst, arith}
 use Rattle.std.specs.List.{AllByRecursion}
 use Rattle.std.specs.Vec.Iter.{into_iter_items}
-use Rattle.ash_registry.specs.Calls.{Registration}
+use Rattle.ash_registry.specs.Registrations.{Registration}
 use Rattle.ash_registry.specs.Registered.{registered}
 use Rattle.ash_meaning.specs.declared.loaded_module.LoadedModule as declared
 use Rattle.ash_meaning.specs.StoredModules.{IsAdmitted}

@@ -1,10 +1,10 @@
 use Rattle.std.proofs.Common.{◌≡◌, ◌++◌, drop}
 use Rattle.std.specs.List.{filter_map}
-use Rattle.ash_registrations.specs.Calls as spec
-use Rattle.ash_registrations.specs.Calls.{call_of}
+use Rattle.ash_registrations.specs.Registrations as spec
+use Rattle.ash_registrations.specs.Registrations.{registration_of}
 use Rattle.ash_registrations.proofs.searches.kinds_of_services.Given as goal
 
 abbrev pub invariant-loop-registration : goal.invariant-loop-registration
 invariant-loop-registration l =
-    l.kinds.items ++ filter_map (λ r. spec.service_kind (call_of r)) (drop l.registration-index l.registrations)
-    ≡ filter_map (λ r. spec.service_kind (call_of r)) l.registrations
+    l.kinds.items ++ filter_map (λ r. spec.service_kind (registration_of r)) (drop l.registration-index l.registrations)
+    ≡ filter_map (λ r. spec.service_kind (registration_of r)) l.registrations

@@ -9,14 +9,14 @@ returns-clause-agrees c = module_typed-exact
 
 pub returns-clause-no_fault : goal.returns-clause-no_fault
 returns-clause-no_fault c =
-    λ calls is. (
-      λ ok. answered (module_typed calls is) ok (λ m h. (m, (module_typed-exact calls is m).0 h)),
-      λ m. no_fault_at (module_typed calls is) m.0 ((module_typed-exact calls is m.0).1 m.1),
+    λ registrations is. (
+      λ ok. answered (module_typed registrations is) ok (λ m h. (m, (module_typed-exact registrations is m).0 h)),
+      λ m. no_fault_at (module_typed registrations is) m.0 ((module_typed-exact registrations is m.0).1 m.1),
     )
 
 pub returns-clause-one_tree : goal.returns-clause-one_tree
 returns-clause-one_tree c =
-    λ calls is t u h k. same_ok t u (sym ((module_typed-exact calls is t).1 h) ∙ (module_typed-exact calls is u).1 k)
+    λ registrations is t u h k. same_ok t u (sym ((module_typed-exact registrations is t).1 h) ∙ (module_typed-exact registrations is u).1 k)
 
 pub returns-clause-known : goal.returns-clause-known
 returns-clause-known c = typed_known

@@ -14,4 +14,4 @@ pub returns-clause-modules : goal.returns-clause-modules
 returns-clause-modules c = module_sound
 
 pub returns-clause-derived : goal.returns-clause-derived
-returns-clause-derived c = λ calls free tokens is typed d h. module_sound calls is typed (derived_proper d) h
+returns-clause-derived c = λ registrations free tokens is typed d h. module_sound registrations is typed (derived_proper d) h

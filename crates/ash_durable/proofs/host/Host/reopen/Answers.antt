@@ -1,5 +1,5 @@
 use Rattle.std.proofs.Common.{List, subst}
-use Rattle.ash_registry.specs.Calls.{Registration}
+use Rattle.ash_registry.specs.Registrations.{Registration}
 use Rattle.ash_registry.specs.Registered.{registered}
 use Rattle.ash_durable.specs.Hosting.{first, second}
 use Rattle.ash_durable.specs.Store.{Opens}

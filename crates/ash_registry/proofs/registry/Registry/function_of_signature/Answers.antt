@@ -3,7 +3,7 @@ use Rattle.std.proofs.lemmas.Bool.{or_parts}
 use Rattle.std.specs.List.{list_any}
 use Rattle.ash_tree.specs.Views.{signature_of}
 use Rattle.ash_registry.specs.declared.fault.RegistryFault.TheVariants.{UnknownType, NotPrimitive, NameTaken}
-use Rattle.ash_registrations.specs.Calls.{takes_name, takes_function}
+use Rattle.ash_registrations.specs.Registrations.{takes_name, takes_function}
 use Rattle.ash_registry.specs.Refusals.{is_unknown, is_object, types_of}
 use Rattle.ash_registry.specs.Registered.{registered}
 use Rattle.ash_registry.proofs.Verdicts.{skip_cause, refused_by_cause}

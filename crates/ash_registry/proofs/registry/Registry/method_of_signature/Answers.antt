@@ -2,7 +2,7 @@ use Rattle.std.proofs.Common.{◌≡◌, ◌∙◌, Bool, true, ◌||◌, sym}
 use Rattle.std.specs.List.{list_any}
 use Rattle.ash_tree.specs.Views.{signature_of}
 use Rattle.ash_registry.specs.declared.fault.RegistryFault.TheVariants.{UnknownType, NotPrimitive, NameTaken}
-use Rattle.ash_registrations.specs.Calls.{takes_member, takes_method}
+use Rattle.ash_registrations.specs.Registrations.{takes_member, takes_method}
 use Rattle.ash_registry.specs.Refusals.{is_unknown, is_object, types_of}
 use Rattle.ash_registry.specs.Registered.{registered}
 use Rattle.ash_registry.proofs.Verdicts.{skip_cause, refused_by_cause}
@@ -14,7 +14,7 @@ returns-then-takes_method_or_name c =
     list_any (takes_member c.args.of.now (signature_of c.args.signature).name) (registered c.args.self.now)
     || list_any (takes_method c.args.of.now c.args.id) (registered c.args.self.now) in
     let named = c.as_str.ensures.value in
-    let e : taken ≡ true = cc (c.takes_method_or_name.ensures, c.if-takes_method_or_name.true) in
+    let e : taken ≡ true = cc (c.takes_method_or_name.ensures.either, c.if-takes_method_or_name.true) in
     skip_cause (list_any (is_unknown (registered c.args.self.now)) (types_of (signature_of c.args.signature)))
     UnknownType _ _ _ _ _ (sym c.names_unknown.ensures ∙ c.if-names_unknown.false)
     (skip_cause (list_any is_object (types_of (signature_of c.args.signature))) NotPrimitive _ _ _ _ _
