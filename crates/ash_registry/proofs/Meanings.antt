@@ -21,7 +21,7 @@ use Rattle.ash_parse.proofs.ItemShorter.{declaration_sound, left_is_none}
 use Rattle.ash_parse.proofs.Readings.{bind_ok, ok_is, no_err}
 use Rattle.ash_parse.specs.Faults.{whole_declaration_at}
 use Rattle.ash_parse.proofs.ItemComplete.{whole_read, one_declaration}
-use Rattle.ash_registry.specs.Texts.{IsCutInto, IsCut, NameClass, AName, AReserved, ANoName, IsWord, HasNameClass}
+use Rattle.ash_registry.specs.Texts.{IsCutInto, IsCut, NameClass, NameText, ReservedText, OtherText, IsWord, HasNameClass}
 use Rattle.ash_registry.specs.Texts.{placed_lexeme, IsDeclaring, IsDeclared}
 use Rattle.ash_registry.specs.NameClasses.{class_of_meaning, class_of_tokens}
 
@@ -109,7 +109,7 @@ word_agrees text m n h k =
 -- a text that is one word is no other one
 other_word : (text : List ℕ) (m : Meaning) → IsWord text m → ((n : List ℕ) → m ≡ name n → ⊥)
     → ((w : ReservedWord) → m ≡ reserved w → ⊥) → ((w : UnsupportedWord) → m ≡ unsupported w → ⊥)
-    → HasNameClass text ANoName
+    → HasNameClass text OtherText
 other_word text m k no_name no_word no_other = (
   λ h. no_name text (word_agrees text m (name text) k h),
   λ h. elim h [
@@ -118,7 +118,7 @@ other_word text m k no_name no_word no_other = (
   ],
 )
 
-no_word : (text : List ℕ) → ((m : Meaning) → IsWord text m → ⊥) → HasNameClass text ANoName
+no_word : (text : List ℕ) → ((m : Meaning) → IsWord text m → ⊥) → HasNameClass text OtherText
 no_word text none = (
   λ h. none (name text) h,
   λ h. elim h [ inl k ↦ none (reserved k.0) k.1 | inr k ↦ none (unsupported k.0) k.1 ],
@@ -142,7 +142,7 @@ same_token text t u h k = ap (first_token t) (tokens_agree text (t ∷ []) (u �
 
 -- what a text is that has one token
 by_token : (text : List ℕ) (t : Lexeme) → IsCutInto text (t ∷ []) → (a b : Bool) → nat_eq t.from 0 ≡ a
-    → nat_eq t.to (length text) ≡ b → HasNameClass text (cond (a && b) (class_of_meaning t.meaning) ANoName)
+    → nat_eq t.to (length text) ≡ b → HasNameClass text (cond (a && b) (class_of_meaning t.meaning) OtherText)
 by_token text t cut true true from to =
     let first : t.from ≡ 0 = grind (arith, nat_tests) in
     let last : t.to ≡ length text = grind (arith, nat_tests) in
@@ -164,25 +164,25 @@ name_read text (t ∷ []) cut = by_token text t cut (nat_eq t.from 0) (nat_eq t.
 name_read text (t ∷ u ∷ ts) cut = no_word text (λ m w. let e =
     tokens_agree text (t ∷ u ∷ ts) (lexeme_at [] text m ∷ []) cut.lexed w.lexed in cc)
 
-pub uncut_is_no_name : (text : List ℕ) → IsCut text None → HasNameClass text ANoName
+pub uncut_is_no_name : (text : List ℕ) → IsCut text None → HasNameClass text OtherText
 uncut_is_no_name text none = no_word text (λ m w. none (lexeme_at [] text m ∷ []) w)
 
 pub one_class : (text : List ℕ) (s t : NameClass) → HasNameClass text s → HasNameClass text t → s ≡ t
-one_class text AName AName h k = refl
-one_class text AName AReserved h k = elim k [
+one_class text NameText NameText h k = refl
+one_class text NameText ReservedText h k = elim k [
   | inl w ↦ let e = word_agrees text (name text) (reserved w.0) h w.1 in cc
   | inr w ↦ let e = word_agrees text (name text) (unsupported w.0) h w.1 in cc
 ]
-one_class text AName ANoName h k = absurd (k.0 h)
-one_class text AReserved AName h k = elim h [
+one_class text NameText OtherText h k = absurd (k.0 h)
+one_class text ReservedText NameText h k = elim h [
   | inl w ↦ let e = word_agrees text (name text) (reserved w.0) k w.1 in cc
   | inr w ↦ let e = word_agrees text (name text) (unsupported w.0) k w.1 in cc
 ]
-one_class text AReserved AReserved h k = refl
-one_class text AReserved ANoName h k = absurd (k.1 h)
-one_class text ANoName AName h k = absurd (h.0 k)
-one_class text ANoName AReserved h k = absurd (h.1 k)
-one_class text ANoName ANoName h k = refl
+one_class text ReservedText ReservedText h k = refl
+one_class text ReservedText OtherText h k = absurd (k.1 h)
+one_class text OtherText NameText h k = absurd (h.0 k)
+one_class text OtherText ReservedText h k = absurd (h.1 k)
+one_class text OtherText OtherText h k = refl
 
 -- each text has tokens, or none
 cut_by : (text : List ℕ) → length text ≤ 65536 → HasReading text → (c : Option (List Lexeme)) × IsCut text c
@@ -197,7 +197,7 @@ a_cut text = elim (cases_lt 65536 (length text)) [
 
 class_of_text : (text : List ℕ) (c : Option (List Lexeme)) → IsCut text c → (s : NameClass) × HasNameClass text s
 class_of_text text (Some ts) cut = (class_of_tokens (length text) ts, name_read text ts cut)
-class_of_text text None cut = (ANoName, uncut_is_no_name text cut)
+class_of_text text None cut = (OtherText, uncut_is_no_name text cut)
 
 pub some_class : (text : List ℕ) → (s : NameClass) × HasNameClass text s
 some_class text = let c = a_cut text in class_of_text text c.0 c.1

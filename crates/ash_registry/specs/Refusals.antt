@@ -13,7 +13,7 @@ use Rattle.ash_registry.specs.declared.fault.RegistryFault.TheVariants.{FactoryT
 use Rattle.ash_tree.specs.Tree.{Element, PrimElement, HandleElement, Named, Prim, Object, Handle, Array, ArrayHandle}
 use Rattle.ash_tree.specs.Tree.{Signature, Property, Declaration, ASignature}
 use Rattle.ash_tree.specs.Tree as tree
-use Rattle.ash_registry.specs.Texts.{NameClass, AName, AReserved, ANoName}
+use Rattle.ash_registry.specs.Texts.{NameClass, NameText, ReservedText, OtherText}
 use Rattle.ash_registrations.specs.Registrations.{Operation, Registration, TypeRegistration, FactoryRegistration}
 use Rattle.ash_registrations.specs.Registrations.{MethodRegistration, PropertyRegistration, ServiceRegistration}
 use Rattle.ash_registrations.specs.Registrations.{FunctionRegistration}
@@ -97,27 +97,41 @@ pub record RegisteredIf {A : Type 0} (refusal : Option RegistryFault) (registrat
 abbrev pub RefusedWithoutAllocating : {A : Type 0} → Bool → RegistryFault → Result A RegistryFault → Type 0
 RefusedWithoutAllocating test fault result = test ≡ true → result ≡ Err fault
 
--- A type has a name and a kind of its own, and there are at most 256.
-abbrev pub refusal_of_type : List Registration → List ℕ → NameClass → ℕ → Option RegistryFault
-refusal_of_type registrations name ANoName kind = Some BadDeclaration
-refusal_of_type registrations name AReserved kind = Some ReservedName
-refusal_of_type registrations name AName kind =
-    cause (list_any (takes_name name) registrations || list_any (takes_kind kind) registrations) NameTaken
-    (cause_of_many (nat_le 256 (count_by is_type registrations)) registrations (TypeRegistration name kind))
+-- The registered types, the methods and properties of one, the services and their functions are at most so many.
+abbrev pub max_registered_types : ℕ
+max_registered_types = 256
 
--- A service has a kind of its own, and there are at most 16.
+abbrev pub max_registered_members : ℕ
+max_registered_members = 32
+
+abbrev pub max_services : ℕ
+max_services = 16
+
+abbrev pub max_registered_functions : ℕ
+max_registered_functions = 256
+
+-- A type has a name and a kind of its own, and there are not too many.
+abbrev pub refusal_of_type : List Registration → List ℕ → NameClass → ℕ → Option RegistryFault
+refusal_of_type registrations name OtherText kind = Some BadDeclaration
+refusal_of_type registrations name ReservedText kind = Some ReservedName
+refusal_of_type registrations name NameText kind =
+    cause (list_any (takes_name name) registrations || list_any (takes_kind kind) registrations) NameTaken
+    (cause_of_many (nat_le max_registered_types (count_by is_type registrations)) registrations
+    (TypeRegistration name kind))
+
+-- A service has a kind of its own, and there are not too many.
 abbrev pub refusal_of_service : List Registration → ℕ → Option RegistryFault
 refusal_of_service registrations kind =
     cause (list_any (takes_kind kind) registrations) NameTaken
-    (cause_of_many (nat_le 16 (count_by is_service registrations)) registrations (ServiceRegistration kind))
+    (cause_of_many (nat_le max_services (count_by is_service registrations)) registrations (ServiceRegistration kind))
 
 -- A method is a function of primitives; a type's methods and properties have names of their own, its methods have
--- numbers of their own, and there are at most 32 of both.
+-- numbers of their own, and there are not too many of both.
 abbrev pub refusal_of_signature : List Registration → List ℕ → ℕ → Signature → Option RegistryFault
 refusal_of_signature registrations of id s =
     cause_in registrations (types_of s)
     (cause (list_any (takes_member of s.name) registrations || list_any (takes_method of id) registrations) NameTaken
-    (cause_of_many (nat_le 32 (count_by (is_member_of of) registrations)) registrations
+    (cause_of_many (nat_le max_registered_members (count_by (is_member_of of) registrations)) registrations
     (MethodRegistration of id (primitive_operation s))))
 
 -- What is declared for a method must be a function.
@@ -139,7 +153,7 @@ method_registration _ _ _ = []
 abbrev pub refusal_of_primitive : List Registration → List ℕ → ℕ → Primitive → List ℕ → Option RegistryFault
 refusal_of_primitive registrations of id value name =
     cause (list_any (takes_member of name) registrations || list_any (takes_property of id) registrations) NameTaken
-    (cause_of_many (nat_le 32 (count_by (is_member_of of) registrations)) registrations
+    (cause_of_many (nat_le max_registered_members (count_by (is_member_of of) registrations)) registrations
     (PropertyRegistration of id value name))
 
 -- A property is of a primitive type.
@@ -197,12 +211,12 @@ factory_registration of (Some (ASignature s)) = FactoryRegistration of (filter_m
 factory_registration _ _ = []
 
 -- A function of a service has a name of its own among types and functions and a number of its own in its service, and
--- there are at most 256.
+-- there are not too many.
 abbrev pub refusal_of_operation : List Registration → ℕ → ℕ → Signature → Option RegistryFault
 refusal_of_operation registrations service id s =
     cause_in registrations (types_of s)
     (cause (list_any (takes_name s.name) registrations || list_any (takes_function service id) registrations) NameTaken
-    (cause_of_many (nat_le 256 (count_by is_function registrations)) registrations
+    (cause_of_many (nat_le max_registered_functions (count_by is_function registrations)) registrations
     (FunctionRegistration service id (primitive_operation s))))
 
 -- What is declared for a function of a service must be a function.

@@ -19,9 +19,9 @@ IsCut text None = (tokens : List Lexeme) → ¬ IsCutInto text tokens
 
 -- A text is a name, a word of the language, or neither.
 pub data NameClass : Type 0 where
-  AName : NameClass
-  AReserved : NameClass
-  ANoName : NameClass
+  NameText : NameClass
+  ReservedText : NameClass
+  OtherText : NameClass
 
 -- The text is one token of this meaning, from its first byte to its last.
 abbrev pub IsWord : List ℕ → Meaning → Type 0
@@ -34,9 +34,9 @@ IsNoNameWord text =
 
 -- A name is a letter or `_`, then letters, digits and `_`, and it is no word of the language.
 abbrev pub HasNameClass : List ℕ → NameClass → Type 0
-HasNameClass text AName = IsWord text (name text)
-HasNameClass text AReserved = IsNoNameWord text
-HasNameClass text ANoName = (¬ IsWord text (name text)) × (¬ IsNoNameWord text)
+HasNameClass text NameText = IsWord text (name text)
+HasNameClass text ReservedText = IsNoNameWord text
+HasNameClass text OtherText = (¬ IsWord text (name text)) × (¬ IsNoNameWord text)
 
 -- `placed_lexeme t` is a token of a text as the grammar sees it.
 abbrev pub placed_lexeme : Lexeme → Meaning × Place

@@ -52,7 +52,8 @@ impl Registry {
     // Adds a registration that nothing else refuses, and that takes no name of a type or function.
     pub(crate) fn add(&mut self, registration: Registration) -> Result<(), RegistryFault>
         requires { (name : List ℕ) → takes_name name (registration_of registration) ≡ false }
-        ensures { RegisteredIf (cause_of_many false (registered self.old) (registration_of registration))
+        ensures { RegisteredIf
+            (cause_of_many false (registered self.old) (registration_of registration))
             (registration_of registration ∷ []) result (registered self.old) (registered self.new) }
     {
         self.table.add(registration)?;

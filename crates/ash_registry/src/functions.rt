@@ -4,12 +4,13 @@ ghost use Rattle.std.specs.List.{list_any};
 ghost use Rattle.std.specs.Option.{option_map};
 ghost use Rattle.ash_tree.specs.Tree.{Declaration as DeclarationTree};
 ghost use Rattle.ash_tree.specs.Views.{declaration_of, signature_of};
-ghost use Rattle.ash_registrations.specs.Registrations.{FunctionRegistration, is_service, is_function, takes_function, takes_name};
+ghost use Rattle.ash_registrations.specs.Registrations.{FunctionRegistration, is_service, is_function};
+ghost use Rattle.ash_registrations.specs.Registrations.{takes_function, takes_name};
 ghost use Rattle.ash_registry.specs.declared.fault.RegistryFault.TheVariants.{NoService};
 ghost use Rattle.ash_registry.specs.Registered.{registered};
 ghost use Rattle.ash_registry.specs.Refusals.{RegisteredIf, RefusedWithoutAllocating, cause_of_many};
 ghost use Rattle.ash_registry.specs.Refusals.{refusal_of_function, refusal_of_declared_function, refusal_of_operation};
-ghost use Rattle.ash_registry.specs.Refusals.{primitive_operation, function_registration};
+ghost use Rattle.ash_registry.specs.Refusals.{primitive_operation, function_registration, max_registered_functions};
 ghost use Rattle.ash_registry.specs.Texts.{IsDeclared};
 
 use crate::signatures::{names_object, operation};
@@ -18,7 +19,7 @@ use crate::{Registration, Registry, RegistryFault};
 use ash_tree::{Declaration, Signature};
 
 /// The most functions.
-const MAX_FUNCTIONS: usize = 256;
+const MAX_REGISTERED_FUNCTIONS: usize = 256;
 
 impl Registry {
     /// Registers a function of a service, as `int tally(int)`, by the service's index and the function's number.
@@ -97,11 +98,12 @@ impl Registry {
         requires { list_any (takes_name (string_bytes signature.name)) (registered self.old)
             ≡ false }
         ensures { RegisteredIf
-            (cause_of_many (nat_le 256 (count_by is_function (registered self.old)))
+            (cause_of_many
+            (nat_le max_registered_functions (count_by is_function (registered self.old)))
             (registered self.old)
             (FunctionRegistration service id (primitive_operation (signature_of signature))))
-            (FunctionRegistration service id (primitive_operation (signature_of signature)) ∷ []) result
-            (registered self.old) (registered self.new) }
+            (FunctionRegistration service id (primitive_operation (signature_of signature)) ∷ [])
+            result (registered self.old) (registered self.new) }
     {
         let key = signature.name.clone()?;
         let operation = operation(self.alloc, signature)?;
@@ -111,6 +113,6 @@ impl Registry {
             id,
             operation,
         };
-        self.accept_named(registration, key, count, MAX_FUNCTIONS)
+        self.accept_named(registration, key, count, MAX_REGISTERED_FUNCTIONS)
     }
 }

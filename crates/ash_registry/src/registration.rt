@@ -1,10 +1,12 @@
 //! The calls that register types and services, and members of types.
-ghost use Rattle.std.specs.Prelude.{◌≡◌, [], ◌∷◌, Option, Some, count_by, map, nat_le, not, string_bytes, IfOk};
+ghost use Rattle.std.specs.Prelude.{◌≡◌, [], ◌∷◌, Option, Some, count_by, map, nat_le, not, string_bytes};
+ghost use Rattle.std.specs.Prelude.{IfOk};
 ghost use Rattle.std.specs.List.{filter_map, list_any};
 ghost use Rattle.std.specs.Option.{option_map};
 ghost use Rattle.ash_tree.specs.Tree.{Declaration as DeclarationTree};
 ghost use Rattle.ash_tree.specs.Views.{declaration_of, signature_of, type_of};
-ghost use Rattle.ash_registrations.specs.Registrations.{TypeRegistration, FactoryRegistration, MethodRegistration, PropertyRegistration, ServiceRegistration, is_member_of};
+ghost use Rattle.ash_registrations.specs.Registrations.{TypeRegistration, FactoryRegistration, MethodRegistration};
+ghost use Rattle.ash_registrations.specs.Registrations.{PropertyRegistration, ServiceRegistration, is_member_of};
 ghost use Rattle.ash_registrations.specs.Registrations.{is_service, takes_kind};
 ghost use Rattle.ash_registry.specs.declared.fault.RegistryFault.TheVariants.{BadDeclaration, NameTaken, UnknownType};
 ghost use Rattle.ash_registry.specs.declared.fault.RegistryFault.TheVariants.{NotPrimitive};
@@ -16,20 +18,21 @@ ghost use Rattle.ash_registry.specs.Refusals.{refusal_of_declared_property, refu
 ghost use Rattle.ash_registry.specs.Refusals.{is_known, primitive_of, is_unknown, refusal_of_factory};
 ghost use Rattle.ash_registry.specs.Refusals.{refusal_of_declared_factory, refusal_of_constructor, gives_handle_of};
 ghost use Rattle.ash_registry.specs.Refusals.{primitive_operation, method_registration, property_registration};
-ghost use Rattle.ash_registry.specs.Refusals.{value_registration, factory_registration};
+ghost use Rattle.ash_registry.specs.Refusals.{value_registration, factory_registration, max_registered_members};
 ghost use Rattle.ash_registry.specs.NameClasses.{name_class_of};
-ghost use Rattle.ash_registry.specs.Texts.{NameClass, AName, HasNameClass, IsDeclared};
+ghost use Rattle.ash_registry.specs.Texts.{NameText, HasNameClass, IsDeclared};
+ghost use Rattle.ash_registry.specs.Texts as spec;
 
 use crate::signatures::{gives_handle, has_object, names_object, operation, primitives};
-use crate::texts::{NameKind, read_declaration, read_name};
+use crate::texts::{NameClass, read_declaration, read_name};
 use crate::{Registration, Registry, RegistryFault};
 use ash_tree::{Declaration, Primitive, Property, Signature, Type, TypeKind};
 
 /// The most types.
-const MAX_TYPES: usize = 256;
+const MAX_REGISTERED_TYPES: usize = 256;
 
 /// The most methods and properties of a type.
-const MAX_MEMBERS: usize = 32;
+const MAX_REGISTERED_MEMBERS: usize = 32;
 
 /// The most services.
 const MAX_SERVICES: usize = 16;
@@ -37,34 +40,37 @@ const MAX_SERVICES: usize = 16;
 impl Registry {
     /// Registers a type of host objects by its name and the number of its kind.
     pub fn object_type(&mut self, name: &str, kind: u16) -> Result<(), RegistryFault>
-        ensures { (name_class : NameClass) → HasNameClass name.now name_class
-            → RegisteredIf (refusal_of_type (registered self.old) name.now name_class kind)
-            (TypeRegistration name.now kind ∷ []) result (registered self.old) (registered self.new) }
+        ensures registers { (class : spec.NameClass) → HasNameClass name.now class
+            → RegisteredIf (refusal_of_type (registered self.old) name.now class kind)
+            (TypeRegistration name.now kind ∷ []) result
+            (registered self.old) (registered self.new) }
     {
-        let name_kind = read_name(self.alloc, name)?;
-        self.classified_type(name, name_kind, kind)
+        let name_class = read_name(self.alloc, name)?;
+        self.classified_type(name, name_class, kind)
     }
 
     fn classified_type(
         &mut self,
         name: &str,
-        name_kind: NameKind,
+        name_class: NameClass,
         kind: u16,
     ) -> Result<(), RegistryFault>
         ensures { RegisteredIf
-            (refusal_of_type (registered self.old) name.now (name_class_of name_kind) kind)
-            (TypeRegistration name.now kind ∷ []) result (registered self.old) (registered self.new) }
+            (refusal_of_type (registered self.old) name.now (name_class_of name_class) kind)
+            (TypeRegistration name.now kind ∷ []) result
+            (registered self.old) (registered self.new) }
     {
-        match name_kind {
-            NameKind::Name => self.named_type(name, kind),
-            NameKind::Reserved => Err(RegistryFault::ReservedName),
-            NameKind::Other => Err(RegistryFault::BadDeclaration),
+        match name_class {
+            NameClass::Name => self.named_type(name, kind),
+            NameClass::Reserved => Err(RegistryFault::ReservedName),
+            NameClass::Other => Err(RegistryFault::BadDeclaration),
         }
     }
 
     fn named_type(&mut self, name: &str, kind: u16) -> Result<(), RegistryFault>
-        ensures { RegisteredIf (refusal_of_type (registered self.old) name.now AName kind)
-            (TypeRegistration name.now kind ∷ []) result (registered self.old) (registered self.new) }
+        ensures { RegisteredIf (refusal_of_type (registered self.old) name.now NameText kind)
+            (TypeRegistration name.now kind ∷ []) result
+            (registered self.old) (registered self.new) }
     {
         if self.table.takes_name(name) || self.table.takes_kind(kind) {
             return Err(RegistryFault::NameTaken);
@@ -72,7 +78,12 @@ impl Registry {
         let key = name.to_string(self.alloc)?;
         let name = name.to_string(self.alloc)?;
         let count = self.table.types();
-        self.accept_named(Registration::Type { name, kind }, key, count, MAX_TYPES)
+        self.accept_named(
+            Registration::Type { name, kind },
+            key,
+            count,
+            MAX_REGISTERED_TYPES,
+        )
     }
 
     /// Registers a service of a kind. The answer is its index.
@@ -153,11 +164,12 @@ impl Registry {
 
     fn add_method(&mut self, of: &str, signature: Signature, id: u16) -> Result<(), RegistryFault>
         ensures { RegisteredIf
-            (cause_of_many (nat_le 32 (count_by (is_member_of of.now) (registered self.old)))
+            (cause_of_many
+            (nat_le max_registered_members (count_by (is_member_of of.now) (registered self.old)))
             (registered self.old)
             (MethodRegistration of.now id (primitive_operation (signature_of signature))))
-            (MethodRegistration of.now id (primitive_operation (signature_of signature)) ∷ []) result
-            (registered self.old) (registered self.new) }
+            (MethodRegistration of.now id (primitive_operation (signature_of signature)) ∷ [])
+            result (registered self.old) (registered self.new) }
     {
         let operation = operation(self.alloc, signature)?;
         let of = of.to_string(self.alloc)?;
@@ -165,7 +177,7 @@ impl Registry {
         self.accept(
             Registration::Method { of, id, operation },
             count,
-            MAX_MEMBERS,
+            MAX_REGISTERED_MEMBERS,
         )
     }
 
@@ -262,7 +274,7 @@ impl Registry {
             value,
             name,
         };
-        self.accept(registration, count, MAX_MEMBERS)
+        self.accept(registration, count, MAX_REGISTERED_MEMBERS)
     }
 
     /// Registers the factory of a type, as `T@ make(int)`. Its name is ignored.
@@ -303,7 +315,8 @@ impl Registry {
             (cause (not (gives_handle_of of.now (signature_of signature).result)) BadDeclaration
             (refusal_of_constructor (registered self.old) of.now
             (signature_of signature).parameters))
-            (FactoryRegistration of.now (filter_map primitive_of (signature_of signature).parameters) ∷ [])
+            (FactoryRegistration of.now
+            (filter_map primitive_of (signature_of signature).parameters) ∷ [])
             result (registered self.old) (registered self.new) }
     {
         if !gives_handle(&signature.result, of) {

@@ -5,7 +5,7 @@ ghost use Rattle.std.specs.Option.{option_copied, option_map};
 ghost use Rattle.ash_registrations.specs.Registrations.{registration_of};
 ghost use Rattle.ash_registrations.specs.Registrations as spec;
 ghost use Rattle.ash_registrations.specs.Registered as table;
-ghost use Rattle.ash_registrations.specs.Text.{text_of};
+ghost use Rattle.ash_registrations.specs.Text.{text_of, max_registered_text_bytes};
 ghost use Rattle.ash_registry.specs.Registered.{registered};
 
 use crate::Registration;
@@ -22,7 +22,7 @@ pub struct Registry {
 impl Registry {
     /// Nothing is registered.
     pub fn new(alloc: Global) -> Registry
-        ensures { registered result ≡ [] }
+        ensures empty { registered result ≡ [] }
     {
         Registry {
             alloc,
@@ -32,7 +32,7 @@ impl Registry {
 
     /// What is registered, for those who only look it up.
     pub fn registrations(&self) -> &Registrations
-        ensures { table.registered result.now ≡ registered self.now }
+        ensures same { table.registered result.now ≡ registered self.now }
     {
         &self.table
     }
@@ -40,14 +40,14 @@ impl Registry {
     /// One line for each accepted registration, in order: 1,048,576 bytes at most.
     pub fn text(&self) -> &str
         ensures lines { result.now ≡ text_of (registered self.now) }
-        ensures short { length result.now ≤ 1048576 }
+        ensures short { length result.now ≤ max_registered_text_bytes }
     {
         self.table.text()
     }
 
     /// The type or function of a name, as it was registered.
     pub fn named(&self, name: &str) -> Option<&Registration>
-        ensures { option_map registration_of (option_copied result)
+        ensures by_name { option_map registration_of (option_copied result)
             ≡ find (spec.takes_name name.now) (registered self.now) }
     {
         self.table.named(name)
@@ -55,7 +55,7 @@ impl Registry {
 
     /// The method or property of a type by its name, as it was registered.
     pub fn member(&self, of: &str, name: &str) -> Option<&Registration>
-        ensures { option_map registration_of (option_copied result)
+        ensures by_name { option_map registration_of (option_copied result)
             ≡ find (spec.takes_member of.now name.now) (registered self.now) }
     {
         self.table.member(of, name)
@@ -63,7 +63,7 @@ impl Registry {
 
     /// The factory of a type, as it was registered.
     pub fn factory_of(&self, of: &str) -> Option<&Registration>
-        ensures { option_map registration_of (option_copied result)
+        ensures by_type { option_map registration_of (option_copied result)
             ≡ find (spec.is_factory_of of.now) (registered self.now) }
     {
         self.table.factory_of(of)
@@ -71,7 +71,7 @@ impl Registry {
 
     /// The type or service of a kind, as it was registered.
     pub fn of_kind(&self, kind: u16) -> Option<&Registration>
-        ensures { option_map registration_of (option_copied result)
+        ensures by_kind { option_map registration_of (option_copied result)
             ≡ find (spec.takes_kind kind) (registered self.now) }
     {
         self.table.of_kind(kind)
@@ -79,7 +79,7 @@ impl Registry {
 
     /// The kinds of the services, in order of registration.
     pub fn service_kinds(&self) -> Result<Vec<u16>, AllocError>
-        ensures { IfOk result (λ kinds. kinds.items
+        ensures in_order { IfOk result (λ kinds. kinds.items
             ≡ filter_map spec.service_kind (registered self.now)) }
     {
         self.table.service_kinds()

@@ -5,7 +5,8 @@ ghost use Rattle.ash_parse.specs.declared.faults.ParseFault.{ParseFault};
 ghost use Rattle.ash_tree.specs.Tree.{Declaration as DeclarationTree};
 ghost use Rattle.ash_tree.specs.Views.{declaration_of};
 ghost use Rattle.ash_registry.specs.declared.fault.RegistryFault.TheVariants.{NoMemory};
-ghost use Rattle.ash_registry.specs.Texts.{IsCut, NameClass, HasNameClass, IsDeclared};
+ghost use Rattle.ash_registry.specs.Texts.{IsCut, HasNameClass, IsDeclared};
+ghost use Rattle.ash_registry.specs.Texts as spec;
 ghost use Rattle.ash_registry.specs.NameClasses.{class_of_meaning, name_class_of, class_of_token, class_of_tokens};
 
 use crate::RegistryFault;
@@ -16,7 +17,7 @@ use std::alloc::Global;
 
 /// What a text is as a name.
 #[derive(Clone, Copy, Debug, PartialEq, Eq)]
-pub(crate) enum NameKind {
+pub(crate) enum NameClass {
     /// A name: a letter or `_`, then letters, digits and `_`.
     Name,
     /// A word that is reserved or unsupported.
@@ -40,45 +41,45 @@ fn read_tokens(alloc: Global, text: &str) -> Result<Option<Vec<Token>>, Registry
 
 /// What a text is as a name.
 #[tactic(auto, using(crate::proofs::Meanings::name_read, crate::proofs::Meanings::uncut_is_no_name))]
-pub(crate) fn read_name(alloc: Global, text: &str) -> Result<NameKind, RegistryFault>
+pub(crate) fn read_name(alloc: Global, text: &str) -> Result<NameClass, RegistryFault>
     ensures classified { IfOk result (λ s. HasNameClass text.now (name_class_of s)) }
     ensures only_memory { IfErr result (λ fault. fault ≡ NoMemory) }
 {
     match read_tokens(alloc, text)? {
-        Some(tokens) => Ok(name_kind_of_tokens(&tokens, text.len())),
-        None => Ok(NameKind::Other),
+        Some(tokens) => Ok(name_class_of_tokens(&tokens, text.len())),
+        None => Ok(NameClass::Other),
     }
 }
 
 // What a text of this length is as a name, by its tokens.
-fn name_kind_of_tokens(tokens: &[Token], len: usize) -> NameKind
+fn name_class_of_tokens(tokens: &[Token], len: usize) -> NameClass
     ensures { name_class_of result ≡ class_of_tokens len (lexemes tokens.now) }
 {
     match tokens {
-        [only] => name_kind_of_token(only, len),
-        _ => NameKind::Other,
+        [only] => name_class_of_token(only, len),
+        _ => NameClass::Other,
     }
 }
 
 // What a text of this length is as a name, by its only token.
-fn name_kind_of_token(only: &Token, len: usize) -> NameKind
+fn name_class_of_token(only: &Token, len: usize) -> NameClass
     ensures { name_class_of result ≡ class_of_token len (lexeme_of only.now) }
 {
     if only.from == 0 && only.to == len {
-        name_kind_of_word(&only.kind)
+        name_class_of_word(&only.kind)
     } else {
-        NameKind::Other
+        NameClass::Other
     }
 }
 
 // What a text that is one token is as a name.
-fn name_kind_of_word(kind: &TokenKind) -> NameKind
+fn name_class_of_word(kind: &TokenKind) -> NameClass
     ensures { name_class_of result ≡ class_of_meaning (meaning_of kind.now) }
 {
     match kind {
-        TokenKind::Name(_) => NameKind::Name,
-        TokenKind::Reserved(_) | TokenKind::Unsupported(_) => NameKind::Reserved,
-        _ => NameKind::Other,
+        TokenKind::Name(_) => NameClass::Name,
+        TokenKind::Reserved(_) | TokenKind::Unsupported(_) => NameClass::Reserved,
+        _ => NameClass::Other,
     }
 }
 
@@ -124,8 +125,8 @@ fn ran_out(fault: ParseFault) -> bool
 /// That each text is a name, a word of the language, or no name, and declares one thing or nothing. It does nothing
 /// when it runs.
 pub fn one_meaning()
-    ensures some_class { (text : List ℕ) → (s : NameClass) × HasNameClass text s }
-    ensures one_class { (text : List ℕ) (s t : NameClass) → HasNameClass text s
+    ensures some_class { (text : List ℕ) → (s : spec.NameClass) × HasNameClass text s }
+    ensures one_class { (text : List ℕ) (s t : spec.NameClass) → HasNameClass text s
         → HasNameClass text t → s ≡ t }
     ensures some_declaration { (text : List ℕ) → (d : Option DeclarationTree) × IsDeclared text d }
     ensures one_declaration { (text : List ℕ) (d e : Option DeclarationTree) → IsDeclared text d
