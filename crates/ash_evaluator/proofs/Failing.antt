@@ -7,7 +7,7 @@ use Rattle.ash_plain_data.specs.declared.run_error.RunError.TheVariants as error
 use Rattle.ash_plain_data.specs.Running.{FailsAs}
 
 pub fails_onward : {A B : Type 0} (e : RunError) (a : Activity) (p : Progress A) (next : A → Run B) → FailsAs e a p → FailsAs e a (onward p next)
-fails_onward (errors.Raised exception) a p next h = ap (λ (q : Progress _). onward q next) h
+fails_onward (errors.Raising exception) a p next h = ap (λ (q : Progress _). onward q next) h
 fails_onward errors.OutOfTicks a p next h = ap (λ (q : Progress _). onward q next) h
 fails_onward errors.NoStep a p next h = ap (λ (q : Progress _). onward q next) h
 fails_onward errors.NoMemory a p next h = tt

@@ -20,7 +20,7 @@ outcome_seen o = record { end = end_seen o.end; world = world_seen o.world }
 -- A run of the code ends without an outcome where the definitions have none; an exception and a refused tick are
 -- outcomes. Where memory ran out, nothing is said.
 abbrev pub HasNoEnd : RunError → Option Outcome → Type 0
-HasNoEnd (errors.Raised exception) outcome = ⊥
+HasNoEnd (errors.Raising exception) outcome = ⊥
 HasNoEnd errors.OutOfTicks outcome = ⊥
 HasNoEnd errors.NoStep outcome = outcome ≡ None
 HasNoEnd errors.NoMemory outcome = Unit {0}

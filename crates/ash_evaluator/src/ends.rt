@@ -59,7 +59,7 @@ fn end_of(frame: Frame, value: RunResult<Option<Word>>) -> RunResult<End>
 {
     match value {
         Ok(value) => Ok(End::Finished(value)),
-        Err(RunError::Raised(exception)) => Ok(End::Threw {
+        Err(RunError::Raising(exception)) => Ok(End::Threw {
             exception,
             function: frame.function,
             line: frame.line,
@@ -131,8 +131,8 @@ pub fn call_function(
     budget: u64,
     world: World,
 ) -> RunResult<Outcome>
-    ensures { EndsAs result (call_function (program_seen program.now) place args.items budget
-        (world_seen world)) }
+    ensures outcome { EndsAs result
+        (call_function (program_seen program.now) place args.items budget (world_seen world)) }
 {
     let callee = Callee::Function(place);
     let Some(entry) = entry_of(program.alloc, program.tree, callee)? else {
@@ -176,7 +176,8 @@ fn push_zeros(words: &mut Vec<Word>, globals: &[Initialization]) -> Result<(), A
 /// Runs the initializers of a module, and gives how that ends and the world that it leaves, with the globals of the
 /// module.
 pub fn load_module(program: &Program<'_>, budget: u64, world: World) -> RunResult<Outcome>
-    ensures { EndsAs result (load_module (program_seen program.now) budget (world_seen world)) }
+    ensures outcome { EndsAs result
+        (load_module (program_seen program.now) budget (world_seen world)) }
 {
     let mut world = world;
     world.globals = zeros(program.alloc, &program.tree.globals)?;

@@ -1,4 +1,5 @@
-//! What frames do after the tick of their entry: constructions and bodies of functions, and the initializers of a module.
+//! What frames do after the tick of their entry: constructions and bodies of functions, and the initializers of a
+//! module.
 
 ghost use Rattle.std.specs.Prelude.{map};
 ghost use Rattle.ash_typed.specs.BodyViews.{value_of as variable_of};

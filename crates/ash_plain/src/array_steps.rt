@@ -114,13 +114,13 @@ impl Activity {
         if index < self.words_at(number).len() {
             Ok(index)
         } else {
-            Err(RunError::Raised(Exception::IndexOutOfBounds))
+            Err(RunError::Raising(Exception::IndexOutOfBounds))
         }
     }
 
     /// The element of an array by an index: first null is tested, then the index.
     pub fn element_at(&self, array: Word, index: Word) -> RunResult<Location>
-        ensures { RunsAs location_seen result (activity_seen self.now)
+        ensures location { RunsAs location_seen result (activity_seen self.now)
             (element_at array index (activity_seen self.now)) }
     {
         let number = self.object_of(array)?;
@@ -130,13 +130,13 @@ impl Activity {
 
     /// Constructs an array, which takes no frame and no tick.
     pub fn construct_array(&mut self, of: Element, args: &[Word]) -> RunResult<Word>
-        ensures { RunsAs (λ w. w) result (activity_seen self.new)
+        ensures constructed { RunsAs (λ w. w) result (activity_seen self.new)
             (construct_array (element_seen of) args.now (activity_seen self.old)) }
     {
         self.demand_number()?;
         let count = count_in(args);
         if count > MAX_ELEMENTS {
-            return Err(RunError::Raised(Exception::ArrayLimit));
+            return Err(RunError::Raising(Exception::ArrayLimit));
         }
         let mut elements = Vec::new(self.alloc);
         push_many(&mut elements, count, zero_element(&of))?;
@@ -161,14 +161,14 @@ impl Activity {
             (resize number count (activity_seen self.old)) }
     {
         if count > MAX_ELEMENTS {
-            return Err(RunError::Raised(Exception::ArrayLimit));
+            return Err(RunError::Raising(Exception::ArrayLimit));
         }
         let zero = self.zero_at(number);
         let old = self.words_at(number);
         let words = resized(self.alloc, count, zero, old)?;
         let gone = rest_of(self.alloc, old, count as usize)?;
         self.hold_all(&gone)?;
-        self.put_words(number, words)?;
+        self.set_words(number, words)?;
         Ok(())
     }
 
@@ -178,11 +178,11 @@ impl Activity {
     {
         let old = self.words_at(number);
         if old.len() as u64 >= MAX_ELEMENTS {
-            return Err(RunError::Raised(Exception::ArrayLimit));
+            return Err(RunError::Raising(Exception::ArrayLimit));
         }
         let mut words = Vec::from_slice(self.alloc, old)?;
         words.push(word)?;
-        self.put_words(number, words)?;
+        self.set_words(number, words)?;
         Ok(())
     }
 
@@ -192,13 +192,13 @@ impl Activity {
     {
         let old = self.words_at(number);
         if old.is_empty() {
-            return Err(RunError::Raised(Exception::IndexOutOfBounds));
+            return Err(RunError::Raising(Exception::IndexOutOfBounds));
         }
         let (rest, last) = old.split_at(old.len() - 1);
         let words = Vec::from_slice(self.alloc, rest)?;
         let gone = Vec::from_slice(self.alloc, last)?;
         self.hold_all(&gone)?;
-        self.put_words(number, words)?;
+        self.set_words(number, words)?;
         Ok(())
     }
 
@@ -209,7 +209,7 @@ impl Activity {
         number: u64,
         args: &[Word],
     ) -> RunResult<Word>
-        ensures { RunsAs (λ w. w) result (activity_seen self.new)
+        ensures invoked { RunsAs (λ w. w) result (activity_seen self.new)
             (invoke_array method number args.now (activity_seen self.old)) }
     {
         match (method, args) {

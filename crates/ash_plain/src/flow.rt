@@ -28,7 +28,7 @@ pub enum Flow {
 impl Flow {
     /// The value of a function; one that comes to the end of its body has none.
     pub fn value(self) -> Option<Word>
-        ensures { result ≡ value_of (flow_seen self) }
+        ensures returned { result ≡ value_of (flow_seen self) }
     {
         match self {
             Flow::Returned(value) => value,
@@ -38,9 +38,10 @@ impl Flow {
 }
 
 impl Activity {
-    /// A block that ends by itself is a release point. Those that are left by a jump end together, where the jump leads.
+    /// A block that ends by itself is a release point. Those that are left by a jump end together, where the jump
+    /// leads.
     pub fn end_block(&mut self, flow: Flow) -> RunResult<Flow>
-        ensures { RunsAs flow_seen result (activity_seen self.new)
+        ensures ended { RunsAs flow_seen result (activity_seen self.new)
             (end_block (flow_seen flow) (activity_seen self.old)) }
     {
         if let Flow::On = flow {
@@ -51,7 +52,7 @@ impl Activity {
 
     /// A `break` leads past the loop or the `switch`, where the blocks that it leaves end together.
     pub fn after_break(&mut self, flow: Flow) -> RunResult<Flow>
-        ensures { RunsAs flow_seen result (activity_seen self.new)
+        ensures passed { RunsAs flow_seen result (activity_seen self.new)
             (after_break (flow_seen flow) (activity_seen self.old)) }
     {
         if let Flow::Broke = flow {

@@ -19,7 +19,7 @@ pub const MAX_FRAMES: usize = 256;
 impl Activity {
     /// Takes a tick for what begins at this line. Where none is left the run ends; the line is set either way.
     pub fn tick(&mut self, line: usize) -> RunResult<()>
-        ensures { RunsAs (λ _. tt) result (activity_seen self.new)
+        ensures taken { RunsAs (λ _. tt) result (activity_seen self.new)
             (tick line (activity_seen self.old)) }
     {
         self.frame.line = line;
@@ -32,13 +32,13 @@ impl Activity {
 
     /// Raises an exception in the frame that runs, where there is room for no other.
     pub fn demand_frame(&self) -> RunResult<()>
-        ensures { RunsAs (λ _. tt) result (activity_seen self.now)
+        ensures room { RunsAs (λ _. tt) result (activity_seen self.now)
             (demand_frame (activity_seen self.now)) }
     {
         if self.callers.len() + 1 < MAX_FRAMES {
             Ok(())
         } else {
-            Err(RunError::Raised(Exception::StackOverflow))
+            Err(RunError::Raising(Exception::StackOverflow))
         }
     }
 
@@ -50,7 +50,7 @@ impl Activity {
         this: Word,
         locals: Vec<Word>,
     ) -> Result<(), AllocError>
-        ensures { OnOk result (activity_seen self.new ≡ record (activity_seen self.old) {
+        ensures entered { OnOk result (activity_seen self.new ≡ record (activity_seen self.old) {
           frame = frame_of (string_bytes function) line this locals.items;
           callers = (activity_seen self.old).frame ∷ (activity_seen self.old).callers;
         }) }
@@ -70,7 +70,7 @@ impl Activity {
     /// Leaves a frame: the value passes into what the caller holds, then the whole frame is given up.
     #[tactic(auto, unfolding(crate::specs::Views::activity_seen, ash_phrases::specs::Frames::leave))]
     pub fn leave(&mut self, value: Word) -> RunResult<Word>
-        ensures { RunsAs (λ w. w) result (activity_seen self.new)
+        ensures returned { RunsAs (λ w. w) result (activity_seen self.new)
             (leave value (activity_seen self.old)) }
     {
         if !self.callers.is_empty() {

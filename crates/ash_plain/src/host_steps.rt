@@ -37,7 +37,7 @@ fn is_of_type(of: VarType, word: Word) -> bool
 }
 
 impl Activity {
-    fn note(&mut self, event: Event) -> Result<(), AllocError>
+    fn push_event(&mut self, event: Event) -> Result<(), AllocError>
         ensures { OnOk result (activity_seen self.new
             ≡ in_world (with_event event) (activity_seen self.old)) }
     {
@@ -62,14 +62,14 @@ impl Activity {
         }
     }
 
-    fn put_state(&mut self, target: Target, state: Vec<u8>) -> Result<(), AllocError>
+    fn set_state(&mut self, target: Target, state: Vec<u8>) -> Result<(), AllocError>
         ensures { OnOk result (activity_seen self.new
             ≡ in_world (with_state target state.items) (activity_seen self.old)) }
     {
         match target {
             Target::Object(number) => self.world.objects.change_state(self.alloc, number, state),
             Target::Service(index) => {
-                put_at(&mut self.world.services, usize::from(index), state);
+                set_at(&mut self.world.services, usize::from(index), state);
                 Ok(())
             }
         }
@@ -92,7 +92,7 @@ impl Activity {
         let Some(taken) = self.world.answers.pop_front() else {
             return Err(RunError::NoStep);
         };
-        self.put_state(target, taken.after)?;
+        self.set_state(target, taken.after)?;
         Ok(taken.answer)
     }
 
@@ -105,9 +105,9 @@ impl Activity {
             (HostAnswer::Nothing, None) => Ok(Word::Null),
             (HostAnswer::Value(word), Some(of)) if is_of_type(of, word) => Ok(word),
             (HostAnswer::Nothing | HostAnswer::Value(_), _) => {
-                Err(RunError::Raised(Exception::BadHostAnswer))
+                Err(RunError::Raising(Exception::BadHostAnswer))
             }
-            (HostAnswer::Raise(code), _) => Err(RunError::Raised(Exception::Raised(code))),
+            (HostAnswer::Raise(code), _) => Err(RunError::Raising(Exception::Raised(code))),
             (HostAnswer::NoMemory, _) => Err(RunError::NoStep),
         }
     }
@@ -120,12 +120,12 @@ impl Activity {
         of: Option<VarType>,
         args: Vec<Word>,
     ) -> RunResult<Word>
-        ensures { RunsAs (λ w. w) result (activity_seen self.new)
+        ensures invoked { RunsAs (λ w. w) result (activity_seen self.new)
             (invoke_host target id of args.items (activity_seen self.old)) }
     {
         let call = HostCall::Invoke { method: id, args };
         let answer = self.call_host(target, &call)?;
-        self.note(Event::Called(target, id))?;
+        self.push_event(Event::Called(target, id))?;
         self.accept(of, answer)
     }
 
@@ -180,17 +180,17 @@ impl Activity {
     {
         self.demand_number()?;
         let Some(place) = self.place_of_kind(kind) else {
-            return Err(RunError::Raised(Exception::PoolEmpty));
+            return Err(RunError::Raising(Exception::PoolEmpty));
         };
         let FreeBox { kind, state } = self.take_box(place);
         let number = self.make(Object::Host { kind, state })?;
-        self.note(Event::Drew(number))?;
+        self.push_event(Event::Drew(number))?;
         Ok(number)
     }
 
     /// Constructs an object of a registered type: it is held before it is started.
     pub fn construct_host(&mut self, kind: u16, args: Vec<Word>) -> RunResult<Word>
-        ensures { RunsAs (λ w. w) result (activity_seen self.new)
+        ensures constructed { RunsAs (λ w. w) result (activity_seen self.new)
             (construct_host kind args.items (activity_seen self.old)) }
     {
         let number = self.draw(kind)?;
@@ -217,7 +217,7 @@ fn place_in(pool: &[FreeBox], kind: u16) -> Option<usize>
 
 /// Puts a state at an index, where there is one.
 #[tactic(auto, using(crate::proofs::Pools::states_set))]
-fn put_at(states: &mut Vec<Vec<u8>>, index: usize, state: Vec<u8>)
+fn set_at(states: &mut Vec<Vec<u8>>, index: usize, state: Vec<u8>)
     ensures { map (λ s. s.items) states.new.items
         ≡ slice_set (map (λ s. s.items) states.old.items) index state.items }
 {

@@ -34,7 +34,7 @@ pub enum Location {
 
 /// Where a variable is.
 pub fn location_of_variable(variable: Variable) -> Location
-    ensures { location_seen result ≡ location_of_variable variable }
+    ensures location { location_seen result ≡ location_of_variable variable }
 {
     match variable {
         Variable::Local { slot, .. } => Location::Local(slot),
@@ -44,7 +44,7 @@ pub fn location_of_variable(variable: Variable) -> Location
 
 /// Where an object has a member.
 pub fn location_of_member(member: Member, number: u64) -> Location
-    ensures { location_seen result ≡ location_of_member member number }
+    ensures location { location_seen result ≡ location_of_member member number }
 {
     match member {
         Member::Field { place, .. } => Location::Part { number, place },
@@ -78,7 +78,7 @@ impl Activity {
 
     /// The object whose method runs, which is held.
     pub fn this_held(&mut self) -> RunResult<Word>
-        ensures { RunsAs (λ w. w) result (activity_seen self.new)
+        ensures held { RunsAs (λ w. w) result (activity_seen self.new)
             (this_held (activity_seen self.old)) }
     {
         let this = self.frame.this;
@@ -122,7 +122,7 @@ impl Activity {
 
     /// What a location holds, which is held where it is a handle.
     pub fn read_held(&mut self, location: Location) -> RunResult<Word>
-        ensures { RunsAs (λ w. w) result (activity_seen self.new)
+        ensures held { RunsAs (λ w. w) result (activity_seen self.new)
             (read_held (location_seen location) (activity_seen self.old)) }
     {
         let word = self.read(location)?;
@@ -149,7 +149,7 @@ impl Activity {
 
     /// Puts a word where another one is, which is held: nothing goes before the full expression ends.
     pub fn write(&mut self, location: Location, word: Word) -> RunResult<()>
-        ensures { RunsAs (λ _. tt) result (activity_seen self.new)
+        ensures written { RunsAs (λ _. tt) result (activity_seen self.new)
             (write (location_seen location) word (activity_seen self.old)) }
     {
         match location {
@@ -169,7 +169,7 @@ impl Activity {
                 let old = self.part(number, place);
                 self.hold(old)?;
                 let words = words_with(self.alloc, self.words_at(number), place, word)?;
-                self.put_words(number, words)?;
+                self.set_words(number, words)?;
                 Ok(())
             }
             Location::Property { number, id, .. } => self.set_property(number, id, word),

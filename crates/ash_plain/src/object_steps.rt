@@ -22,12 +22,12 @@ pub const MAX_OBJECTS: usize = 4096;
 impl Activity {
     /// The object of a handle; null has none.
     pub fn object_of(&self, word: Word) -> RunResult<u64>
-        ensures { RunsAs (λ n. n) result (activity_seen self.now)
+        ensures number { RunsAs (λ n. n) result (activity_seen self.now)
             (object_of word (activity_seen self.now)) }
     {
         match word {
             Word::Object(number) => Ok(number),
-            _ => Err(RunError::Raised(Exception::NullPointerAccess)),
+            _ => Err(RunError::Raising(Exception::NullPointerAccess)),
         }
     }
 
@@ -39,7 +39,7 @@ impl Activity {
     }
 
     /// Gives an object other words.
-    pub(crate) fn put_words(&mut self, number: u64, words: Vec<Word>) -> Result<(), AllocError>
+    pub(crate) fn set_words(&mut self, number: u64, words: Vec<Word>) -> Result<(), AllocError>
         ensures { OnOk result (activity_seen self.new
             ≡ in_world (with_object number (with_words words.items)) (activity_seen self.old)) }
     {
@@ -53,18 +53,18 @@ impl Activity {
         ensures left { OnOk result ((activity_seen self.now).world.last < max_number) }
     {
         if self.world.objects.len() >= MAX_OBJECTS {
-            return Err(RunError::Raised(Exception::ObjectLimit));
+            return Err(RunError::Raising(Exception::ObjectLimit));
         }
         if self.world.last == u64::MAX {
-            return Err(RunError::Raised(Exception::NumbersSpent));
+            return Err(RunError::Raising(Exception::NumbersSpent));
         }
         Ok(())
     }
 
     /// Makes an object, which gets the number after the last.
     pub fn make(&mut self, object: Object) -> RunResult<u64>
-        requires { (activity_seen self.old).world.last < max_number }
-        ensures { RunsAs (λ n. n) result (activity_seen self.new)
+        requires left { (activity_seen self.old).world.last < max_number }
+        ensures made { RunsAs (λ n. n) result (activity_seen self.new)
             (make (object_seen object) (activity_seen self.old)) }
     {
         let number = self.world.last + 1;

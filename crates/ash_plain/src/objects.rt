@@ -53,7 +53,7 @@ fn is_among(numbers: &[u64], number: u64) -> bool
 }
 
 /// Appends an event for each host object that is not among those that were found, by ascending number.
-fn report(
+fn push_dropped(
     entries: &BTreeMap<u64, Object>,
     found: &[u64],
     events: &mut Vec<Event>,
@@ -70,7 +70,7 @@ fn report(
 }
 
 /// Takes away all objects but those that were found.
-fn keep(entries: &mut BTreeMap<u64, Object>, found: &[u64])
+fn retain_found(entries: &mut BTreeMap<u64, Object>, found: &[u64])
     ensures { entries.new.entries ≡ filter (λ e. is_among found.now e.0) entries.old.entries }
 {
     entries.retain(|number, _| is_among(found, *number));
@@ -79,7 +79,7 @@ fn keep(entries: &mut BTreeMap<u64, Object>, found: &[u64])
 impl Objects {
     /// No objects.
     pub fn new(alloc: Global) -> Objects
-        ensures { result ≡ [] }
+        ensures empty { result ≡ [] }
     {
         Objects {
             entries: BTreeMap::new(alloc),
@@ -88,21 +88,22 @@ impl Objects {
 
     /// How many live.
     pub fn len(&self) -> usize
-        ensures { result ≡ length self.now }
+        ensures count { result ≡ length self.now }
     {
         self.entries.len()
     }
 
     /// The object of a number, where one lives by it.
     pub fn get(&self, number: u64) -> Option<&Object>
-        ensures { option_map (λ object. object_seen object.now) result ≡ object_at number self.now }
+        ensures object { option_map (λ object. object_seen object.now) result
+            ≡ object_at number self.now }
     {
         self.entries.get(&number)
     }
 
     /// Puts an object at a number.
     pub fn insert(&mut self, number: u64, object: Object) -> Result<(), AllocError>
-        ensures { OnOk result (self.new ≡ with_at number (object_seen object) self.old) }
+        ensures inserted { OnOk result (self.new ≡ with_at number (object_seen object) self.old) }
     {
         self.entries.insert(number, object)?;
         Ok(())
@@ -110,7 +111,7 @@ impl Objects {
 
     /// The words of an object; none where none lives by the number.
     pub fn words(&self, number: u64) -> &[Word]
-        ensures { result.now ≡ option_map_or fields_of (object_at number self.now) [] }
+        ensures words { result.now ≡ option_map_or fields_of (object_at number self.now) [] }
     {
         match self.get(number) {
             Some(object) => object.words(),
@@ -163,7 +164,7 @@ impl Objects {
     }
 
     /// The live objects that can be reached from these.
-    fn reached(&self, alloc: Global, held: &[u64]) -> Result<Vec<u64>, AllocError>
+    fn find_reachable(&self, alloc: Global, held: &[u64]) -> Result<Vec<u64>, AllocError>
         ensures { IfOk result (λ found. (number : ℕ) → IsSome (object_at number self.now)
             → is_among found.items number ≡ is_reachable held.now self.now number) }
     {
@@ -191,9 +192,9 @@ impl Objects {
         ensures events { OnOk result (events.new.items
             ≡ events.old.items ++ map Dropped (drops_of_sweep held.now self.old)) }
     {
-        let found = self.reached(alloc, held)?;
-        report(&self.entries, &found, events)?;
-        keep(&mut self.entries, &found);
+        let found = self.find_reachable(alloc, held)?;
+        push_dropped(&self.entries, &found, events)?;
+        retain_found(&mut self.entries, &found);
         Ok(())
     }
 }

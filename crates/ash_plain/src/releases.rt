@@ -64,7 +64,7 @@ impl World {
     /// The release point at the end of a run: all frames are given up at once.
     #[tactic(auto, unfolding(ash_phrases::specs::Releases::sweep))]
     pub fn give_up_frames(&mut self, alloc: Global) -> Result<(), AllocError>
-        ensures { OnOk result (world_seen self.new ≡ sweep [] (world_seen self.old)) }
+        ensures swept { OnOk result (world_seen self.new ≡ sweep [] (world_seen self.old)) }
     {
         let mut held = Vec::from_slice(alloc, &self.outside)?;
         push_handles(&self.globals, &mut held)?;
@@ -116,7 +116,7 @@ impl Activity {
     /// A release point: what can't be reached goes.
     #[tactic(auto, unfolding(crate::specs::Views::activity_seen, ash_phrases::specs::Releases::release, ash_phrases::specs::Releases::sweep))]
     pub fn release(&mut self) -> RunResult<()>
-        ensures { RunsAs (λ _. tt) result (activity_seen self.new)
+        ensures released { RunsAs (λ _. tt) result (activity_seen self.new)
             (release (activity_seen self.old)) }
     {
         let alloc = self.alloc;
@@ -128,7 +128,7 @@ impl Activity {
 
     /// The end of a full expression: nothing is held any more.
     pub fn end_expression(&mut self) -> RunResult<()>
-        ensures { RunsAs (λ _. tt) result (activity_seen self.new)
+        ensures held_no_more { RunsAs (λ _. tt) result (activity_seen self.new)
             (end_expression (activity_seen self.old)) }
     {
         self.frame.held.clear();
@@ -137,14 +137,14 @@ impl Activity {
 
     /// How many locals there are.
     pub fn count_locals(&self) -> usize
-        ensures { result ≡ length (activity_seen self.now).frame.locals }
+        ensures count { result ≡ length (activity_seen self.now).frame.locals }
     {
         self.frame.locals.len()
     }
 
     /// One more local.
     pub fn declare(&mut self, word: Word) -> Result<(), AllocError>
-        ensures { OnOk result (activity_seen self.new
+        ensures declared { OnOk result (activity_seen self.new
             ≡ in_frame (declaring word) (activity_seen self.old)) }
     {
         self.frame.locals.push(word)?;
@@ -153,7 +153,8 @@ impl Activity {
 
     /// Leaves blocks, whose locals are those after the first so many.
     pub fn leave_blocks(&mut self, count: usize)
-        ensures { activity_seen self.new ≡ in_frame (keeping count) (activity_seen self.old) }
+        ensures truncated { activity_seen self.new
+            ≡ in_frame (keeping count) (activity_seen self.old) }
     {
         self.frame.locals.truncate(count);
     }

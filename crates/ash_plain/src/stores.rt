@@ -30,14 +30,14 @@ impl Activity {
     {
         match calculated_by(calculation.operator, calculation.of, left, right) {
             Ok(word) => Ok(word),
-            Err(DivisionFault::ByZero) => Err(RunError::Raised(Exception::DivideByZero)),
-            Err(DivisionFault::Overflow) => Err(RunError::Raised(Exception::DivideOverflow)),
+            Err(DivisionFault::ByZero) => Err(RunError::Raising(Exception::DivideByZero)),
+            Err(DivisionFault::Overflow) => Err(RunError::Raising(Exception::DivideOverflow)),
         }
     }
 
     /// What an operator makes of two operands.
     pub fn operate(&self, operation: Operation, left: Word, right: Word) -> RunResult<Word>
-        ensures { RunsAs (λ w. w) result (activity_seen self.now)
+        ensures operated { RunsAs (λ w. w) result (activity_seen self.now)
             (operate operation left right (activity_seen self.now)) }
     {
         match operation {
@@ -50,7 +50,7 @@ impl Activity {
 
     /// Stores a value, and gives it.
     pub fn store(&mut self, word: Word, location: Location) -> RunResult<Word>
-        ensures { RunsAs (λ w. w) result (activity_seen self.new)
+        ensures stored { RunsAs (λ w. w) result (activity_seen self.new)
             (store word (location_seen location) (activity_seen self.old)) }
     {
         self.write(location, word)?;
@@ -65,7 +65,7 @@ impl Activity {
         right: Word,
         location: Location,
     ) -> RunResult<Word>
-        ensures { RunsAs (λ w. w) result (activity_seen self.new)
+        ensures updated { RunsAs (λ w. w) result (activity_seen self.new)
             (update int_type calculation right (location_seen location) (activity_seen self.old)) }
     {
         let left = self.read(location)?;
@@ -75,7 +75,7 @@ impl Activity {
 
     /// `++` or `--` at a location.
     pub fn count_at(&mut self, int_type: IntType, step: Step, location: Location) -> RunResult<Word>
-        ensures { RunsAs (λ w. w) result (activity_seen self.new)
+        ensures stepped { RunsAs (λ w. w) result (activity_seen self.new)
             (count_at int_type step (location_seen location) (activity_seen self.old)) }
     {
         let old = self.read(location)?;
@@ -86,7 +86,7 @@ impl Activity {
 
     /// Writes a field of the object whose method runs.
     pub fn write_field(&mut self, place: usize, word: Word) -> RunResult<()>
-        ensures { RunsAs (λ _. tt) result (activity_seen self.new)
+        ensures written { RunsAs (λ _. tt) result (activity_seen self.new)
             (write_field place word (activity_seen self.old)) }
     {
         let this = self.this();

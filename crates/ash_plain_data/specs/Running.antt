@@ -8,7 +8,7 @@ use Rattle.ash_plain_data.specs.declared.run_error.RunError.TheVariants as error
 -- The code ends by an error as the phrase ends, at the activity that it leaves. Where memory ran out, nothing
 -- is said.
 abbrev pub FailsAs : {A : Type 0} → RunError → Activity → Progress A → Type 0
-FailsAs (errors.Raised exception) activity progress = progress ≡ Ended (Raising exception) activity
+FailsAs (errors.Raising exception) activity progress = progress ≡ Ended (Raising exception) activity
 FailsAs errors.OutOfTicks activity progress = progress ≡ Ended OutOfTicks activity
 FailsAs errors.NoStep activity progress = progress ≡ NoStep
 FailsAs errors.NoMemory activity progress = Unit {0}

@@ -1,7 +1,7 @@
-//! What a module's names stand for while it runs: places of classes, what class an object is of, what a call enters.
+//! What the names of a module mean while it runs: places of classes, what class an object is of, what a call enters.
 
-ghost use Rattle.std.specs.Prelude.{◌≡◌, map, option_map, slice_get, count_by, nat_le, nat_eq, find, position, IfOk};
-ghost use Rattle.std.specs.Prelude.{string_bytes};
+ghost use Rattle.std.specs.Prelude.{◌≡◌, map, option_map, slice_get, count_by, nat_le, nat_eq, find, position};
+ghost use Rattle.std.specs.Prelude.{string_bytes, IfOk};
 ghost use Rattle.std.specs.List.{position_from, range_with_len};
 ghost use Rattle.ash_host.specs.Objects.{Handles};
 ghost use Rattle.ash_typed.specs.Modules.{function_of, interface_of, implementation_of, class_of as class_seen};
@@ -121,7 +121,7 @@ pub fn entry_of<'a>(
     tree: &'a Module,
     callee: Callee,
 ) -> Result<Option<Entry<'a>>, AllocError>
-    ensures { IfOk result (λ found. option_map entry_seen found
+    ensures entry { IfOk result (λ found. option_map entry_seen found
         ≡ entry_of (module_of tree.now) (callee_seen callee)) }
 {
     match callee {
@@ -226,12 +226,12 @@ fn implementation_in(tree: &Module, class: usize, interface: usize) -> Option<&I
         ≡ implementation_in (module_of tree.now) class interface }
 {
     match tree.classes.get(class) {
-        Some(class) => listed(&class.interfaces, interface),
+        Some(class) => find_implementation(&class.interfaces, interface),
         None => None,
     }
 }
 
-fn listed(all: &[Implementation], interface: usize) -> Option<&Implementation>
+fn find_implementation(all: &[Implementation], interface: usize) -> Option<&Implementation>
     ensures { option_map (λ i. implementation_of i.now) result
         ≡ find (λ i. nat_eq i.interface interface) (map implementation_of all.now) }
 {
@@ -245,7 +245,7 @@ fn listed(all: &[Implementation], interface: usize) -> Option<&Implementation>
 
 /// The method that a class has for a method of an interface.
 pub fn implemented(tree: &Module, interface: usize, method: usize, class: usize) -> Option<usize>
-    ensures { result ≡ implemented (module_of tree.now) interface method class }
+    ensures method { result ≡ implemented (module_of tree.now) interface method class }
 {
     match implementation_in(tree, class, interface) {
         Some(implementation) => implementation.methods.get(method).copied(),
@@ -279,7 +279,7 @@ fn blank_fields(alloc: Global, fields: &[Initialization]) -> Result<Vec<Word>, A
 impl Program<'_> {
     /// The class of an object, by its place among those of the module; none where it is of no class of this module.
     pub fn class_of(&self, object: &Object) -> Option<usize>
-        ensures { result ≡ class_of (program_seen self.now) (object_seen object.now) }
+        ensures class { result ≡ class_of (program_seen self.now) (object_seen object.now) }
     {
         match object {
             Object::Script { owner, place, .. } if owner.as_str() == self.name => {
@@ -291,7 +291,8 @@ impl Program<'_> {
 
     /// Whether an object is of a class or an interface.
     pub fn is_object_of(&self, of: ObjectType, object: &Object) -> bool
-        ensures { result ≡ is_object_of (program_seen self.now) of (object_seen object.now) }
+        ensures of_type { result
+            ≡ is_object_of (program_seen self.now) of (object_seen object.now) }
     {
         match self.class_of(object) {
             Some(class) => is_class_of(self.tree, of, class),
@@ -308,7 +309,8 @@ impl Program<'_> {
 
     /// What the elements of an array are of, as the array says it.
     pub fn element_of(&self, of: TypedElement) -> Result<Element, AllocError>
-        ensures { IfOk result (λ seen. element_seen seen ≡ element_of (program_seen self.now) of) }
+        ensures element { IfOk result (λ seen. element_seen seen
+            ≡ element_of (program_seen self.now) of) }
     {
         match of {
             TypedElement::Bool => Ok(Element::Bools),
@@ -330,7 +332,7 @@ impl Program<'_> {
 
     /// A new object of a class, with nothing in its fields.
     pub fn blank(&self, place: usize, class: &Class) -> Result<Object, AllocError>
-        ensures { IfOk result (λ object. object_seen object
+        ensures zeros { IfOk result (λ object. object_seen object
             ≡ blank (program_seen self.now) place (class_seen class.now)) }
     {
         let place = place_of_class(self.tree, place)?;

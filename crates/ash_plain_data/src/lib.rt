@@ -6,7 +6,7 @@
 //! run before its value is `RunError`: `RunsAs` in `specs/Running.antt` says of a run of code that it runs as a phrase.
 //!
 //! In reading order: `run_error` (why a run ends), `object`, `host_call`, `operators`, `same` (whether two calls of
-//! hosts are one), `classes` (what a module's names stand for, and what a call enters).
+//! hosts are one), `classes` (what the names of a module mean, and what a call enters).
 #![tactic(auto)]
 
 pub mod classes;

@@ -67,7 +67,7 @@ impl Element {
 impl Object {
     /// The fields, or the elements; a host object has none.
     pub fn words(&self) -> &[Word]
-        ensures { result.now ≡ fields_of (object_seen self.now) }
+        ensures words { result.now ≡ fields_of (object_seen self.now) }
     {
         match self {
             Object::Script { fields, .. } => fields.as_slice(),
@@ -78,7 +78,7 @@ impl Object {
 
     /// Whether it is of the embedding program.
     pub fn is_host(&self) -> bool
-        ensures { result ≡ is_host (object_seen self.now) }
+        ensures host { result ≡ is_host (object_seen self.now) }
     {
         match self {
             Object::Script { .. } | Object::Array { .. } => false,
@@ -88,7 +88,7 @@ impl Object {
 
     /// The same object with other words. A host object has none, and stays as it is.
     pub fn with_words(&self, alloc: Global, words: Vec<Word>) -> Result<Object, AllocError>
-        ensures { IfOk result (λ object. object_seen object
+        ensures words { IfOk result (λ object. object_seen object
             ≡ with_words words.items (object_seen self.now)) }
     {
         match self {
@@ -116,7 +116,7 @@ impl Object {
 
     /// The same object in another state, where it is a host object.
     pub fn with_state(&self, alloc: Global, state: Vec<u8>) -> Result<Object, AllocError>
-        ensures { IfOk result (λ object. object_seen object
+        ensures state { IfOk result (λ object. object_seen object
             ≡ with_state_in state.items (object_seen self.now)) }
     {
         match self {

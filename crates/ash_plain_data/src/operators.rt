@@ -16,21 +16,21 @@ use ash_typed::{Calculator, Change, Comparator, Conversion, Operands, Step, VarT
 
 /// A number that a script writes.
 pub fn numeral(int_type: IntType, value: u64) -> Word
-    ensures { result ≡ word_at int_type (pos value) }
+    ensures word { result ≡ word_at int_type (pos value) }
 {
     word_from(int_type, i128::from(value))
 }
 
 /// A word of any integer type, converted.
 pub fn converted_to(int_type: IntType, word: Word) -> Word
-    ensures { result ≡ converted_to int_type word }
+    ensures converted { result ≡ converted_to int_type word }
 {
     convert(int_type, word)
 }
 
 /// A word, converted where a conversion is named.
 pub fn converted_by(conversion: Option<Conversion>, word: Word) -> Word
-    ensures { result ≡ converted_by conversion word }
+    ensures converted { result ≡ converted_by conversion word }
 {
     match conversion {
         None => word,
@@ -40,7 +40,7 @@ pub fn converted_by(conversion: Option<Conversion>, word: Word) -> Word
 
 /// What a variable holds before anything is written to it.
 pub fn zero_of(of: VarType) -> Word
-    ensures { result ≡ zero_of of }
+    ensures initial { result ≡ zero_of of }
 {
     match of {
         VarType::Bool => Word::Bool(false),
@@ -51,7 +51,7 @@ pub fn zero_of(of: VarType) -> Word
 
 /// Whether a word is `true`.
 pub fn is_true(word: Word) -> bool
-    ensures { result ≡ is_true word }
+    ensures truth { result ≡ is_true word }
 {
     match word {
         Word::Bool(value) => value,
@@ -66,7 +66,7 @@ pub fn calculated_by(
     left: Word,
     right: Word,
 ) -> Result<Word, DivisionFault>
-    ensures { result ≡ calculated_by calculator of left right }
+    ensures calculated { result ≡ calculated_by calculator of left right }
 {
     match calculator {
         Calculator::Multiply => calculate(Arithmetic::Multiply, of, left, right),
@@ -101,7 +101,7 @@ fn holds_of_numbers(comparator: Comparator, left: Word, right: Word) -> bool
 
 /// Whether two words are one.
 pub fn is_same_word(left: Word, right: Word) -> bool
-    ensures { result ≡ is_same_word left right }
+    ensures same { result ≡ is_same_word left right }
 {
     match (left, right) {
         (Word::Bool(left), Word::Bool(right)) => left == right,
@@ -127,7 +127,7 @@ fn holds_of_words(comparator: Comparator, left: Word, right: Word) -> bool
 
 /// Whether a comparison holds.
 pub fn holds(comparator: Comparator, of: Operands, left: Word, right: Word) -> bool
-    ensures { result ≡ holds comparator of left right }
+    ensures compared { result ≡ holds comparator of left right }
 {
     match of {
         Operands::Integers(_) => holds_of_numbers(comparator, left, right),
@@ -137,7 +137,7 @@ pub fn holds(comparator: Comparator, of: Operands, left: Word, right: Word) -> b
 
 /// What an operation before its operand gives.
 pub fn altered(change: Change, word: Word) -> Word
-    ensures { result ≡ altered change word }
+    ensures changed { result ≡ altered change word }
 {
     match change {
         Change::Negate(int_type) => negate(int_type, word),
@@ -148,7 +148,7 @@ pub fn altered(change: Change, word: Word) -> Word
 
 /// What `++` and `--` leave in a place of this type.
 pub fn counted(step: Step, int_type: IntType, word: Word) -> Word
-    ensures { result ≡ counted step int_type word }
+    ensures stepped { result ≡ counted step int_type word }
 {
     let number = number(word);
     match step {
@@ -159,7 +159,7 @@ pub fn counted(step: Step, int_type: IntType, word: Word) -> Word
 
 /// Which of the values of its place `++` or `--` gives.
 pub fn given_by(step: Step, old: Word, new: Word) -> Word
-    ensures { result ≡ given_by step old new }
+    ensures given { result ≡ given_by step old new }
 {
     match step {
         Step::Increment | Step::Decrement => new,

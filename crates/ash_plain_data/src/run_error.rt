@@ -10,7 +10,7 @@ use std::alloc::{AllocError, AllocFailed};
 #[derive(Clone, Copy, Debug)]
 pub enum RunError {
     /// The script raised an exception.
-    Raised(Exception),
+    Raising(Exception),
     /// A tick was to be taken where none was left.
     OutOfTicks,
     /// The meaning has no step: no host answer is left, or the next is of another call, or something is named that is

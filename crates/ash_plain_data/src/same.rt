@@ -69,7 +69,7 @@ fn is_same_target(one: Target, other: Target) -> bool
 
 /// Whether a record is of this call, made at this state.
 pub fn is_of(target: Target, call: &HostCall, before: &[u8], record: &HostRecord) -> bool
-    ensures { result ≡ is_of target (call_seen call.now) before.now (record_seen record.now) }
+    ensures same { result ≡ is_of target (call_seen call.now) before.now (record_seen record.now) }
 {
     is_same_target(record.target, target)
         && is_same_call(&record.call, call)

@@ -17,5 +17,5 @@ returns c =
     let object = Host c.take_box-kind.result.kind c.take_box-kind.result.state.items in
     draw_box c.args.kind c.in-Some.place (box_seen c.take_box-kind.result) a c.in_ok-demand_number.ensures.runs (sym c.place_of_kind.ensures.place ∙ c.in-Some.is) c.take_box-kind.ensures.free
     ∙ ap (λ (b : Activity). onward (make object b) noted) (sym c.take_box-kind.ensures.taken)
-    ∙ ap (λ (p : Progress _). onward p noted) c.in_ok-number.ensures
-    ∙ ap (Done c.in_ok-number.number) (sym c.in_ok-note.ensures)
+    ∙ ap (λ (p : Progress _). onward p noted) c.in_ok-number.ensures.made
+    ∙ ap (Done c.in_ok-number.number) (sym c.in_ok-push_event.ensures)

@@ -5,4 +5,4 @@ use Rattle.ash_plain.proofs.objects.Objects.get.Goals as goal
 
 pub returns : goal.returns
 returns c =
-    found_at c.args.number c.self.inside.entries.entries c.get.result c.get.ensures.value ∙ ap (object_at c.args.number) c.self.view_is
+    record { object = found_at c.args.number c.self.inside.entries.entries c.get.result c.get.ensures.value ∙ ap (object_at c.args.number) c.self.view_is }

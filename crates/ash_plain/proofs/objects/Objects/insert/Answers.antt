@@ -6,6 +6,9 @@ use Rattle.ash_plain.proofs.objects.Objects.insert.Goals as goal
 
 pub returns : goal.returns
 returns c =
-    ap (map entry_seen) c.in_ok-insert.ensures.entries
-    ∙ seen_with c.args.number c.args.object c.self.inside.entries.entries
-    ∙ ap (with_at c.args.number (object_seen c.args.object)) c.self.view_is
+    record {
+      inserted =
+          ap (map entry_seen) c.in_ok-insert.ensures.entries
+          ∙ seen_with c.args.number c.args.object c.self.inside.entries.entries
+          ∙ ap (with_at c.args.number (object_seen c.args.object)) c.self.view_is;
+    }

@@ -1,7 +1,7 @@
 use Rattle.std.proofs.Common.{◌≡◌, List, sym, ap, subst, ◌∙◌, arith, rules}
 use Rattle.ash_plain.specs.Sweeping.{with_found}
 use Rattle.ash_plain.proofs.Sweeps.{IsSearch, search_begins, search_step, search_bounded, search_ends}
-use Rattle.ash_plain.proofs.objects.Objects.reached.Goals as goal
+use Rattle.ash_plain.proofs.objects.Objects.find_reachable.Goals as goal
 
 pub loop-next-init : goal.loop-next-init
 loop-next-init c =
@@ -14,7 +14,7 @@ loop-next-smaller c =
 
 pub loop-next-preserved : goal.loop-next-preserved
 loop-next-preserved c =
-    search_step c.args.self.now c.args.held.now c.loop-next.found.items c.loop-next.next c.index.result.now c.words.result.now c.deref.result.now c.find_all-in-loop-next.new.found.items (omega (arith, c.len.ensures, c.loop-next-test.true, c.loop-next.found.ok.0)) c.index.ensures c.words.ensures (search rules) c.in_ok-find_all-2.ensures c.loop-next.invariant
+    search_step c.args.self.now c.args.held.now c.loop-next.found.items c.loop-next.next c.index.result.now c.words.result.now c.deref.result.now c.find_all-in-loop-next.new.found.items (omega (arith, c.len.ensures, c.loop-next-test.true, c.loop-next.found.ok.0)) c.index.ensures c.words.ensures.words (search rules) c.in_ok-find_all-2.ensures c.loop-next.invariant
 
 pub returns : goal.returns
 returns c =

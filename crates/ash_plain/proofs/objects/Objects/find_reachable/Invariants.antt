@@ -1,6 +1,6 @@
 use Rattle.std.proofs.Common.{◌-◌, length}
 use Rattle.ash_plain.proofs.Sweeps.{IsSearch}
-use Rattle.ash_plain.proofs.objects.Objects.reached.Given as goal
+use Rattle.ash_plain.proofs.objects.Objects.find_reachable.Given as goal
 
 abbrev pub invariant-loop-next : goal.invariant-loop-next
 invariant-loop-next l = IsSearch l.self l.held l.found.items l.next
