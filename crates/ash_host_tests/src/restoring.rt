@@ -37,9 +37,10 @@ static COUNTED: Sequence<'static> = Sequence {
         Step::HasCount(3, 2),
         Step::HasCount(5, 1),
         Step::IsGone(6),
+        Step::Sweep,
     ],
-    events: &[],
-    given_up: &[],
+    events: &[Event::Dropped(3), Event::Dropped(5)],
+    given_up: &[(11, 3), (12, 5)],
     with_the_table: &[(11, 3), (12, 5), (13, 0)],
 };
 
