@@ -4,8 +4,9 @@ use Rattle.ash_durable.proofs.Opened.{opened}
 use Rattle.ash_durable.proofs.host.Host.open.Goals as goal
 
 pub returns-in-Ok : goal.returns-in-Ok
-returns-in-Ok g c =
-    let state = c.in-Ok.found.state in
-    opened g.D.Disk g.met.D.Disk.seen_may_stay (registered c.args.registry) c.args.a c.args.b state
-    (record { registered = state.registered; state = Some state; seq = state.seq; journal = c.in-Ok.found.journal })
-    (record { registered_is = refl; state_is = refl; seq_is = refl }) c.in-Ok.ensures
+returns-in-Ok g c = record {
+  opened = let state = c.in-Ok.found.state in
+      opened g.D.Disk g.met.D.Disk.seen_may_stay (registered c.args.registry) c.args.a c.args.b state
+      (record { registered = state.registered; state = Some state; seq = state.seq; journal = c.in-Ok.found.journal })
+      (record { registered_is = refl; state_is = refl; seq_is = refl }) c.in-Ok.ensures;
+}
