@@ -33,9 +33,6 @@ MEMORY_GIVEN_OUT = 0.85
 # A chain is among the longest where it has at least this share of the lines of every other. Of a chain whose head is under
 # way, what comes after the head counts.
 NEAR = 0.7
-# The tasks whose lines take several times as long as those of others, as measured: no other tests have so many cases. They
-# take one job for so long that they must begin early.
-HEAVY = {("ash_host_tests", "tests"): 5}
 # How nice a task is to those of the longest chains, and an edit to all proofs.
 NICE, NICE_OF_EDITS = 10, 15
 
@@ -55,11 +52,11 @@ def fills(key):
 
 def behind(tasks):
     """For each task the lines of the longest chain of tasks that begins with it. A line of tests takes about as long as one
-    of code, but of heavy ones. A task comes after those it waits for."""
+    of code. A task comes after those it waits for."""
     lines = dict.fromkeys(tasks, 0)
     for key in reversed([*tasks]):
         waits_for, own = tasks[key][:2]
-        lines[key] += own * HEAVY.get(key, 1)
+        lines[key] += own
         for it in waits_for:
             lines[it] = max(lines[it], lines[key])
     return lines
