@@ -1,5 +1,6 @@
 //! Comparisons, each in one place, so that the tests that make them are proved quickly.
 
+use ash_registry::RegistryFault;
 use std::process::Abort;
 
 /// Compares a text with the one that is wanted of this row.
@@ -15,4 +16,14 @@ pub(crate) fn check_true(rt: &impl Abort, found: bool, row: &str) {
 /// Compares a number with the one that is wanted of this row.
 pub(crate) fn check_number(rt: &impl Abort, found: usize, wanted: usize, row: &str) {
     assert_eq!(rt; found, wanted, "at {row:?}");
+}
+
+/// Fails a test where a row is not met, and names that row by its place, or where a registration is refused.
+pub(crate) fn expect_all(rt: &impl Abort, unmet: Result<Option<usize>, RegistryFault>) {
+    assert_eq!(rt; unmet, Ok(None));
+}
+
+/// Fails a test where what it looks at is not met, or where a registration is refused.
+pub(crate) fn expect(rt: &impl Abort, is_met: Result<bool, RegistryFault>) {
+    assert_eq!(rt; is_met, Ok(true));
 }

@@ -9,7 +9,6 @@ use ash_parse::{
 use ash_tree::Module;
 use std::alloc::{AllocError, Global};
 use std::process::Abort;
-use std::test::*;
 
 /// `ok`, or a fault as it is printed.
 pub(crate) fn printed(alloc: Global, fault: Option<&ParseFault>) -> Result<String, AllocError> {
@@ -32,7 +31,7 @@ fn declaration_fault(alloc: Global, tokens: &[Token]) -> Option<ParseFault> {
 }
 
 /// How a registered declaration is parsed: `ok`, or its fault.
-fn declaration_outcome_of(alloc: Global, source: &str) -> Result<String, Fail> {
+fn declaration_outcome_of(alloc: Global, source: &str) -> Result<String, AllocError> {
     match lex(alloc, source) {
         Ok(tokens) => Ok(printed(alloc, declaration_fault(alloc, tokens.as_slice()).as_ref())?),
         Err(fault) => Ok(printed_fault(alloc, &fault)?),
@@ -40,7 +39,11 @@ fn declaration_outcome_of(alloc: Global, source: &str) -> Result<String, Fail> {
 }
 
 /// Each row has a registered declaration, and how it is parsed.
-fn check_declarations(rt: &impl Abort, alloc: Global, rows: &[(&str, &str)]) -> Result<(), Fail> {
+fn check_declarations(
+    rt: &impl Abort,
+    alloc: Global,
+    rows: &[(&str, &str)],
+) -> Result<(), AllocError> {
     for (source, wanted) in rows {
         let found = declaration_outcome_of(alloc, source)?;
         check_text(rt, found.as_str(), wanted, source);
@@ -48,31 +51,32 @@ fn check_declarations(rt: &impl Abort, alloc: Global, rows: &[(&str, &str)]) -> 
     Ok(())
 }
 
+static READS_DECLARATIONS: [(&str, &str); 22] = [
+    ("int add(int)", "ok"),
+    ("int add(int a, Foo@ b, bool)", "ok"),
+    ("void fail()", "ok"),
+    ("Foo@ make(int n)", "ok"),
+    ("int value", "ok"),
+    ("array<int>@ g(array<Foo@>, array<int>@ a)", "ok"),
+    ("array<int> value", "ok"),
+    ("int g(array<Foo>)", "104 Unexpected 15"),
+    ("int g(array<array<int>>)", "104 Unexpected 12"),
+    ("int g(array<int>>)", "104 Unexpected 15"),
+    ("int g(I@ i)", "ok"),
+    ("int g(cast<A> a)", "104 Unexpected 6"),
+    ("int g[2]", "104 Unexpected 5"),
+    ("int[] g()", "104 Unexpected 3"),
+    ("int g() : I", "104 Unexpected 8"),
+    ("interface I { }", "104 Unexpected 0"),
+    ("class A : I { }", "104 Unexpected 0"),
+    ("int g(", "104 Unexpected 6"),
+    ("int g() ;", "104 Unexpected 8"),
+    ("void x", "104 Unexpected 6"),
+    ("int if(int)", "104 Unexpected 4"),
+    ("double d", "105 Unsupported double 0"),
+];
+
 #[test]
-fn reads_declarations(rt: HostRuntime) -> Result<(), Fail> {
-    let rows = &[
-        ("int add(int)", "ok"),
-        ("int add(int a, Foo@ b, bool)", "ok"),
-        ("void fail()", "ok"),
-        ("Foo@ make(int n)", "ok"),
-        ("int value", "ok"),
-        ("array<int>@ g(array<Foo@>, array<int>@ a)", "ok"),
-        ("array<int> value", "ok"),
-        ("int g(array<Foo>)", "104 Unexpected 15"),
-        ("int g(array<array<int>>)", "104 Unexpected 12"),
-        ("int g(array<int>>)", "104 Unexpected 15"),
-        ("int g(I@ i)", "ok"),
-        ("int g(cast<A> a)", "104 Unexpected 6"),
-        ("int g[2]", "104 Unexpected 5"),
-        ("int[] g()", "104 Unexpected 3"),
-        ("int g() : I", "104 Unexpected 8"),
-        ("interface I { }", "104 Unexpected 0"),
-        ("class A : I { }", "104 Unexpected 0"),
-        ("int g(", "104 Unexpected 6"),
-        ("int g() ;", "104 Unexpected 8"),
-        ("void x", "104 Unexpected 6"),
-        ("int if(int)", "104 Unexpected 4"),
-        ("double d", "105 Unsupported double 0"),
-    ];
-    check_declarations(&rt, rt.alloc(), rows)
+fn reads_declarations(rt: HostRuntime) -> Result<(), AllocError> {
+    check_declarations(&rt, rt.alloc(), &READS_DECLARATIONS)
 }

@@ -2,14 +2,13 @@
 
 use crate::compare::{check_number, check_text, check_true};
 use crate::declarations::{parsed, printed};
-use crate::tokens::push_times;
+use crate::tokens::{printed_fault, push_times};
 use ash_lex::{MAX_SOURCE_BYTES, Token, lex};
 use std::alloc::{AllocError, Global};
 use std::process::Abort;
-use std::test::*;
 
 /// A source of the greatest length: a phrase again and again, and blanks after it.
-fn largest(alloc: Global, prefix: &str, phrase: &str, suffix: &str) -> Result<String, Fail> {
+fn largest(alloc: Global, prefix: &str, phrase: &str, suffix: &str) -> Result<String, AllocError> {
     let mut source = String::from_str(alloc, prefix)?;
     let free = MAX_SOURCE_BYTES
         .wrapping_sub(prefix.len())
@@ -23,7 +22,12 @@ fn largest(alloc: Global, prefix: &str, phrase: &str, suffix: &str) -> Result<St
 }
 
 /// Compares two trees of these tokens.
-fn check_trees(rt: &impl Abort, alloc: Global, tokens: &[Token], row: &str) -> Result<(), Fail> {
+fn check_trees(
+    rt: &impl Abort,
+    alloc: Global,
+    tokens: &[Token],
+    row: &str,
+) -> Result<(), AllocError> {
     let first = parsed(alloc, tokens);
     let second = parsed(alloc, tokens);
     let fault = printed(alloc, first.as_ref().err())?;
@@ -33,15 +37,23 @@ fn check_trees(rt: &impl Abort, alloc: Global, tokens: &[Token], row: &str) -> R
 }
 
 /// Compares two trees of a source.
-fn check(rt: &impl Abort, alloc: Global, source: &str, row: &str) -> Result<(), Fail> {
+fn check(rt: &impl Abort, alloc: Global, source: &str, row: &str) -> Result<(), AllocError> {
     check_number(rt, source.len(), 65_536, row);
-    let tokens = lex(alloc, source);
-    check_true(rt, tokens.is_ok(), row);
-    check_trees(rt, alloc, tokens?.as_slice(), row)
+    match lex(alloc, source) {
+        Ok(tokens) => check_trees(rt, alloc, tokens.as_slice(), row),
+        Err(fault) => {
+            check_text(rt, printed_fault(alloc, &fault)?.as_str(), "tokens", row);
+            Ok(())
+        }
+    }
 }
 
 /// Each row has what a source begins with, a phrase, and what it ends with.
-fn check_rows(rt: &impl Abort, alloc: Global, rows: &[(&str, &str, &str)]) -> Result<(), Fail> {
+fn check_rows(
+    rt: &impl Abort,
+    alloc: Global,
+    rows: &[(&str, &str, &str)],
+) -> Result<(), AllocError> {
     for (prefix, phrase, suffix) in rows {
         let source = largest(alloc, prefix, phrase, suffix)?;
         let row = format!(in alloc; "{prefix} {phrase} {suffix}")?;
@@ -51,7 +63,7 @@ fn check_rows(rt: &impl Abort, alloc: Global, rows: &[(&str, &str, &str)]) -> Re
 }
 
 #[test]
-fn largest_sources(rt: HostRuntime) -> Result<(), Fail> {
+fn largest_sources(rt: HostRuntime) -> Result<(), AllocError> {
     let rows = &[
         ("", " ", ""),
         ("", ";", ""),
@@ -86,7 +98,7 @@ fn deep_index(alloc: Global) -> Result<String, AllocError> {
 }
 
 #[test]
-fn largest_source_of_arrays_in_indexes(rt: HostRuntime) -> Result<(), Fail> {
+fn largest_source_of_arrays_in_indexes(rt: HostRuntime) -> Result<(), AllocError> {
     let phrase = deep_index(rt.alloc())?;
     let source = largest(rt.alloc(), "int a = b", phrase.as_str(), ";")?;
     check(&rt, rt.alloc(), source.as_str(), "arrays in indexes")

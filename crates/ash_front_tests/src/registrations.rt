@@ -1,22 +1,64 @@
 //! The registrations of the program, what is looked up among them, and the faults of others.
 
-use crate::compare::{check_text, check_true};
+use crate::compare::expect;
+use Call::{Factory, Function, Method, Property, Service, Type};
 use ash_registry::{Registry, RegistryFault};
 use std::alloc::{AllocError, Global};
-use std::process::Abort;
-use std::test::Fail;
+
+/// A registration.
+#[derive(Clone, Copy)]
+pub(crate) enum Call {
+    /// A type's name and its kind.
+    Type(&'static str, u16),
+    /// A service's kind.
+    Service(u16),
+    /// A factory's type and its declaration.
+    Factory(&'static str, &'static str),
+    /// A method's type, its declaration and its number.
+    Method(&'static str, &'static str, u16),
+    /// A property's type, its declaration and its number.
+    Property(&'static str, &'static str, u16),
+    /// The place of a function's service, its declaration and its number.
+    Function(u16, &'static str, u16),
+}
+
+pub(crate) fn register(registry: &mut Registry, call: Call) -> Result<(), RegistryFault> {
+    match call {
+        Type(name, kind) => registry.object_type(name, kind),
+        Service(kind) => {
+            registry.service(kind)?;
+            Ok(())
+        }
+        Factory(of, decl) => registry.factory(of, decl),
+        Method(of, decl, id) => registry.method(of, decl, id),
+        Property(of, decl, id) => registry.property(of, decl, id),
+        Function(service, decl, id) => registry.function(service, decl, id),
+    }
+}
 
 /// `Counter` and `Tally`, as the program registers them.
+static CALLS: [Call; 8] = [
+    Type("Counter", 1),
+    Factory("Counter", "Counter@ f(int)"),
+    Method("Counter", "int add(int)", 1),
+    Method("Counter", "void fail(int)", 2),
+    Property("Counter", "int value", 1),
+    Service(2),
+    Function(0, "int tally(int)", 1),
+    Function(0, "int total()", 2),
+];
+
+fn register_each(registry: &mut Registry, calls: &[Call]) -> Result<(), RegistryFault> {
+    for call in calls {
+        register(registry, *call)?;
+    }
+    Ok(())
+}
+
+/// These registrations.
 pub(crate) fn program(alloc: Global) -> Result<Registry, RegistryFault> {
     let mut registry = Registry::new(alloc);
-    registry.object_type("Counter", 1)?;
-    registry.factory("Counter", "Counter@ f(int)")?;
-    registry.method("Counter", "int add(int)", 1)?;
-    registry.method("Counter", "void fail(int)", 2)?;
-    registry.property("Counter", "int value", 1)?;
-    let index = registry.service(2)?;
-    registry.function(index as u16, "int tally(int)", 1)?;
-    registry.function(index as u16, "int total()", 2)?;
+    register_each(&mut registry, &CALLS)?;
     Ok(registry)
 }
 
@@ -57,7 +99,7 @@ fn has_factory(registry: &Registry, of: &str) -> bool {
 }
 
 /// Whether the text and the look-ups are those of the program's registrations.
-fn is_unchanged(registry: &Registry) -> Result<bool, AllocError> {
+pub(crate) fn is_unchanged(registry: &Registry) -> Result<bool, AllocError> {
     let is_text = registry.text() == PROGRAM;
     let found = count_named(registry, &["Counter", "tally", "total"]);
     let others = count_named(registry, &["X", "g", "int", "add", "value", "Other"]);
@@ -68,95 +110,33 @@ fn is_unchanged(registry: &Registry) -> Result<bool, AllocError> {
     Ok(is_text && has_names && is_made && has_kinds(registry, &[2])?)
 }
 
-/// A registration with this fault, which changed nothing.
-pub(crate) fn check_refused(
-    rt: &impl Abort,
-    registry: &Registry,
-    fault: Option<RegistryFault>,
-    wanted: &RegistryFault,
-    row: &str,
-) -> Result<(), Fail> {
-    assert_eq!(rt; fault.as_ref(), Some(wanted), "{row}");
-    assert!(rt; is_unchanged(registry)?, "changed by {row}");
-    Ok(())
+/// Whether the program's registrations have their text, and are found.
+fn are_found(alloc: Global) -> Result<bool, RegistryFault> {
+    let registry = program(alloc)?;
+    let has_kinds = registry.of_kind(2).is_some() && registry.of_kind(77).is_none();
+    Ok(is_unchanged(&registry)? && has_kinds)
 }
 
 #[test]
-fn the_program_registers(rt: HostRuntime) -> Result<(), Fail> {
-    let registry = program(rt.alloc())?;
-    check_text(&rt, registry.text(), PROGRAM, "the program");
-    check_true(&rt, is_unchanged(&registry)?, "the look-ups");
-    check_true(&rt, registry.of_kind(2).is_some(), "kind 2");
-    check_true(&rt, registry.of_kind(77).is_none(), "no kind 77");
-    Ok(())
+fn the_program_registers(rt: HostRuntime) {
+    expect(&rt, are_found(rt.alloc()));
 }
 
-/// The fault of a type's registration.
-pub(crate) fn type_fault(registry: &mut Registry, name: &str, kind: u16) -> Option<RegistryFault> {
-    registry.object_type(name, kind).err()
-}
+/// A method and a property.
+static ADDED: [Call; 2] = [
+    Method("Counter", "uint32 sum(int32 a, bool b, uint64)", 3),
+    Property("Counter", " int64 /* the */ total ", 3),
+];
 
-/// The fault of a service's registration.
-pub(crate) fn service_fault(registry: &mut Registry, kind: u16) -> Option<RegistryFault> {
-    registry.service(kind).err()
-}
-
-/// The fault of a method's registration.
-pub(crate) fn method_fault(
-    registry: &mut Registry,
-    of: &str,
-    decl: &str,
-    id: u16,
-) -> Option<RegistryFault> {
-    registry.method(of, decl, id).err()
-}
-
-/// The fault of a property's registration.
-pub(crate) fn property_fault(
-    registry: &mut Registry,
-    of: &str,
-    decl: &str,
-    id: u16,
-) -> Option<RegistryFault> {
-    registry.property(of, decl, id).err()
-}
-
-/// The fault of a factory's registration.
-pub(crate) fn factory_fault(
-    registry: &mut Registry,
-    of: &str,
-    decl: &str,
-) -> Option<RegistryFault> {
-    registry.factory(of, decl).err()
-}
-
-/// The fault of a function's registration.
-pub(crate) fn function_fault(
-    registry: &mut Registry,
-    service: u16,
-    decl: &str,
-    id: u16,
-) -> Option<RegistryFault> {
-    registry.function(service, decl, id).err()
-}
-
-/// The program's registrations, a method and a property.
-fn with_names_of_parameters(alloc: Global) -> Result<Registry, RegistryFault> {
+/// Whether what was added to the program's registrations has this text.
+fn adds_text(alloc: Global, wanted: &str) -> Result<bool, RegistryFault> {
     let mut registry = program(alloc)?;
-    registry.method("Counter", "uint32 sum(int32 a, bool b, uint64)", 3)?;
-    registry.property("Counter", " int64 /* the */ total ", 3)?;
-    Ok(registry)
+    register_each(&mut registry, &ADDED)?;
+    Ok(registry.text().strip_prefix(PROGRAM) == Some(wanted))
 }
 
 #[test]
-fn names_of_parameters_are_left_out(rt: HostRuntime) -> Result<(), Fail> {
-    let registry = with_names_of_parameters(rt.alloc())?;
-    let added = registry.text().strip_prefix(PROGRAM).unwrap_or("changed");
-    check_text(
-        &rt,
-        added,
-        "method Counter 3 uint sum(int,bool,uint64)\nproperty Counter 3 int64 total\n",
-        "what was added",
-    );
-    Ok(())
+fn names_of_parameters_are_left_out(rt: HostRuntime) {
+    let added = "method Counter 3 uint sum(int,bool,uint64)\nproperty Counter 3 int64 total\n";
+    expect(&rt, adds_text(rt.alloc(), added));
 }

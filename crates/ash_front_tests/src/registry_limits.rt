@@ -1,46 +1,26 @@
 //! The limits of a registry: how many services, types, members and functions, and the length of its text.
 
-use crate::compare::{check_number, check_text, check_true};
-use crate::registrations::{method_fault, program, property_fault, service_fault};
+use crate::compare::expect;
+use crate::registrations::program;
 use crate::tokens::push_times;
 use ash_registry::{Registry, RegistryFault};
 use std::alloc::{AllocError, Global};
-use std::process::Abort;
-use std::test::Fail;
 
-/// Compares how a registration ended, and the text after it.
-fn check_limit(
-    rt: &impl Abort,
-    registry: &Registry,
-    fault: Option<RegistryFault>,
-    before: &str,
-    row: &str,
-) {
-    check_fault(rt, fault, RegistryFault::TooMany, row);
-    check_text(rt, registry.text(), before, row);
+/// What a registry has a limited number of.
+#[derive(Clone, Copy)]
+enum Sort {
+    Services,
+    Types,
+    Members,
+    Functions,
 }
 
-/// Compares a registration's fault.
-fn check_fault(rt: &impl Abort, fault: Option<RegistryFault>, wanted: RegistryFault, row: &str) {
-    assert_eq!(rt; fault, Some(wanted), "{row}");
-}
-
-/// Registers a service of each of these kinds, from the place 1 on.
-fn add_services(rt: &impl Abort, registry: &mut Registry) {
-    for kind in 3u16..18 {
-        let place = registry.service(kind).unwrap_or(0);
-        check_number(rt, place, (kind as usize).wrapping_sub(2), "a service");
+/// Registers the service of a kind, whose place is 2 less than its kind.
+fn add_service(registry: &mut Registry, kind: u16) -> Result<(), RegistryFault> {
+    let place = registry.service(kind)?;
+    if place.wrapping_add(2) != usize::from(kind) {
+        return Err(RegistryFault::NoService);
     }
-}
-
-#[test]
-fn one_service_too_many(rt: HostRuntime) -> Result<(), Fail> {
-    let mut registry = program(rt.alloc())?;
-    add_services(&rt, &mut registry);
-    let before = registry.text().to_string(rt.alloc())?;
-    let fault = service_fault(&mut registry, 18);
-    check_limit(&rt, &registry, fault, before.as_str(), "service 18");
-    check_number(&rt, registry.service_kinds()?.len(), 16, "services");
     Ok(())
 }
 
@@ -50,47 +30,10 @@ fn add_type(alloc: Global, registry: &mut Registry, kind: u16) -> Result<(), Reg
     registry.object_type(name.as_str(), kind)
 }
 
-/// Looks for one name that is registered, and one that is not.
-fn check_names(rt: &impl Abort, registry: &Registry, last: &str, none: &str) {
-    check_true(rt, registry.named(last).is_some(), last);
-    check_true(rt, registry.named(none).is_none(), none);
-}
-
-#[test]
-fn one_type_too_many(rt: HostRuntime) -> Result<(), Fail> {
-    let mut registry = program(rt.alloc())?;
-    for kind in 3u16..258 {
-        add_type(rt.alloc(), &mut registry, kind)?;
-    }
-    let before = registry.text().to_string(rt.alloc())?;
-    let fault = add_type(rt.alloc(), &mut registry, 258).err();
-    check_limit(&rt, &registry, fault, before.as_str(), "type T258");
-    check_names(&rt, &registry, "T257", "T258");
-    Ok(())
-}
-
 /// Registers the method of a number.
 fn add_method(alloc: Global, registry: &mut Registry, id: u16) -> Result<(), RegistryFault> {
     let decl = format!(in alloc; "void m{id}()")?;
     registry.method("Counter", decl.as_str(), id)
-}
-
-#[test]
-fn one_member_too_many(rt: HostRuntime) -> Result<(), Fail> {
-    let mut registry = program(rt.alloc())?;
-    for id in 3u16..32 {
-        add_method(rt.alloc(), &mut registry, id)?;
-    }
-    let before = registry.text().to_string(rt.alloc())?;
-    let fault = add_method(rt.alloc(), &mut registry, 32).err();
-    check_limit(&rt, &registry, fault, before.as_str(), "method m32");
-    let fault = property_fault(&mut registry, "Counter", "int p", 2);
-    check_limit(&rt, &registry, fault, before.as_str(), "property p");
-    let is_last = registry.member("Counter", "m31").is_some();
-    check_true(&rt, is_last, "member m31");
-    let is_none = registry.member("Counter", "m32").is_none();
-    check_true(&rt, is_none, "no member m32");
-    Ok(())
 }
 
 /// Registers the function of a number.
@@ -99,17 +42,95 @@ fn add_function(alloc: Global, registry: &mut Registry, id: u16) -> Result<(), R
     registry.function(0, decl.as_str(), id)
 }
 
-#[test]
-fn one_function_too_many(rt: HostRuntime) -> Result<(), Fail> {
-    let mut registry = program(rt.alloc())?;
-    for id in 3u16..257 {
-        add_function(rt.alloc(), &mut registry, id)?;
+/// Registers the one of a sort with this number.
+fn add(alloc: Global, registry: &mut Registry, sort: Sort, id: u16) -> Result<(), RegistryFault> {
+    match sort {
+        Sort::Services => add_service(registry, id),
+        Sort::Types => add_type(alloc, registry, id),
+        Sort::Members => add_method(alloc, registry, id),
+        Sort::Functions => add_function(alloc, registry, id),
     }
-    let before = registry.text().to_string(rt.alloc())?;
-    let fault = add_function(rt.alloc(), &mut registry, 257).err();
-    check_limit(&rt, &registry, fault, before.as_str(), "function f257");
-    check_names(&rt, &registry, "f256", "f257");
+}
+
+/// Registers those of a sort with the numbers from 3 to the one before this.
+fn fill(alloc: Global, registry: &mut Registry, sort: Sort, end: u16) -> Result<(), RegistryFault> {
+    for id in 3..end {
+        add(alloc, registry, sort, id)?;
+    }
     Ok(())
+}
+
+/// Whether there may be those of a sort with the numbers below this one, and the next is one too many and changes
+/// nothing.
+fn is_limit(
+    alloc: Global,
+    registry: &mut Registry,
+    sort: Sort,
+    end: u16,
+) -> Result<bool, RegistryFault> {
+    fill(alloc, registry, sort, end)?;
+    let before = registry.text().to_string(alloc)?;
+    let answer = add(alloc, registry, sort, end);
+    Ok(answer == Err(RegistryFault::TooMany) && registry.text() == before.as_str())
+}
+
+fn is_limit_of_services(alloc: Global) -> Result<bool, RegistryFault> {
+    let mut registry = program(alloc)?;
+    let is_limit = is_limit(alloc, &mut registry, Sort::Services, 18)?;
+    let kinds = registry.service_kinds()?.len();
+    Ok(is_limit && kinds == 16)
+}
+
+#[test]
+fn one_service_too_many(rt: HostRuntime) {
+    expect(&rt, is_limit_of_services(rt.alloc()));
+}
+
+/// Whether one name is registered, and the other is not.
+fn has_names(registry: &Registry, last: &str, none: &str) -> bool {
+    registry.named(last).is_some() && registry.named(none).is_none()
+}
+
+fn is_limit_of_types(alloc: Global) -> Result<bool, RegistryFault> {
+    let mut registry = program(alloc)?;
+    let is_limit = is_limit(alloc, &mut registry, Sort::Types, 258)?;
+    Ok(is_limit && has_names(&registry, "T257", "T258"))
+}
+
+#[test]
+fn one_type_too_many(rt: HostRuntime) {
+    expect(&rt, is_limit_of_types(rt.alloc()));
+}
+
+/// Whether a property is one member too many, and changes nothing.
+fn refuses_property(alloc: Global, registry: &mut Registry) -> Result<bool, RegistryFault> {
+    let before = registry.text().to_string(alloc)?;
+    let answer = registry.property("Counter", "int p", 2);
+    Ok(answer == Err(RegistryFault::TooMany) && registry.text() == before.as_str())
+}
+
+fn is_limit_of_members(alloc: Global) -> Result<bool, RegistryFault> {
+    let mut registry = program(alloc)?;
+    let is_limit = is_limit(alloc, &mut registry, Sort::Members, 32)?;
+    let is_full = refuses_property(alloc, &mut registry)?;
+    let is_last = registry.member("Counter", "m31").is_some();
+    Ok(is_limit && is_full && is_last && registry.member("Counter", "m32").is_none())
+}
+
+#[test]
+fn one_member_too_many(rt: HostRuntime) {
+    expect(&rt, is_limit_of_members(rt.alloc()));
+}
+
+fn is_limit_of_functions(alloc: Global) -> Result<bool, RegistryFault> {
+    let mut registry = program(alloc)?;
+    let is_limit = is_limit(alloc, &mut registry, Sort::Functions, 257)?;
+    Ok(is_limit && has_names(&registry, "f256", "f257"))
+}
+
+#[test]
+fn one_function_too_many(rt: HostRuntime) {
+    expect(&rt, is_limit_of_functions(rt.alloc()));
 }
 
 /// Registers a type whose name ends in many `x`, of this length or as long as a name may be.
@@ -125,6 +146,14 @@ fn long_type(
     registry.object_type(name.as_str(), kind)
 }
 
+/// Registers long types, after which a name has room for fewer bytes.
+fn fill_text(alloc: Global, registry: &mut Registry) -> Result<(), RegistryFault> {
+    for kind in 100..117 {
+        long_type(alloc, registry, kind, 60_000)?;
+    }
+    Ok(())
+}
+
 /// How long a name may be.
 fn free_bytes(registry: &Registry) -> usize {
     1_048_576usize
@@ -132,23 +161,31 @@ fn free_bytes(registry: &Registry) -> usize {
         .saturating_sub("type  117\n".len())
 }
 
-#[test]
-fn a_text_of_1_048_576_bytes_is_the_longest(rt: HostRuntime) -> Result<(), Fail> {
-    let alloc = rt.alloc();
+/// Whether a name may have as many bytes as are free, and not one more.
+fn takes_the_rest(alloc: Global, registry: &mut Registry) -> Result<bool, RegistryFault> {
+    let name = free_bytes(registry);
+    let answer = long_type(alloc, registry, 117, name.wrapping_add(1));
+    long_type(alloc, registry, 117, name)?;
+    Ok(answer == Err(RegistryFault::TooMany) && registry.text().len() == 1_048_576)
+}
+
+/// Whether a service is refused where the text is the longest, and changes nothing.
+fn refuses_service(registry: &mut Registry) -> Result<bool, RegistryFault> {
+    let fault = registry.service(9).err();
+    let is_same = registry.text().len() == 1_048_576 && registry.service_kinds()?.len() == 0;
+    Ok(fault == Some(RegistryFault::TooMany) && is_same)
+}
+
+fn has_longest_text(alloc: Global) -> Result<bool, RegistryFault> {
     let mut registry = Registry::new(alloc);
-    for kind in 100u16..117 {
-        long_type(alloc, &mut registry, kind, 60_000)?;
-    }
-    let name = free_bytes(&registry);
-    let fault = long_type(alloc, &mut registry, 117, name.wrapping_add(1)).err();
-    check_fault(&rt, fault, RegistryFault::TooMany, "a byte too many");
-    long_type(alloc, &mut registry, 117, name)?;
-    check_number(&rt, registry.text().len(), 1_048_576, "the longest text");
-    let fault = service_fault(&mut registry, 9);
-    check_fault(&rt, fault, RegistryFault::TooMany, "service 9");
-    check_number(&rt, registry.text().len(), 1_048_576, "the longest text");
-    check_number(&rt, registry.service_kinds()?.len(), 0, "services");
-    Ok(())
+    fill_text(alloc, &mut registry)?;
+    let is_longest = takes_the_rest(alloc, &mut registry)?;
+    Ok(is_longest && refuses_service(&mut registry)?)
+}
+
+#[test]
+fn a_text_of_1_048_576_bytes_is_the_longest(rt: HostRuntime) {
+    expect(&rt, has_longest_text(rt.alloc()));
 }
 
 /// A declaration, and blanks after it up to this length.
@@ -158,13 +195,25 @@ fn padded(alloc: Global, decl: &str, len: usize) -> Result<String, AllocError> {
     Ok(text)
 }
 
+/// Registers the method of a number by a declaration of this length.
+fn long_method(
+    alloc: Global,
+    registry: &mut Registry,
+    id: u16,
+    len: usize,
+) -> Result<(), RegistryFault> {
+    let decl = padded(alloc, "void g()", len)?;
+    registry.method("Counter", decl.as_str(), id)
+}
+
+fn is_longest_declaration(alloc: Global) -> Result<bool, RegistryFault> {
+    let mut registry = program(alloc)?;
+    long_method(alloc, &mut registry, 3, 65_536)?;
+    let answer = long_method(alloc, &mut registry, 4, 65_537);
+    Ok(answer == Err(RegistryFault::BadDeclaration))
+}
+
 #[test]
-fn a_text_that_is_too_long_to_cut_is_no_declaration(rt: HostRuntime) -> Result<(), Fail> {
-    let mut registry = program(rt.alloc())?;
-    let longest = padded(rt.alloc(), "void g()", 65_536)?;
-    registry.method("Counter", longest.as_str(), 3)?;
-    let longer = padded(rt.alloc(), "void g()", 65_537)?;
-    let fault = method_fault(&mut registry, "Counter", longer.as_str(), 4);
-    check_fault(&rt, fault, RegistryFault::BadDeclaration, "65,537 bytes");
-    Ok(())
+fn a_text_that_is_too_long_to_cut_is_no_declaration(rt: HostRuntime) {
+    expect(&rt, is_longest_declaration(rt.alloc()));
 }

@@ -5,7 +5,6 @@ use ash_lex::{Sign, Token, TokenKind, lex};
 use std::alloc::{AllocError, Global};
 use std::fmt::Write;
 use std::process::Abort;
-use std::test::Fail;
 
 /// Each sign, as it is written.
 const SIGNS: [(&str, Sign); 51] = [
@@ -82,7 +81,7 @@ fn longest_sign(text: &str) -> Option<&'static str> {
 }
 
 /// Looks at a sign alone.
-fn check_alone(rt: &impl Abort, alloc: Global, text: &str, sign: Sign) -> Result<(), Fail> {
+fn check_alone(rt: &impl Abort, alloc: Global, text: &str, sign: Sign) -> Result<(), AllocError> {
     let token = Token {
         kind: TokenKind::Sign(sign),
         line: 1,
@@ -95,7 +94,7 @@ fn check_alone(rt: &impl Abort, alloc: Global, text: &str, sign: Sign) -> Result
 }
 
 #[test]
-fn signs_alone(rt: HostRuntime) -> Result<(), Fail> {
+fn signs_alone(rt: HostRuntime) -> Result<(), AllocError> {
     for (text, sign) in signs() {
         check_alone(&rt, rt.alloc(), text, *sign)?;
     }
@@ -127,7 +126,7 @@ fn signs_by_hand(alloc: Global, text: &str) -> Result<String, AllocError> {
 }
 
 /// Looks at this sign with each sign after it.
-fn check_beside_each(rt: &impl Abort, alloc: Global, first: &str) -> Result<(), Fail> {
+fn check_beside_each(rt: &impl Abort, alloc: Global, first: &str) -> Result<(), AllocError> {
     for (second, _) in signs() {
         let text = format!(in alloc; "{first}{second}")?;
         let wanted = signs_by_hand(alloc, text.as_str())?;
@@ -137,7 +136,7 @@ fn check_beside_each(rt: &impl Abort, alloc: Global, first: &str) -> Result<(), 
 }
 
 #[test]
-fn signs_side_by_side(rt: HostRuntime) -> Result<(), Fail> {
+fn signs_side_by_side(rt: HostRuntime) -> Result<(), AllocError> {
     for (first, _) in signs() {
         check_beside_each(&rt, rt.alloc(), first)?;
     }

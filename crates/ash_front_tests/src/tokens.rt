@@ -5,7 +5,6 @@ use ash_lex::{LexFault, MAX_SOURCE_BYTES, Token, TokenKind, lex};
 use std::alloc::{AllocError, Global};
 use std::fmt::{Display, Write};
 use std::process::Abort;
-use std::test::Fail;
 
 /// What a token is, and its text.
 fn show_text<T: Display>(out: &mut String, kind: &str, text: &T) -> Result<(), AllocError> {
@@ -54,110 +53,114 @@ pub(crate) fn check_shown(
     alloc: Global,
     text: &str,
     wanted: &str,
-) -> Result<(), Fail> {
+) -> Result<(), AllocError> {
     let found = shown(alloc, text)?;
     check_text(rt, found.as_str(), wanted, text);
     Ok(())
 }
 
 /// Each row has a text, and its tokens or its fault.
-fn check_rows(rt: &impl Abort, alloc: Global, rows: &[(&str, &str)]) -> Result<(), Fail> {
+fn check_rows(rt: &impl Abort, alloc: Global, rows: &[(&str, &str)]) -> Result<(), AllocError> {
     for (text, wanted) in rows {
         check_shown(rt, alloc, text, wanted)?;
     }
     Ok(())
 }
 
-#[test]
-fn tokens_of_texts(rt: HostRuntime) -> Result<(), Fail> {
-    let rows = &[
-        ("", ""),
-        ("a+b", "1:0-1 name a; 1:1-2 sign +; 1:2-3 name b; "),
-        ("_a9 A\t", "1:0-3 name _a9; 1:4-5 name A; "),
-        ("int32 x", "1:0-5 reserved int32; 1:6-7 name x; "),
-        (
-            "int320 INT not",
-            "1:0-6 name int320; 1:7-10 name INT; 1:11-14 reserved not; ",
-        ),
-        (
-            "const**A::b",
-            "1:0-5 unsupported const; 1:5-7 sign **; 1:7-8 name A; 1:8-10 sign ::; 1:10-11 name b; ",
-        ),
-        (
-            "0 007 18446744073709551615",
-            "1:0-1 number 0; 1:2-5 number 7; 1:6-26 number 18446744073709551615; ",
-        ),
-        (
-            "0xfF 0xffffffffffffffff",
-            "1:0-4 number 255; 1:5-23 number 18446744073709551615; ",
-        ),
-        (
-            "0x 0xg 0X1 12ab",
-            "1:0-1 number 0; 1:1-2 name x; 1:3-4 number 0; 1:4-6 name xg; 1:7-8 number 0; 1:8-10 name X1; \
+static TOKENS_OF_TEXTS: [(&str, &str); 13] = [
+    ("", ""),
+    ("a+b", "1:0-1 name a; 1:1-2 sign +; 1:2-3 name b; "),
+    ("_a9 A\t", "1:0-3 name _a9; 1:4-5 name A; "),
+    ("int32 x", "1:0-5 reserved int32; 1:6-7 name x; "),
+    (
+        "int320 INT not",
+        "1:0-6 name int320; 1:7-10 name INT; 1:11-14 reserved not; ",
+    ),
+    (
+        "const**A::b",
+        "1:0-5 unsupported const; 1:5-7 sign **; 1:7-8 name A; 1:8-10 sign ::; 1:10-11 name b; ",
+    ),
+    (
+        "0 007 18446744073709551615",
+        "1:0-1 number 0; 1:2-5 number 7; 1:6-26 number 18446744073709551615; ",
+    ),
+    (
+        "0xfF 0xffffffffffffffff",
+        "1:0-4 number 255; 1:5-23 number 18446744073709551615; ",
+    ),
+    (
+        "0x 0xg 0X1 12ab",
+        "1:0-1 number 0; 1:1-2 name x; 1:3-4 number 0; 1:4-6 name xg; 1:7-8 number 0; 1:8-10 name X1; \
                 1:11-13 number 12; 1:13-15 name ab; ",
-        ),
-        ("a!is b", "1:0-1 name a; 1:1-4 sign !is; 1:5-6 name b; "),
-        (
-            "!isb !is_ !is0",
-            "1:0-1 sign !; 1:1-4 name isb; 1:5-6 sign !; 1:6-9 name is_; 1:10-11 sign !; 1:11-14 name is0; ",
-        ),
-        ("!is", "1:0-3 sign !is; "),
-        ("a>>>=b", "1:0-1 name a; 1:1-5 sign >>>=; 1:5-6 name b; "),
-    ];
-    check_rows(&rt, rt.alloc(), rows)
-}
+    ),
+    ("a!is b", "1:0-1 name a; 1:1-4 sign !is; 1:5-6 name b; "),
+    (
+        "!isb !is_ !is0",
+        "1:0-1 sign !; 1:1-4 name isb; 1:5-6 sign !; 1:6-9 name is_; 1:10-11 sign !; 1:11-14 name is0; ",
+    ),
+    ("!is", "1:0-3 sign !is; "),
+    ("a>>>=b", "1:0-1 name a; 1:1-5 sign >>>=; 1:5-6 name b; "),
+];
 
 #[test]
-fn lines_and_comments(rt: HostRuntime) -> Result<(), Fail> {
-    let rows = &[
-        (
-            "a\r\nb\nc\rd",
-            "1:0-1 name a; 2:3-4 name b; 3:5-6 name c; 3:7-8 name d; ",
-        ),
-        ("a // b\nc", "1:0-1 name a; 2:7-8 name c; "),
-        ("// a\r b\nc", "2:8-9 name c; "),
-        ("a /*\n\n*/ b", "1:0-1 name a; 3:9-10 name b; "),
-        ("/* /* */ a", "1:9-10 name a; "),
-        (
-            "/**/a/***/b/*/*/c",
-            "1:4-5 name a; 1:10-11 name b; 1:16-17 name c; ",
-        ),
-        ("/* \u{e9} */ // \u{20ac}", ""),
-        ("//", ""),
-        ("a/b", "1:0-1 name a; 1:1-2 sign /; 1:2-3 name b; "),
-    ];
-    check_rows(&rt, rt.alloc(), rows)
+fn tokens_of_texts(rt: HostRuntime) -> Result<(), AllocError> {
+    check_rows(&rt, rt.alloc(), &TOKENS_OF_TEXTS)
 }
 
-#[test]
-fn first_faults(rt: HostRuntime) -> Result<(), Fail> {
-    let rows = &[
-        ("int \"", "101 BadCharacter 4"),
-        ("'", "101 BadCharacter 0"),
-        ("a $ /*", "101 BadCharacter 2"),
-        ("a \u{e9}", "101 BadCharacter 2"),
-        ("a\0", "101 BadCharacter 1"),
-        ("a\u{b}", "101 BadCharacter 1"),
-        ("a\u{c}", "101 BadCharacter 1"),
-        ("/* x", "102 UnclosedComment 0"),
-        ("a /*/ \"", "102 UnclosedComment 2"),
-        ("/* */ /* $", "102 UnclosedComment 6"),
-        ("uint64 x = 18446744073709551616;", "103 NumberTooLarge 11"),
-        ("0x10000000000000000 $", "103 NumberTooLarge 0"),
-        ("99999999999999999999999999999999", "103 NumberTooLarge 0"),
-    ];
-    check_rows(&rt, rt.alloc(), rows)
-}
+static LINES_AND_COMMENTS: [(&str, &str); 9] = [
+    (
+        "a\r\nb\nc\rd",
+        "1:0-1 name a; 2:3-4 name b; 3:5-6 name c; 3:7-8 name d; ",
+    ),
+    ("a // b\nc", "1:0-1 name a; 2:7-8 name c; "),
+    ("// a\r b\nc", "2:8-9 name c; "),
+    ("a /*\n\n*/ b", "1:0-1 name a; 3:9-10 name b; "),
+    ("/* /* */ a", "1:9-10 name a; "),
+    (
+        "/**/a/***/b/*/*/c",
+        "1:4-5 name a; 1:10-11 name b; 1:16-17 name c; ",
+    ),
+    ("/* \u{e9} */ // \u{20ac}", ""),
+    ("//", ""),
+    ("a/b", "1:0-1 name a; 1:1-2 sign /; 1:2-3 name b; "),
+];
 
 #[test]
-fn byte_order_marks(rt: HostRuntime) -> Result<(), Fail> {
-    let rows = &[
-        ("\u{feff}", ""),
-        ("\u{feff}a", "1:3-4 name a; "),
-        (" \u{feff}", "101 BadCharacter 1"),
-        ("\u{feff}\u{feff}", "101 BadCharacter 3"),
-    ];
-    check_rows(&rt, rt.alloc(), rows)
+fn lines_and_comments(rt: HostRuntime) -> Result<(), AllocError> {
+    check_rows(&rt, rt.alloc(), &LINES_AND_COMMENTS)
+}
+
+static FIRST_FAULTS: [(&str, &str); 13] = [
+    ("int \"", "101 BadCharacter 4"),
+    ("'", "101 BadCharacter 0"),
+    ("a $ /*", "101 BadCharacter 2"),
+    ("a \u{e9}", "101 BadCharacter 2"),
+    ("a\0", "101 BadCharacter 1"),
+    ("a\u{b}", "101 BadCharacter 1"),
+    ("a\u{c}", "101 BadCharacter 1"),
+    ("/* x", "102 UnclosedComment 0"),
+    ("a /*/ \"", "102 UnclosedComment 2"),
+    ("/* */ /* $", "102 UnclosedComment 6"),
+    ("uint64 x = 18446744073709551616;", "103 NumberTooLarge 11"),
+    ("0x10000000000000000 $", "103 NumberTooLarge 0"),
+    ("99999999999999999999999999999999", "103 NumberTooLarge 0"),
+];
+
+#[test]
+fn first_faults(rt: HostRuntime) -> Result<(), AllocError> {
+    check_rows(&rt, rt.alloc(), &FIRST_FAULTS)
+}
+
+static BYTE_ORDER_MARKS: [(&str, &str); 4] = [
+    ("\u{feff}", ""),
+    ("\u{feff}a", "1:3-4 name a; "),
+    (" \u{feff}", "101 BadCharacter 1"),
+    ("\u{feff}\u{feff}", "101 BadCharacter 3"),
+];
+
+#[test]
+fn byte_order_marks(rt: HostRuntime) -> Result<(), AllocError> {
+    check_rows(&rt, rt.alloc(), &BYTE_ORDER_MARKS)
 }
 
 /// So many times this part.
@@ -173,7 +176,7 @@ fn check_repeated(
     rt: &impl Abort,
     alloc: Global,
     rows: &[(&str, usize, &str)],
-) -> Result<(), Fail> {
+) -> Result<(), AllocError> {
     for (part, count, wanted) in rows {
         let mut text = String::new(alloc);
         push_times(&mut text, part, *count)?;
@@ -185,7 +188,7 @@ fn check_repeated(
 }
 
 #[test]
-fn longest_source(rt: HostRuntime) -> Result<(), Fail> {
+fn longest_source(rt: HostRuntime) -> Result<(), AllocError> {
     let rows = &[
         (" ", MAX_SOURCE_BYTES, ""),
         (" ", 65_537, "107 SourceTooLong"),

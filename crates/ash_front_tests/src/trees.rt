@@ -8,7 +8,6 @@ use ash_lex::{Token, lex};
 use ash_parse::{has_one_fault, has_one_module};
 use std::alloc::{AllocError, Global};
 use std::process::Abort;
-use std::test::Fail;
 
 /// What `{:?}` prints of the tree of these tokens, or of their fault.
 fn printed_tree(alloc: Global, tokens: &[Token]) -> Result<String, AllocError> {
@@ -52,7 +51,7 @@ fn short(alloc: Global, source: &str) -> Result<String, AllocError> {
     replaced(alloc, printed(alloc, source)?, parts)
 }
 
-fn check(rt: &impl Abort, alloc: Global, source: &str, items: &str) -> Result<(), Fail> {
+fn check(rt: &impl Abort, alloc: Global, source: &str, items: &str) -> Result<(), AllocError> {
     let found = short(alloc, source)?;
     let wanted = format!(in alloc; "Module {{ items: [{items}] }}")?;
     check_text(rt, found.as_str(), wanted.as_str(), source);
@@ -60,7 +59,12 @@ fn check(rt: &impl Abort, alloc: Global, source: &str, items: &str) -> Result<()
 }
 
 /// The tree of a variable `int a` with this value.
-fn check_value(rt: &impl Abort, alloc: Global, source: &str, value: &str) -> Result<(), Fail> {
+fn check_value(
+    rt: &impl Abort,
+    alloc: Global,
+    source: &str,
+    value: &str,
+) -> Result<(), AllocError> {
     let decl = format!(in alloc; "Decl {{ @4, name: \"a\", initializer: Value({value}) }}")?;
     let items = format!(in alloc;
         "Vars(Vars {{ of: Type {{ @0, Primitive(Int) }}, decls: [{decl}] }})"
@@ -69,7 +73,7 @@ fn check_value(rt: &impl Abort, alloc: Global, source: &str, value: &str) -> Res
 }
 
 /// The tree of a function `void f()` with this body.
-fn check_body(rt: &impl Abort, alloc: Global, source: &str, body: &str) -> Result<(), Fail> {
+fn check_body(rt: &impl Abort, alloc: Global, source: &str, body: &str) -> Result<(), AllocError> {
     let items = format!(in alloc;
         "Function(Function {{ @5, result: None, name: \"f\", parameters: [], body: [{body}] }})"
     )?;
@@ -81,7 +85,7 @@ pub(crate) fn check_values(
     rt: &impl Abort,
     alloc: Global,
     rows: &[(&str, &str)],
-) -> Result<(), Fail> {
+) -> Result<(), AllocError> {
     for (source, value) in rows {
         check_value(rt, alloc, source, value)?;
     }
@@ -93,7 +97,7 @@ pub(crate) fn check_bodies(
     rt: &impl Abort,
     alloc: Global,
     rows: &[(&str, &str)],
-) -> Result<(), Fail> {
+) -> Result<(), AllocError> {
     for (source, body) in rows {
         check_body(rt, alloc, source, body)?;
     }
@@ -105,7 +109,7 @@ pub(crate) fn check_items(
     rt: &impl Abort,
     alloc: Global,
     rows: &[(&str, &str)],
-) -> Result<(), Fail> {
+) -> Result<(), AllocError> {
     for (source, items) in rows {
         check(rt, alloc, source, items)?;
     }

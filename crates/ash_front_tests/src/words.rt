@@ -1,12 +1,16 @@
 //! Words of the language, and words of parts of it that the profile does not have.
 
 use crate::tokens::check_shown;
-use std::alloc::Global;
+use std::alloc::{AllocError, Global};
 use std::process::Abort;
-use std::test::Fail;
 
 /// Looks for each word as a token of this kind.
-fn check_words(rt: &impl Abort, alloc: Global, kind: &str, words: &[&str]) -> Result<(), Fail> {
+fn check_words(
+    rt: &impl Abort,
+    alloc: Global,
+    kind: &str,
+    words: &[&str],
+) -> Result<(), AllocError> {
     for word in words {
         let wanted = format!(in alloc; "1:0-{} {kind} {word}; ", word.len())?;
         check_shown(rt, alloc, word, wanted.as_str())?;
@@ -15,7 +19,7 @@ fn check_words(rt: &impl Abort, alloc: Global, kind: &str, words: &[&str]) -> Re
 }
 
 #[test]
-fn reserved_words(rt: HostRuntime) -> Result<(), Fail> {
+fn reserved_words(rt: HostRuntime) -> Result<(), AllocError> {
     let words = &[
         "and",
         "or",
@@ -54,7 +58,7 @@ fn reserved_words(rt: HostRuntime) -> Result<(), Fail> {
 }
 
 #[test]
-fn unsupported_words(rt: HostRuntime) -> Result<(), Fail> {
+fn unsupported_words(rt: HostRuntime) -> Result<(), AllocError> {
     let words = &[
         "auto",
         "catch",
