@@ -52,6 +52,14 @@ impl CheckedScript {
         &self.module
     }
 
+    /// What the script declares, typed, without the ranks.
+    pub fn into_module(self) -> Module
+        ensures tree { result ≡ self.typed }
+        ensures sound { IsSound (offered self.registered) (module_of result) }
+    {
+        self.module
+    }
+
     /// A rank for each class, by its place in `module().classes`: a number below that of the classes, and greater than
     /// the rank of each class that it refers to.
     pub fn ranks(&self) -> &[usize]

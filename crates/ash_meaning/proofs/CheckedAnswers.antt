@@ -1,20 +1,13 @@
 -- What the code answers of a source is what the function that checks it says, and what the rules say.
 use Rattle.std.proofs.Common.{◌≡◌, ℕ, ◌⊎◌, inl, inr, List, Option, Some, None}
 use Rattle.std.proofs.Common.{Result, Ok, Err, IfOk, IfErr, refl, sym, ◌∙◌, ap, subst}
-use Rattle.ash_lex.specs.Tokens.{Lexeme, lexemes}
-use Rattle.ash_lex.specs.declared.tokens.Token.{Token}
+use Rattle.ash_lex.specs.Tokens.{Lexeme}
 use Rattle.ash_tree.specs.Tree.{Item}
-use Rattle.ash_tree.specs.Tokens.{Tokens, tokens_of}
-use Rattle.ash_tree.specs.Grammar.{Derives}
 use Rattle.ash_tree.specs.Views.{module_of as items_of}
 use Rattle.ash_tree.specs.declared.tree.items.Module as script
 use Rattle.ash_parse.specs.declared.faults.ParseFault.{ParseFault}
 use Rattle.ash_parse.specs.declared.faults.ParseFault.TheVariants as parse_faults
-use Rattle.ash_parse.specs.Readers.{Halt}
-use Rattle.ash_parse.specs.ItemReader.{module_at}
-use Rattle.ash_parse.specs.Faults.{end_of, fault_of}
-use Rattle.ash_parse.specs.FirstFault.{FirstFault as FirstSyntaxFault, ReportsFirst}
-use Rattle.ash_parse.proofs.FirstFaults.{first_is_stop}
+use Rattle.ash_parse.specs.Faults.{fault_of}
 use Rattle.ash_registry.specs.Registrations.{Registration}
 use Rattle.ash_typing.specs.declared.fault.Rule.{Rule}
 use Rattle.ash_typing.specs.declared.fault.Rule.TheVariants as rules
@@ -24,102 +17,61 @@ use Rattle.ash_classes.specs.References.{classes_of}
 use Rattle.ash_check.specs.Checks.{ScriptFault, checked, script_fault_of, names_of_cycle, IsReportedFault, Reports}
 use Rattle.ash_check.proofs.ExactLaws.{cyclic_is, cycle_is}
 use Rattle.ash_meaning.specs.Lexing.{IsText, Lexes}
-use Rattle.ash_meaning.specs.Scanning.{lexed}
+use Rattle.ash_meaning.specs.Scripts.{SpellsScript, HasNoScript}
 use Rattle.ash_meaning.specs.CheckedSource.{CheckResult, end_in, syntactic, broken_at, refusal_of_error, of_check}
 use Rattle.ash_meaning.specs.CheckedSource.{IsCyclicScript, ChecksTokens, Checks, no_tokens, has_tokens, IsAccepted}
-use Rattle.ash_meaning.specs.CheckedSource.{HasCycle, ReportsCycle, unless_fault, items_checked, script_checked}
-use Rattle.ash_meaning.specs.CheckedSource.{tokens_checked, checked_source, TakesMemoryToCheck}
+use Rattle.ash_meaning.specs.CheckedSource.{HasCycle, ReportsCycle, unless_fault, items_checked}
+use Rattle.ash_meaning.specs.CheckedSource.{checked_source, TakesMemoryToCheck}
 use Rattle.ash_meaning.specs.declared.refusal.Refusal as code
 use Rattle.ash_meaning.specs.Refusals.{Refusal, refusal_of}
 use Rattle.ash_meaning.specs.Refusals as refusals
-use Rattle.ash_meaning.proofs.CheckedSourceLaws.{seen_tokens, seen_end, parsed, checked_source-is, checked_source-only}
+use Rattle.ash_meaning.proofs.CheckedSourceLaws.{parsed, stopped, checked_source-is, checked_source-only}
 use Rattle.ash_meaning.proofs.CheckedSourceLaws.{of_tokens, of_refusal, takes_text}
+
+-- a source that spells a script is checked as the script is
+pub spelled_checked : (registered : List Registration) (source : List ℕ) (items : List Item) → SpellsScript source items
+    → checked_source registered source ≡ items_checked registered items
+spelled_checked registered source items h = of_tokens registered source h.tokens h.lexed
+    ∙ parsed registered h.tokens items h.derived
+
+-- and one that spells none is refused for that
+pub unspelled_checked : (registered : List Registration) (source : List ℕ) (refusal : Refusal) → HasNoScript source refusal
+    → checked_source registered source ≡ Err refusal
+unspelled_checked registered source refusal (inl h) = of_refusal registered source refusal h
+unspelled_checked registered source refusal (inr h) = of_tokens registered source h.tokens h.lexed
+    ∙ stopped registered h.tokens refusal h.fault
 
 -- what the code answers of a source
 
-pub tokens_refused : (registered : List Registration) (source : List ℕ) (refusal : Refusal)
-    → ((refusal ≡ refusals.NoMemory) × IsText source) ⊎ Lexes source (Err refusal)
+pub source_refused : (registered : List Registration) (source : List ℕ) (refusal : Refusal)
+    → ((refusal ≡ refusals.NoMemory) × IsText source) ⊎ HasNoScript source refusal
     → ((refusal ≡ refusals.NoMemory) × TakesMemoryToCheck (checked_source registered source))
     ⊎ (checked_source registered source ≡ Err refusal)
-tokens_refused registered source refusal (inl h) = inl (h.0, takes_text registered source h.1)
-tokens_refused registered source refusal (inr h) = inr (of_refusal registered source refusal h)
+source_refused registered source refusal (inl h) = inl (h.0, takes_text registered source h.1)
+source_refused registered source refusal (inr h) = inr (unspelled_checked registered source refusal h)
 
-pub source_found : (registered : List Registration) (source : List ℕ) (ts : List Lexeme) → Lexes source (Ok ts)
-    → (r : Result script.Module code.Refusal) → IfOk r (λ found. tokens_checked registered ts ≡ Ok (items_of found))
-    → IfOk r (λ found. checked_source registered source ≡ Ok (items_of found))
-source_found registered source ts h (Ok found) e = of_tokens registered source ts h ∙ e
-source_found registered source ts h (Err refusal) e = tt
-
-refused_by : (registered : List Registration) (source : List ℕ) (ts : List Lexeme) → Lexes source (Ok ts) → (refusal : Refusal)
-    → (refusal ≡ refusals.NoMemory) ⊎ (tokens_checked registered ts ≡ Err refusal)
-    → ((refusal ≡ refusals.NoMemory) × TakesMemoryToCheck (checked_source registered source))
-    ⊎ (checked_source registered source ≡ Err refusal)
-refused_by registered source ts h refusal (inl e) = inl (e, takes_text registered source h.0)
-refused_by registered source ts h refusal (inr e) = inr (of_tokens registered source ts h ∙ e)
-
-pub source_refused : (registered : List Registration) (source : List ℕ) (ts : List Lexeme) → Lexes source (Ok ts)
-    → (r : Result script.Module code.Refusal)
-    → IfErr r (λ refusal. (refusal_of refusal ≡ refusals.NoMemory)
-    ⊎ (tokens_checked registered ts ≡ Err (refusal_of refusal)))
-    → IfErr r (λ refusal. ((refusal_of refusal ≡ refusals.NoMemory)
-    × TakesMemoryToCheck (checked_source registered source))
-    ⊎ (checked_source registered source ≡ Err (refusal_of refusal)))
-source_refused registered source ts h (Ok found) e = tt
-source_refused registered source ts h (Err refusal) e = refused_by registered source ts h (refusal_of refusal) e
-
--- what the parser answers
-
-script_checked-is : (registered : List Registration) (ts : List Token) (items : List Item) → Derives 0 (tokens_of ts) items
-    → tokens_checked registered (lexemes ts) ≡ items_checked registered items
-script_checked-is registered ts items d = parsed registered (lexemes ts) items
-    (subst (λ (l : Tokens). Derives 0 l items) (seen_tokens ts) d)
-
-pub script_found : (registered : List Registration) (ts : List Token) (items : List Item) → Derives 0 (tokens_of ts) items
+pub script_found : (registered : List Registration) (source : List ℕ) (items : List Item) → SpellsScript source items
     → (r : Result script.Module code.Refusal) → IfOk r (λ found. items_checked registered items ≡ Ok (items_of found))
-    → IfOk r (λ found. tokens_checked registered (lexemes ts) ≡ Ok (items_of found))
-script_found registered ts items e (Ok found) h = script_checked-is registered ts items e ∙ h
-script_found registered ts items e (Err refusal) h = tt
+    → IfOk r (λ found. checked_source registered source ≡ Ok (items_of found))
+script_found registered source items h (Ok found) e = spelled_checked registered source items h ∙ e
+script_found registered source items h (Err refusal) e = tt
 
-reported_script : (registered : List Registration) (ts : List Token) (items : List Item) → Derives 0 (tokens_of ts) items
+refused_by : (registered : List Registration) (source : List ℕ) (items : List Item) → SpellsScript source items
     → (refusal : Refusal) → (refusal ≡ refusals.NoMemory) ⊎ (items_checked registered items ≡ Err refusal)
-    → (refusal ≡ refusals.NoMemory) ⊎ (tokens_checked registered (lexemes ts) ≡ Err refusal)
-reported_script registered ts items e refusal (inl h) = inl h
-reported_script registered ts items e refusal (inr h) = inr (script_checked-is registered ts items e ∙ h)
+    → ((refusal ≡ refusals.NoMemory) × TakesMemoryToCheck (checked_source registered source))
+    ⊎ (checked_source registered source ≡ Err refusal)
+refused_by registered source items h refusal (inl e) = inl (e, takes_text registered source h.lexed.0)
+refused_by registered source items h refusal (inr e) = inr (spelled_checked registered source items h ∙ e)
 
-pub script_refused : (registered : List Registration) (ts : List Token) (items : List Item) → Derives 0 (tokens_of ts) items
+pub script_refused : (registered : List Registration) (source : List ℕ) (items : List Item) → SpellsScript source items
     → (r : Result script.Module code.Refusal)
     → IfErr r (λ refusal. (refusal_of refusal ≡ refusals.NoMemory)
     ⊎ (items_checked registered items ≡ Err (refusal_of refusal)))
-    → IfErr r (λ refusal. (refusal_of refusal ≡ refusals.NoMemory)
-    ⊎ (tokens_checked registered (lexemes ts) ≡ Err (refusal_of refusal)))
-script_refused registered ts items e (Ok found) h = tt
-script_refused registered ts items e (Err refusal) h = reported_script registered ts items e (refusal_of refusal) h
-
-halt_is : (registered : List Registration) (ts : List Token) (fault : ParseFault) (halt : Halt)
-    → module_at (tokens_of ts) ≡ Err halt → fault ≡ fault_of (end_of ts) halt
-    → tokens_checked registered (lexemes ts) ≡ Err (syntactic fault)
-unfolding tokens_checked
-halt_is registered ts fault halt e reported =
-    let same : fault ≡ fault_of (end_in (lexemes ts)) halt = reported ∙ ap (λ n. fault_of n halt) (seen_end ts) in
-    ap (script_checked registered (lexemes ts)) (ap module_at (sym (seen_tokens ts)) ∙ e)
-    ∙ ap (λ (f : ParseFault). Err (syntactic f)) (sym same)
-
-by_fault : (registered : List Registration) (ts : List Token) (fault : ParseFault) → ReportsFirst FirstSyntaxFault ts fault
-    → (syntactic fault ≡ refusals.NoMemory) ⊎ (tokens_checked registered (lexemes ts) ≡ Err (syntactic fault))
-by_fault registered ts parse_faults.NoMemory h = inl refl
-by_fault registered ts (parse_faults.Unexpected at) h =
-    inr (halt_is registered ts (parse_faults.Unexpected at) h.0 (first_is_stop (tokens_of ts) h.0 h.2) h.1)
-by_fault registered ts (parse_faults.Unsupported word at) h =
-    inr (halt_is registered ts (parse_faults.Unsupported word at) h.0 (first_is_stop (tokens_of ts) h.0 h.2) h.1)
-by_fault registered ts (parse_faults.TooDeep at) h =
-    inr (halt_is registered ts (parse_faults.TooDeep at) h.0 (first_is_stop (tokens_of ts) h.0 h.2) h.1)
-
-pub fault_read : (registered : List Registration) (ts : List Token) (fault : ParseFault) → ReportsFirst FirstSyntaxFault ts fault
-    → (refusal : Refusal) → refusal ≡ syntactic fault → (refusal ≡ refusals.NoMemory)
-    ⊎ (tokens_checked registered (lexemes ts) ≡ Err refusal)
-fault_read registered ts fault h refusal is =
-    subst (λ (r : Refusal). (r ≡ refusals.NoMemory) ⊎ (tokens_checked registered (lexemes ts) ≡ Err r)) (sym is)
-    (by_fault registered ts fault h)
+    → IfErr r (λ refusal. ((refusal_of refusal ≡ refusals.NoMemory)
+    × TakesMemoryToCheck (checked_source registered source))
+    ⊎ (checked_source registered source ≡ Err (refusal_of refusal)))
+script_refused registered source items h (Ok found) e = tt
+script_refused registered source items h (Err refusal) e = refused_by registered source items h (refusal_of refusal) e
 
 -- what the check of types answers
 

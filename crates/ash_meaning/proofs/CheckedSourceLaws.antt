@@ -107,7 +107,7 @@ typed_only : (registered : List Registration) (tokens : List Lexeme) (items : Li
 typed_only registered tokens items h = parsed registered tokens items h.derived
     ∙ ap (unless_fault items) ((accepted_is registered items h.typed).1 (h.by_rules, h.acyclic))
 
-stopped : (registered : List Registration) (tokens : List Lexeme) (refusal : Refusal) → IsNoScript tokens refusal
+pub stopped : (registered : List Registration) (tokens : List Lexeme) (refusal : Refusal) → IsNoScript tokens refusal
     → tokens_checked registered tokens ≡ Err refusal
 unfolding tokens_checked
 stopped registered tokens refusal h = ap (script_checked registered tokens)

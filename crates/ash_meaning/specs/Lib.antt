@@ -4,6 +4,9 @@ pub mod Plain
 pub mod Reading
 pub mod Refusals
 pub mod Scanning
+pub mod Scripts
+pub mod Sources
 pub mod State
 pub mod Step
 pub mod StoredModules
+pub mod TypedSource

@@ -1,8 +1,8 @@
 // The script that a source spells, if it is typed.
 
-ghost use Rattle.std.specs.Prelude.{◌≡◌, ◌⊎◌, ◌↔◌, ℕ, List, Ok, Err, IsOk, IfOk, IfErr, OnOk, MatchResult};
+ghost use Rattle.std.specs.Prelude.{◌≡◌, ◌⊎◌, ◌↔◌, ℕ, List, Ok, Err, IsOk, IfOk, IfErr};
+ghost use Rattle.std.specs.Prelude.{OnOk, MatchResult};
 ghost use Rattle.std.specs.List.{AllByRecursion};
-ghost use Rattle.ash_lex.specs.Tokens.{lexemes};
 ghost use Rattle.ash_tree.specs.Views.{module_of as items_of};
 ghost use Rattle.ash_tree.specs.Tree.{Item};
 ghost use Rattle.ash_registry.specs.Registrations.{Registration};
@@ -12,14 +12,12 @@ ghost use Rattle.ash_typing.specs.Nesting.{ItemsDeclareInBlocks};
 ghost use Rattle.ash_typing.specs.TypedModules.{IsFree, IsTyped};
 ghost use Rattle.ash_tree.specs.Items.{item_names};
 ghost use Rattle.ash_meaning.specs.CheckedSource.{CheckResult, Checks, IsAccepted, HasCycle, ReportsCycle};
-ghost use Rattle.ash_meaning.specs.CheckedSource.{items_checked, tokens_checked, checked_source, TakesMemoryToCheck};
+ghost use Rattle.ash_meaning.specs.CheckedSource.{items_checked, checked_source, TakesMemoryToCheck};
 ghost use Rattle.ash_meaning.specs.Refusals.{refusal_of, NoMemory, CyclicType};
 
-use crate::lexing::tokens_of;
+use crate::parsing::script_of;
 use crate::refusal::Refusal;
 use ash_check::check;
-use ash_lex::Token;
-use ash_parse::parse_module;
 use ash_registry::Registry;
 use ash_tree::Module;
 use std::alloc::Global;
@@ -35,24 +33,6 @@ fn typed_module(alloc: Global, registry: &Registry, script: Module) -> Result<Mo
 {
     check(alloc, registry, &script)?;
     Ok(script)
-}
-
-/// The script with these tokens, or why it is refused.
-fn module_with_tokens(
-    alloc: Global,
-    registry: &Registry,
-    tokens: &[Token],
-) -> Result<Module, Refusal>
-    ensures found { IfOk result (λ script. tokens_checked (registered registry.now)
-        (lexemes tokens.now) ≡ Ok (items_of script)) }
-    ensures refused { IfErr result (λ refusal.
-        (refusal_of refusal ≡ NoMemory) ⊎ (tokens_checked (registered registry.now)
-        (lexemes tokens.now) ≡ Err (refusal_of refusal))) }
-{
-    match parse_module(alloc, tokens) {
-        Ok(script) => typed_module(alloc, registry, script),
-        Err(fault) => Err(fault.into()),
-    }
 }
 
 /// The script that a source spells, with these registrations.
@@ -74,8 +54,8 @@ pub(crate) fn checked_module(
         (checked_source (registered registry.now) source.now))
         ⊎ (checked_source (registered registry.now) source.now ≡ Err (refusal_of refusal))) }
 {
-    match tokens_of(alloc, source) {
-        Ok(tokens) => module_with_tokens(alloc, registry, &tokens),
+    match script_of(alloc, source) {
+        Ok(script) => typed_module(alloc, registry, script),
         Err(refusal) => Err(refusal),
     }
 }

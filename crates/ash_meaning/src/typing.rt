@@ -1,0 +1,55 @@
+// The typed tree of a script, and what a source is typed as.
+
+ghost use Rattle.std.specs.Prelude.{◌≡◌, ◌⊎◌, ◌↔◌, ℕ, List, Ok, Err, IfOk, IfErr};
+ghost use Rattle.ash_tree.specs.Views.{module_of as items_of};
+ghost use Rattle.ash_registry.specs.Registrations.{Registration};
+ghost use Rattle.ash_registry.specs.Registered.{registered};
+ghost use Rattle.ash_typed.specs.Modules.{Module as Typed, module_of};
+ghost use Rattle.ash_typed.specs.SoundModules.{IsSound};
+ghost use Rattle.ash_typing.specs.Nesting.{ItemsDeclareInBlocks};
+ghost use Rattle.ash_typing.specs.Offered.{offered};
+ghost use Rattle.ash_meaning.specs.CheckedSource.{checked_source};
+ghost use Rattle.ash_meaning.specs.TypedSource.{IsTypedSource, items_typed, typed_source};
+ghost use Rattle.ash_meaning.specs.Refusals.{Refusal as Refused, refusal_of, NoMemory};
+
+use crate::refusal::Refusal;
+use ash_check::check;
+use ash_registry::Registry;
+use ash_tree::Module;
+use ash_typed::Module as Tree;
+use std::alloc::Global;
+
+/// The typed tree of a script, with these registrations.
+///
+/// # Errors
+///
+/// The script breaks a rule of typing, of which the first is reported, or classes of it could form a cycle. Or memory
+/// was refused.
+pub(crate) fn typed_script(
+    alloc: Global,
+    registry: &Registry,
+    script: &Module,
+) -> Result<Tree, Refusal>
+    requires nested { ItemsDeclareInBlocks (items_of script.now) }
+    ensures found { IfOk result (λ tree. items_typed (registered registry.now)
+        (items_of script.now) ≡ Ok (module_of tree)) }
+    ensures refused { IfErr result (λ refusal. (refusal_of refusal ≡ NoMemory)
+        ⊎ (items_typed (registered registry.now) (items_of script.now)
+        ≡ Err (refusal_of refusal))) }
+{
+    match check(alloc, registry, script) {
+        Ok(checked) => Ok(checked.into_module()),
+        Err(fault) => Err(fault.into()),
+    }
+}
+
+/// A source is typed as the rules say, where no class reaches itself; it is refused exactly where checking it reports
+/// something, and for that. The typed tree is sound with these registrations.
+pub fn typing_has_one_result()
+    ensures by_rules { (calls : List Registration) (source : List ℕ) (typed : Typed) →
+        (typed_source calls source ≡ Ok typed) ↔ IsTypedSource calls source typed }
+    ensures refused { (calls : List Registration) (source : List ℕ) (refusal : Refused) →
+        (typed_source calls source ≡ Err refusal) ↔ (checked_source calls source ≡ Err refusal) }
+    ensures sound { (calls : List Registration) (source : List ℕ) (typed : Typed) →
+        typed_source calls source ≡ Ok typed → IsSound (offered calls) typed }
+{}
