@@ -1,0 +1,12 @@
+pub mod Appended
+pub mod FieldLaws
+pub mod ImageLaws
+pub mod ItemLoop
+pub mod Listed
+pub mod NameLaws
+pub mod Numbers
+pub mod ObjectLaws
+pub mod OrderLaws
+pub mod RuleLaws
+pub mod Texts
+pub mod WordLaws
