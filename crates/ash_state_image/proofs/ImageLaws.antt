@@ -115,7 +115,7 @@ objects_field version =
 
 -- ---- states
 
-registered_field : IsField (text 4) FitsText registered_at
+pub registered_field : IsField (text 4) FitsText registered_at
 unfolding registered_at
 registered_field =
     refit_field (checked_field is_text (text_field 4)) (text 4) FitsText
@@ -180,7 +180,7 @@ version_takes bytes x ok e =
       tt,
     )
 
-version_again : (version : Version) (rest : List ℕ) → ⊤
+pub version_again : (version : Version) (rest : List ℕ) → ⊤
     → version_at (number 2 (version_number version) ++ rest) ≡ Some (version, rest)
 unfolding version_at of_number
 version_again versions.One rest h = ap (λ (o : Option (ℕ × List ℕ)). o >>= of_number) ((number_field 2).again 1 rest (omega arith))

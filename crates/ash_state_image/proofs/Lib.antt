@@ -1,4 +1,5 @@
 pub mod Appended
+pub mod ExampleLaws
 pub mod FieldLaws
 pub mod ImageLaws
 pub mod ItemLoop
@@ -8,5 +9,7 @@ pub mod Numbers
 pub mod ObjectLaws
 pub mod OrderLaws
 pub mod RuleLaws
+pub mod SearchLaws
+pub mod Searching
 pub mod Texts
 pub mod WordLaws

@@ -28,7 +28,7 @@ pub tail_rises : (n : ℕ) (ns : List ℕ) → do_rise (n ∷ ns) ≡ true → d
 tail_rises n [] e = refl
 tail_rises n (m ∷ ms) e = (and_both (ltb n m) (do_rise (m ∷ ms)) e).1
 
-rises_from : (n : ℕ) (ns : List ℕ) → do_rise (n ∷ ns) ≡ true → (j : ℕ) → j < length ns → n < get_or ns j 0
+pub rises_from : (n : ℕ) (ns : List ℕ) → do_rise (n ∷ ns) ≡ true → (j : ℕ) → j < length ns → n < get_or ns j 0
 rises_from n [] e j lt = absurd (omega arith)
 rises_from n (m ∷ ms) e zero lt = ltb-true n m (and_both (ltb n m) (do_rise (m ∷ ms)) e).0
 rises_from n (m ∷ ms) e (suc j) lt =
@@ -80,3 +80,8 @@ search_is ns n (Err i) is e =
         let at = index_of ns n among in
         absurd (apart at.0 (get_or ns at.0 0) at.2 (found.1 at.0) (λ le. found.2 at.0 le at.1))
     go false among = refl
+
+-- the index that a search finds
+pub search_found : (ns : List ℕ) (n i : ℕ) → IsBinarySearchResult (λ y. nat_cmp y n) ns (Ok i) → do_rise ns ≡ true
+    → (i < length ns) × (get_or ns i 0 ≡ n)
+search_found ns n i is e = searched ns n (Ok i) is (not_below ns e)

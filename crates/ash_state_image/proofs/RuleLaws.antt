@@ -1,7 +1,7 @@
 -- The tests of the rules say what the rules say.
 use Rattle.std.proofs.Common.{◌≡◌, ℕ, ◌<◌, ◌≤◌, ◌&&◌, ◌||◌, Bool, true, false, ltb, leb, List, [], ◌∷◌, ◌++◌, length, refl, sym, ap, subst, ◌∙◌}
 use Rattle.std.proofs.Common.{inl, inr, nat_eq, arith}
-use Rattle.std.specs.Prelude.{Option, None, Some, Contains, IsSome, is_some}
+use Rattle.std.specs.Prelude.{Option, None, Some, Contains, IsSome, is_some, ◌↔◌}
 use Rattle.std.specs.List.{flat_map, list_all, AllByRecursion}
 use Rattle.std.specs.Option.{option_map_or}
 use Rattle.std.proofs.lemmas.Bool.{ltb-true, leb-true, lt-ltb, le-leb, eqb-true, eq-eqb}
@@ -16,8 +16,9 @@ use Rattle.ash_host.proofs.Membership.{is_among-numbers}
 use Rattle.ash_host.proofs.Order.{object_here, object_later, none_after, in_order_after}
 use Rattle.ash_state_image.specs.Snapshots.{Loaded, Snapshot}
 use Rattle.ash_state_image.proofs.FieldLaws.{some_is}
-use Rattle.ash_state_image.specs.Rules.{held_by, IsPlaced, KeepsRules, is_given, is_placed, all_live, module_lives, object_lives}
-use Rattle.ash_state_image.specs.Rules.{keeps_rules}
+use Rattle.ash_state_image.specs.Rules.{KeepsRules, AreReached}
+use Rattle.ash_state_image.specs.Rules.{held_by, IsPlaced, IsWhole, is_given, is_placed, all_live, module_lives, object_lives}
+use Rattle.ash_state_image.specs.Rules.{is_whole}
 
 -- ---- lists
 
@@ -175,7 +176,7 @@ all_live_where alive (e ∷ objects) order each =
 
 -- ---- the rules
 
-pub rules_say : (s : Snapshot) → IsInOrder s.objects → keeps_rules s ≡ true → KeepsRules s
+pub rules_say : (s : Snapshot) → IsInOrder s.objects → is_whole s ≡ true → IsWhole s
 rules_say s order e =
     let given = and_both (list_all (is_given s.last) s.objects) _ e in
     let placed = and_both (list_all (λ (o : ℕ × Plain ℕ). is_placed (length s.modules) o.1) s.objects) _ given.1 in
@@ -196,7 +197,7 @@ rules_say s order e =
       };
     }
 
-pub rules_kept : (s : Snapshot) → KeepsRules s → keeps_rules s ≡ true
+pub rules_kept : (s : Snapshot) → IsWhole s → is_whole s ≡ true
 rules_kept s h =
     both_and (list_all (is_given s.last) s.objects) _
     (all_given s.last s.objects (λ n among. h.numbered.given n (alive_is s.objects n among)))
@@ -212,7 +213,13 @@ never : (b : Bool) → b ≡ false → b ≡ true → ⊥
 never b breaks holds = absurd cc
 
 -- a state that breaks the rules is not the one that keeps them
-pub only_kept : {V : Type 0} (x y : V × Snapshot) → Some x ≡ Some y → KeepsRules y.1 → keeps_rules x.1 ≡ false → ⊥
-only_kept {V} x y same keeps breaks =
-    never (keeps_rules x.1) breaks
-    (subst (λ (z : V × Snapshot). keeps_rules z.1 ≡ true) (sym (some_is x y same)) (rules_kept y.1 keeps))
+pub only_kept : {V : Type 0} (x y : V × Snapshot) (b : Bool) → Some x ≡ Some y → KeepsRules y.1
+    → (KeepsRules x.1 → b ≡ true) → b ≡ false → ⊥
+only_kept {V} x y b same keeps says breaks =
+    never b breaks (says (subst (λ (z : V × Snapshot). KeepsRules z.1) (sym (some_is x y same)) keeps))
+
+pub broken_whole : (s : Snapshot) → is_whole s ≡ false → (false ≡ true) ↔ KeepsRules s
+broken_whole s breaks = (λ wrong. absurd cc, λ keeps. absurd (never (is_whole s) breaks (rules_kept s keeps.whole)))
+
+pub with_reached : (s : Snapshot) (b : Bool) → IsWhole s → ((b ≡ true) ↔ AreReached s) → (b ≡ true) ↔ KeepsRules s
+with_reached s b whole h = (λ holds. record { whole = whole; reached = h.0 holds }, λ keeps. h.1 keeps.reached)

@@ -7,3 +7,5 @@ pub mod Image
 pub mod ImageReading
 pub mod Views
 pub mod Rules
+pub mod Search
+pub mod Examples

@@ -2,8 +2,8 @@
 use Rattle.std.specs.Prelude.{ℕ, ◌<◌, ◌&&◌, nat_le, nat_lt, Bool, true, List, length, Contains, ⊤}
 use Rattle.std.specs.List.{flat_map, list_all, AllByRecursion}
 use Rattle.ash_host.specs.declared.word.Word.{Word}
-use Rattle.ash_host.specs.Objects.{Element, Handles, Plain, Script, Array, Objects, numbers, handles, fields_of, AreNumbered}
-use Rattle.ash_host.specs.Reach.{NoneDangles, is_among}
+use Rattle.ash_host.specs.Objects.{Element, Handles, Plain, Script, Array, Objects, numbers, handles, fields_of, Lives, AreNumbered}
+use Rattle.ash_host.specs.Reach.{NoneDangles, ReachableIn, is_among}
 use Rattle.ash_state_image.specs.declared.version.Version.{Version}
 use Rattle.ash_state_image.specs.Snapshots.{Loaded, Snapshot}
 use Rattle.ash_state_image.specs.Image.{Spells}
@@ -20,10 +20,19 @@ IsPlaced count _ = ⊤
 
 -- Numbers are above 0 and at most the last that was given, classes are of modules that are there, and no handle is to an
 -- object that does not live.
-pub record KeepsRules (s : Snapshot) : Type 0 where
+pub record IsWhole (s : Snapshot) : Type 0 where
   pub numbered : AreNumbered s.last s.objects
   pub placed : AllByRecursion (λ (e : ℕ × Plain ℕ). IsPlaced (length s.modules) e.1) s.objects
   pub none_dangle : NoneDangles (Contains (held_by s.modules)) s.objects
+
+-- every object can be reached from the globals
+abbrev pub AreReached : Snapshot → Type 0
+AreReached s = (number : ℕ) → Lives s.objects number → ReachableIn (Contains (held_by s.modules)) s.objects number
+
+-- and every object can be reached
+pub record KeepsRules (s : Snapshot) : Type 0 where
+  pub whole : IsWhole s
+  pub reached : AreReached s
 
 -- The bytes are the image of a state that keeps the rules: they spell it, each byte of them.
 abbrev pub IsImage : List ℕ → Version → Snapshot → Type 0
@@ -53,8 +62,8 @@ module_lives alive m = all_live alive m.globals
 abbrev pub object_lives : List ℕ → ℕ × Plain ℕ → Bool
 object_lives alive e = all_live alive (fields_of e.1)
 
-abbrev pub keeps_rules : Snapshot → Bool
-keeps_rules s =
+abbrev pub is_whole : Snapshot → Bool
+is_whole s =
     list_all (is_given s.last) s.objects
     && (list_all (λ (e : ℕ × Plain ℕ). is_placed (length s.modules) e.1) s.objects
     && (list_all (module_lives (numbers s.objects)) s.modules

@@ -10,8 +10,8 @@
 //     modules               as in modules.rt
 //     objects               as in numbered.rt and objects.rt
 
-ghost use Rattle.std.specs.Prelude.{◌≡◌, ◌++◌, ◌≤◌, length, string_bytes, Some, None, if◌then◌else◌};
-ghost use Rattle.std.specs.Prelude.{OnOk, IfOk, IfSome, ℕ, List, option_map};
+ghost use Rattle.std.specs.Prelude.{◌≡◌, ◌++◌, ◌≤◌, length, string_bytes, Some, None};
+ghost use Rattle.std.specs.Prelude.{if◌then◌else◌, OnOk, IfOk, IfSome, ℕ, List, option_map};
 ghost use Rattle.ash_state_image.specs.Fields.{ReturnsField, text, whole};
 ghost use Rattle.ash_state_image.specs.Snapshots.{Snapshot};
 ghost use Rattle.ash_state_image.specs.Image.{Fits, Spells, image_of, max_text_bytes};

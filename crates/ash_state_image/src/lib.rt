@@ -6,6 +6,7 @@
 //! texts of `fields`. `rules` is what holds over more than one field, `stored` what is read, `parts` what is written.
 #![tactic(auto)]
 
+pub mod examples;
 mod fields;
 pub mod image;
 mod modules;
@@ -13,6 +14,7 @@ mod names;
 mod numbered;
 mod objects;
 pub mod parts;
+mod reaching;
 mod rules;
 mod services;
 pub mod stored;

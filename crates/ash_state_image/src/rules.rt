@@ -1,16 +1,17 @@
 // What holds of a state over more than one field, whatever the sources are.
 
-ghost use Rattle.std.specs.Prelude.{◌≡◌, IfOk, IsTrue};
+ghost use Rattle.std.specs.Prelude.{◌≡◌, ◌↔◌, IfOk, IsTrue};
 ghost use Rattle.std.specs.List.{list_all};
 ghost use Rattle.ash_host.specs.Objects.{numbers, fields_of};
 ghost use Rattle.ash_host.specs.Reach.{is_among};
 ghost use Rattle.ash_state_image.specs.ObjectViews.{plain_of};
 ghost use Rattle.ash_state_image.specs.Image.{do_rise};
 ghost use Rattle.ash_state_image.specs.Rules.{is_given, is_placed, all_live, module_lives, object_lives};
-ghost use Rattle.ash_state_image.specs.Rules.{keeps_rules};
+ghost use Rattle.ash_state_image.specs.Rules.{is_whole, KeepsRules};
 ghost use Rattle.ash_state_image.specs.Views.{object_of, objects_of, modules_of, snapshot_of};
 
-use crate::stored::{ElementType, StoredBody, StoredModule, StoredObject, StoredState};
+use crate::reaching::are_reached;
+use crate::stored::{ElementType, StoredBody, StoredModule, StoredObject, StoredState, words_of};
 use ash_host::Word;
 use std::alloc::{AllocError, Global};
 
@@ -89,17 +90,6 @@ fn all_live(words: &[Word], alive: &[u64]) -> bool
     true
 }
 
-/// The words of an object.
-fn words_of(body: &StoredBody) -> &[Word]
-    ensures { result.now ≡ fields_of (plain_of body.now) }
-{
-    match body {
-        StoredBody::Script(script) => script.fields.as_slice(),
-        StoredBody::Array(array) => array.elements.as_slice(),
-        StoredBody::Host(_) => &[],
-    }
-}
-
 fn modules_live(modules: &[StoredModule], alive: &[u64]) -> bool
     requires { IsTrue (do_rise alive.now) }
     ensures { result ≡ list_all (module_lives alive.now) (modules_of modules.now) }
@@ -124,16 +114,26 @@ fn objects_live(objects: &[StoredObject], alive: &[u64]) -> bool
     true
 }
 
+/// Whether numbers are given, classes are of modules that are there, and no handle dangles.
+fn is_whole(state: &StoredState, alive: &[u64]) -> bool
+    requires rise { IsTrue (do_rise alive.now) }
+    requires alive { alive.now ≡ numbers (objects_of state.now.objects.items) }
+    ensures { result ≡ is_whole (snapshot_of state.now) }
+{
+    are_given(&state.objects, state.last)
+        && are_placed(&state.objects, state.modules.len())
+        && modules_live(&state.modules, alive)
+        && objects_live(&state.objects, alive)
+}
+
 /// Whether a state keeps the rules that need no source.
 pub fn keeps_rules(alloc: Global, state: &StoredState) -> Result<bool, AllocError>
     requires in_order { IsTrue (do_rise (numbers (objects_of state.now.objects.items))) }
-    ensures exact { IfOk result (λ keeps. keeps ≡ keeps_rules (snapshot_of state.now)) }
+    ensures exact { IfOk result (λ keeps. IsTrue keeps ↔ KeepsRules (snapshot_of state.now)) }
 {
     let alive = numbers_of(alloc, &state.objects)?;
-    Ok(
-        are_given(&state.objects, state.last)
-            && are_placed(&state.objects, state.modules.len())
-            && modules_live(&state.modules, &alive)
-            && objects_live(&state.objects, &alive),
-    )
+    if !is_whole(state, &alive) {
+        return Ok(false);
+    }
+    are_reached(alloc, state, &alive)
 }

@@ -1,5 +1,9 @@
 // A state as it was read, with data of its own.
 
+ghost use Rattle.std.specs.Prelude.{◌≡◌};
+ghost use Rattle.ash_host.specs.Objects.{fields_of};
+ghost use Rattle.ash_state_image.specs.ObjectViews.{plain_of};
+
 use crate::version::Version;
 use ash_host::Word;
 
@@ -49,6 +53,17 @@ pub enum StoredBody {
     Script(StoredScript),
     Host(StoredHost),
     Array(StoredArray),
+}
+
+/// The words of an object.
+pub fn words_of(body: &StoredBody) -> &[Word]
+    ensures exact { result.now ≡ fields_of (plain_of body.now) }
+{
+    match body {
+        StoredBody::Script(script) => script.fields.as_slice(),
+        StoredBody::Array(array) => array.elements.as_slice(),
+        StoredBody::Host(_) => &[],
+    }
 }
 
 /// An object, by its number.
