@@ -1,21 +1,20 @@
 -- What the examples are read as. What follows the text is computed; that a text is UTF-8 is not, and is shown apart.
 use Rattle.std.proofs.Common.{◌≡◌, ℕ, zero, suc, ◌<◌, Bool, true, false, cond, ltb, eqb, List, [], ◌∷◌, ◌++◌, length, get_or, Option, Some, None}
-use Rattle.std.proofs.Common.{refl, sym, ap, subst, ◌∙◌, inl, inr, nat_eq, arith}
+use Rattle.std.proofs.Common.{sym, ap, subst, ◌∙◌, inl, inr, nat_eq, arith}
 use Rattle.std.specs.Prelude.{Contains}
-use Rattle.std.specs.Bool.{⊤}
 use Rattle.std.specs.List.{list_all}
 use Rattle.std.proofs.lemmas.Bool.{ltb-true, eqb-true}
 use Rattle.std.proofs.lemmas.Str.{IsUtf8-from_ascii}
 use Rattle.ash_host.specs.Objects.{Plain, Objects, numbers, references, Lives}
-use Rattle.ash_host.specs.Reach.{Reachable, ReachableIn, Root, Field, is_among}
+use Rattle.ash_host.specs.Reach.{ReachableIn, Root, Field, is_among}
 use Rattle.ash_host.proofs.Membership.{or_cases, is_among_yes, is_among_says, is_among-numbers}
 use Rattle.ash_state_image.specs.declared.version.Version.{Version}
 use Rattle.ash_state_image.specs.Fields.{number, text, ◌>>=◌, pair_at, number_at, whole}
 use Rattle.ash_state_image.specs.Snapshots.{Loaded, Snapshot}
 use Rattle.ash_state_image.specs.Image.{FitsText, version_number}
-use Rattle.ash_state_image.specs.ImageReading.{modules_at, services_at, objects_at, registered_at, snapshot_at, version_at, image_at}
+use Rattle.ash_state_image.specs.ImageReading.{modules_at, services_at, objects_at, snapshot_at, image_at}
 use Rattle.ash_state_image.specs.Rules.{IsImage, AreReached, held_by, is_whole}
-use Rattle.ash_state_image.specs.Examples.{IsDamaged, of_each, without_arrays}
+use Rattle.ash_state_image.specs.Examples.{IsDamaged}
 use Rattle.ash_state_image.proofs.Numbers.{IsBytes}
 use Rattle.ash_state_image.proofs.NameLaws.{both}
 use Rattle.ash_state_image.proofs.FieldLaws.{some_is}

@@ -1,5 +1,5 @@
 -- The two laws of an image: bytes are read as what they are the image of, and as nothing else.
-use Rattle.std.proofs.Common.{◌≡◌, ℕ, zero, suc, ◌^◌, ◌<◌, ◌≤◌, Bool, true, false, cond, leb, eqb, List, ◌++◌, length, Option, Some, None}
+use Rattle.std.proofs.Common.{◌≡◌, ℕ, ◌^◌, ◌<◌, Bool, true, false, cond, leb, eqb, List, ◌++◌, length, Option, Some, None}
 use Rattle.std.proofs.Common.{refl, sym, ap, subst, ◌∙◌, arith}
 use Rattle.std.specs.Bool.{IsTrue, ⊤}
 use Rattle.std.specs.List.{AllByRecursion}
@@ -10,9 +10,9 @@ use Rattle.ash_state_image.specs.declared.version.Version.{Version}
 use Rattle.ash_state_image.specs.declared.version.Version.TheVariants as versions
 use Rattle.ash_state_image.specs.Fields.{number, text, items, ◌>>=◌, number_at, whole}
 use Rattle.ash_state_image.specs.Words.{word, FitsWord}
-use Rattle.ash_state_image.specs.ObjectBytes.{plain, FitsPlain, FitsHost}
+use Rattle.ash_state_image.specs.ObjectBytes.{plain, FitsPlain}
 use Rattle.ash_state_image.specs.Snapshots.{Loaded, Snapshot}
-use Rattle.ash_state_image.specs.Image.{loaded_module, service, object, state_bytes, version_number, image, is_module_name}
+use Rattle.ash_state_image.specs.Image.{loaded_module, service, object, state_bytes, version_number, is_module_name}
 use Rattle.ash_state_image.specs.Image.{are_ascending, names_of, do_rise, has_version, max_source_bytes, max_globals, max_modules}
 use Rattle.ash_state_image.specs.Image.{max_services, max_stored_objects, FitsText, FitsModule, FitsObject, FitServices}
 use Rattle.ash_state_image.specs.Image.{FitModules, FitObjects, Fits, Spells}

@@ -1,15 +1,14 @@
 -- The two laws of an object in an image.
-use Rattle.std.proofs.Common.{◌≡◌, ℕ, zero, suc, ◌^◌, ◌<◌, ◌≤◌, leb, List, [], ◌++◌, length, Option, Some, refl, arith}
-use Rattle.std.specs.Bool.{IsTrue}
+use Rattle.std.proofs.Common.{◌≡◌, ℕ, zero, suc, ◌≤◌, leb, List, [], ◌++◌, length, Some, refl, arith}
 use Rattle.std.specs.List.{AllByRecursion}
 use Rattle.std.proofs.lemmas.Bool.{leb-true, le-leb}
 use Rattle.ash_host.specs.declared.word.Word.{Word}
 use Rattle.ash_host.specs.Calls.{max_state}
 use Rattle.ash_host.specs.Objects.{Element, Bools, Ints, Uints, Int64s, Uint64s, Handles, Hosts, Plain, Script, Array, Host}
-use Rattle.ash_state_image.specs.Fields.{number, text, items, pair_at, number_at}
+use Rattle.ash_state_image.specs.Fields.{number, text, items}
 use Rattle.ash_state_image.specs.Words.{word, FitsWord}
-use Rattle.ash_state_image.specs.ObjectBytes.{max_fields, max_array_elements, element, plain, FitsElement, FitsScript, FitsHost}
-use Rattle.ash_state_image.specs.ObjectBytes.{FitsArray, FitsPlain, element_case, element_at, fields_at, elements_at, state_at}
+use Rattle.ash_state_image.specs.ObjectBytes.{max_fields, max_array_elements, element, plain, FitsElement, FitsHost}
+use Rattle.ash_state_image.specs.ObjectBytes.{FitsPlain, element_case, element_at, fields_at, elements_at, state_at}
 use Rattle.ash_state_image.specs.ObjectBytes.{kind_and_state_at, script_at, array_at, plain_case, plain_at, host}
 use Rattle.ash_state_image.proofs.Numbers.{IsBytes}
 use Rattle.ash_state_image.proofs.FieldLaws.{IsField, number_field, text_field, checked_field, pair_field, items_field}

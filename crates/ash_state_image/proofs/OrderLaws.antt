@@ -1,5 +1,5 @@
 -- Numbers that rise one by one are strictly increasing, and a binary search among them finds what is there.
-use Rattle.std.proofs.Common.{◌≡◌, ℕ, zero, suc, ◌+◌, ◌<◌, ◌≤◌, ◌&&◌, Bool, true, false, ltb, List, [], ◌∷◌, length, get_or, refl, subst, sym}
+use Rattle.std.proofs.Common.{◌≡◌, ℕ, zero, suc, ◌<◌, ◌≤◌, Bool, true, false, ltb, List, [], ◌∷◌, length, get_or, refl, subst, sym}
 use Rattle.std.proofs.Common.{inl, inr, nat_eq, add-one, arith}
 use Rattle.std.specs.Prelude.{slice_index, Result, Ok, Err, is_ok}
 use Rattle.std.specs.List.Sorted.{IsStrictlyIncreasing}

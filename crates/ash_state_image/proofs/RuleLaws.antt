@@ -1,23 +1,22 @@
 -- The tests of the rules say what the rules say.
-use Rattle.std.proofs.Common.{◌≡◌, ℕ, ◌<◌, ◌≤◌, ◌&&◌, ◌||◌, Bool, true, false, ltb, leb, List, [], ◌∷◌, ◌++◌, length, refl, sym, ap, subst, ◌∙◌}
+use Rattle.std.proofs.Common.{◌≡◌, ℕ, ◌<◌, ◌≤◌, ◌&&◌, Bool, true, false, ltb, leb, List, [], ◌∷◌, length, refl, sym, ap, subst, ◌∙◌}
 use Rattle.std.proofs.Common.{inl, inr, nat_eq, arith}
-use Rattle.std.specs.Prelude.{Option, None, Some, Contains, IsSome, is_some, ◌↔◌}
+use Rattle.std.specs.Prelude.{Option, None, Some, IsSome, ◌↔◌}
 use Rattle.std.specs.List.{flat_map, list_all, AllByRecursion}
 use Rattle.std.specs.Option.{option_map_or}
 use Rattle.std.proofs.lemmas.Bool.{ltb-true, leb-true, lt-ltb, le-leb, eqb-true, eq-eqb}
 use Rattle.std.proofs.lemmas.List.Elements.{filter_map-append}
 use Rattle.std.proofs.lemmas.List.Folds.{list_all-append}
-use Rattle.ash_host.specs.declared.word.Word.{Word}
-use Rattle.ash_host.specs.Objects.{Element, Bools, Ints, Uints, Int64s, Uint64s, Handles, Hosts, Plain, Script, Array, Host}
-use Rattle.ash_host.specs.Objects.{Objects, object_at, numbers, handle, handles, fields_of, references, Refers, Lives, AreNumbered, IsInOrder}
-use Rattle.ash_host.specs.Reach.{NoneDangles, is_among}
+use Rattle.ash_host.specs.Objects.{Bools, Ints, Uints, Int64s, Uint64s, Handles, Hosts, Plain, Script, Array, Host}
+use Rattle.ash_host.specs.Objects.{Objects, object_at, numbers, handle, handles, fields_of, references, Lives, IsInOrder}
+use Rattle.ash_host.specs.Reach.{is_among}
 use Rattle.ash_host.proofs.Membership.{or_cases, or_first, or_second, and_both, both_and, is_among_yes, is_among_says}
 use Rattle.ash_host.proofs.Membership.{is_among-numbers}
 use Rattle.ash_host.proofs.Order.{object_here, object_later, none_after, in_order_after}
 use Rattle.ash_state_image.specs.Snapshots.{Loaded, Snapshot}
 use Rattle.ash_state_image.proofs.FieldLaws.{some_is}
 use Rattle.ash_state_image.specs.Rules.{KeepsRules, AreReached}
-use Rattle.ash_state_image.specs.Rules.{held_by, IsPlaced, IsWhole, is_given, is_placed, all_live, module_lives, object_lives}
+use Rattle.ash_state_image.specs.Rules.{held_by, IsPlaced, IsWhole, is_given, is_placed, module_lives, object_lives}
 use Rattle.ash_state_image.specs.Rules.{is_whole}
 
 -- ---- lists

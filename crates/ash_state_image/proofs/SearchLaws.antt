@@ -1,14 +1,13 @@
 -- A search marks what is reachable, and nothing else.
-use Rattle.std.proofs.Common.{◌≡◌, ℕ, zero, suc, ◌+◌, ◌<◌, ◌≤◌, ◌||◌, Bool, true, false, cond, not, List, [], ◌∷◌, ◌++◌, length, get_or, set, refl, sym}
+use Rattle.std.proofs.Common.{◌≡◌, ℕ, zero, suc, ◌+◌, ◌<◌, Bool, true, false, cond, List, [], ◌∷◌, ◌++◌, length, get_or, set, refl, sym}
 use Rattle.std.proofs.Common.{ap, subst, ◌∙◌, inl, inr, nat_eq, ◌⊎◌, arith}
-use Rattle.std.specs.Prelude.{Contains, Option, None, Some, IsSome, is_some}
-use Rattle.std.specs.List.{list_any, list_all}
-use Rattle.std.specs.Option.{option_map_or}
-use Rattle.std.proofs.lemmas.Bool.{cases_lt, eqb-true, eq-eqb}
-use Rattle.std.proofs.lemmas.List.{get_or-set_same, get_or-set_other, length-append}
+use Rattle.std.specs.Prelude.{Contains}
+use Rattle.std.specs.List.{list_all}
+use Rattle.std.proofs.lemmas.Bool.{eqb-true, eq-eqb}
+use Rattle.std.proofs.lemmas.List.{get_or-set_same, length-append}
 use Rattle.std.proofs.lemmas.List.Folds.{list_any-append}
-use Rattle.ash_host.specs.Objects.{Plain, Objects, object_at, numbers, handles, fields_of, references, Refers, Lives}
-use Rattle.ash_host.specs.Reach.{Reachable, Root, Field, ReachableIn, is_among, refers}
+use Rattle.ash_host.specs.Objects.{Objects, numbers, references, Lives}
+use Rattle.ash_host.specs.Reach.{Root, Field, ReachableIn, is_among}
 use Rattle.ash_host.proofs.Membership.{or_cases, or_first, or_second, is_among_yes, is_among_says, is_among-numbers, refers_lives}
 use Rattle.ash_state_image.specs.Image.{do_rise}
 use Rattle.ash_state_image.specs.Search.{Progress, IsMarked, IsPending, Visited, Searches, unmarked, with_marked}

@@ -1,5 +1,5 @@
 -- The steps of the search in the code.
-use Rattle.std.proofs.Common.{◌≡◌, ℕ, zero, suc, ◌+◌, ◌<◌, Bool, true, false, List, [], ◌∷◌, ◌++◌, length, get_or, take, map, refl, sym, ap, subst, ◌∙◌, arith}
+use Rattle.std.proofs.Common.{◌≡◌, ℕ, zero, suc, ◌+◌, ◌<◌, Bool, true, false, List, [], ◌∷◌, ◌++◌, length, get_or, take, refl, sym, ap, subst, ◌∙◌, arith}
 use Rattle.std.specs.Prelude.{Option, Some, None, Contains, ◌↔◌, replicate}
 use Rattle.std.specs.List.{flat_map, list_all}
 use Rattle.std.specs.Option.{option_map_or}
@@ -11,7 +11,7 @@ use Rattle.std.proofs.lemmas.List.{take_more, map-append, append-nil, length-map
 use Rattle.std.proofs.lemmas.List.Elements.{filter_map-append}
 use Rattle.ash_host.specs.declared.word.Word.{Word}
 use Rattle.ash_host.specs.declared.word.Word.TheVariants as words
-use Rattle.ash_host.specs.Objects.{Plain, Objects, object_at, numbers, handle, handles, fields_of, references, Lives}
+use Rattle.ash_host.specs.Objects.{Plain, numbers, handle, handles, fields_of, references, Lives}
 use Rattle.ash_host.specs.Reach.{ReachableIn, is_among}
 use Rattle.ash_host.proofs.Order.{object_here, object_later}
 use Rattle.ash_state_image.specs.declared.stored.StoredModule.{StoredModule}

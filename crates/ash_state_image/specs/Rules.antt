@@ -2,7 +2,7 @@
 use Rattle.std.specs.Prelude.{ℕ, ◌<◌, ◌&&◌, nat_le, nat_lt, Bool, true, List, length, Contains, ⊤}
 use Rattle.std.specs.List.{flat_map, list_all, AllByRecursion}
 use Rattle.ash_host.specs.declared.word.Word.{Word}
-use Rattle.ash_host.specs.Objects.{Element, Handles, Plain, Script, Array, Objects, numbers, handles, fields_of, Lives, AreNumbered}
+use Rattle.ash_host.specs.Objects.{Element, Handles, Plain, Script, Array, numbers, handles, fields_of, Lives, AreNumbered}
 use Rattle.ash_host.specs.Reach.{NoneDangles, ReachableIn, is_among}
 use Rattle.ash_state_image.specs.declared.version.Version.{Version}
 use Rattle.ash_state_image.specs.Snapshots.{Loaded, Snapshot}

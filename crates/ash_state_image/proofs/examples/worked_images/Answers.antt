@@ -1,4 +1,4 @@
-use Rattle.std.proofs.Common.{refl, ◌++◌, ◌∷◌, [], take}
+use Rattle.std.proofs.Common.{refl, ◌∷◌, []}
 use Rattle.ash_state_image.specs.declared.version.Version.TheVariants.{One, Two}
 use Rattle.ash_state_image.specs.Fields.{times_at}
 use Rattle.ash_state_image.specs.Words.{value_at, word_at}

@@ -1,4 +1,4 @@
-use Rattle.std.proofs.Common.{◌≡◌, ◌∙◌, Bool, true, false, sym, ap, arith}
+use Rattle.std.proofs.Common.{◌≡◌, ◌∙◌, true, false, sym, ap, arith}
 use Rattle.std.specs.Prelude.{option_map}
 use Rattle.ash_state_image.specs.Views.{image_read}
 use Rattle.ash_state_image.proofs.RuleLaws.{only_kept}

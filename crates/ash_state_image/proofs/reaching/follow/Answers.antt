@@ -1,10 +1,10 @@
 use Rattle.std.proofs.Common.{◌≡◌, ◌<◌, ℕ, List, length, get_or, true, subst, ◌∙◌, ap, arith}
 use Rattle.ash_host.specs.declared.word.Word.{Word}
-use Rattle.ash_host.specs.Objects.{numbers, handles, fields_of}
+use Rattle.ash_host.specs.Objects.{handles, fields_of}
 use Rattle.ash_state_image.specs.declared.stored.StoredObject.{StoredObject}
 use Rattle.ash_state_image.specs.Image.{do_rise}
 use Rattle.ash_state_image.specs.Rules.{held_by}
-use Rattle.ash_state_image.specs.Views.{modules_of, object_of, objects_of}
+use Rattle.ash_state_image.specs.Views.{modules_of, object_of}
 use Rattle.ash_state_image.specs.Search.{Progress, Visited, progress_of}
 use Rattle.ash_state_image.proofs.Searching.{next_within, next_searches}
 use Rattle.ash_state_image.proofs.reaching.follow.Goals as goal

@@ -1,4 +1,4 @@
-use Rattle.std.proofs.Common.{false, ap, sym, ◌∙◌, ◌++◌, ◌∷◌, []}
+use Rattle.std.proofs.Common.{false, ap, ◌∙◌, ◌++◌, ◌∷◌, []}
 use Rattle.std.proofs.Common.{List, Bool}
 use Rattle.std.proofs.lemmas.List.{replicate-append-replicate}
 use Rattle.ash_state_image.proofs.reaching.unmarked.Goals as goal
