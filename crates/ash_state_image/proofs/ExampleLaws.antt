@@ -55,11 +55,11 @@ abbrev rest_at : Version → List ℕ → Option (Rest × List ℕ)
 rest_at v = pair_at (number_at 8) (pair_at (number_at 8) (pair_at services_at (pair_at modules_at (objects_at v))))
 
 -- the text and what follows it, as a snapshot, with its version, where nothing is left
-abbrev paired : Version → List ℕ × List ℕ → Option ((List ℕ × Rest) × List ℕ)
-paired v x = rest_at v x.1 >>= λ y. Some ((x.0, y.0), y.1)
+abbrev pair_with : Version → List ℕ × List ℕ → Option ((List ℕ × Rest) × List ℕ)
+pair_with v x = rest_at v x.1 >>= λ y. Some ((x.0, y.0), y.1)
 
-abbrev made : List ℕ × Rest → Snapshot
-made x = record {
+abbrev snapshot_from : List ℕ × Rest → Snapshot
+snapshot_from x = record {
   registered = x.0;
   seq = x.1.0;
   last = x.1.1.0;
@@ -68,18 +68,18 @@ made x = record {
   objects = x.1.1.1.1.1;
 }
 
-abbrev viewed : (List ℕ × Rest) × List ℕ → Option (Snapshot × List ℕ)
-viewed x = Some (made x.0, x.1)
+abbrev as_snapshot : (List ℕ × Rest) × List ℕ → Option (Snapshot × List ℕ)
+as_snapshot x = Some (snapshot_from x.0, x.1)
 
-abbrev versioned : Version → Snapshot × List ℕ → Option ((Version × Snapshot) × List ℕ)
-versioned v y = Some ((v, y.0), y.1)
+abbrev with_version : Version → Snapshot × List ℕ → Option ((Version × Snapshot) × List ℕ)
+with_version v y = Some ((v, y.0), y.1)
 
-abbrev ended : (Version × Snapshot) × List ℕ → Option (Version × Snapshot)
-ended x = cond (eqb (length x.1) 0) (Some x.0) None
+abbrev at_end : (Version × Snapshot) × List ℕ → Option (Version × Snapshot)
+at_end x = cond (eqb (length x.1) 0) (Some x.0) None
 
 -- what the bytes after the text are read as
 unfoldable pub read_rest : Version → List ℕ → List ℕ → Option (Version × Snapshot)
-read_rest v t rest = ((paired v (t, rest) >>= viewed) >>= versioned v) >>= ended
+read_rest v t rest = ((pair_with v (t, rest) >>= as_snapshot) >>= with_version v) >>= at_end
 
 abbrev pub image_bytes : Version → List ℕ → List ℕ → List ℕ
 image_bytes v t rest = number 2 (version_number v) ++ (text 4 t ++ rest)
@@ -87,9 +87,9 @@ image_bytes v t rest = number 2 (version_number v) ++ (text 4 t ++ rest)
 read_is : (v : Version) (t rest : List ℕ) → FitsText t → whole image_at (image_bytes v t rest) ≡ read_rest v t rest
 unfolding image_at snapshot_at read_rest
 read_is v t rest fits =
-    ap (λ (o : Option (Version × List ℕ)). (o >>= λ x. snapshot_at x.0 x.1 >>= versioned x.0) >>= ended)
+    ap (λ (o : Option (Version × List ℕ)). (o >>= λ x. snapshot_at x.0 x.1 >>= with_version x.0) >>= at_end)
     (version_again v (text 4 t ++ rest) tt)
-    ∙ ap (λ (o : Option (List ℕ × List ℕ)). ((o >>= paired v >>= viewed) >>= versioned v) >>= ended)
+    ∙ ap (λ (o : Option (List ℕ × List ℕ)). ((o >>= pair_with v >>= as_snapshot) >>= with_version v) >>= at_end)
     (registered_field.again t rest fits)
 
 pub image_by_reading : (v : Version) (t rest : List ℕ) (s : Snapshot) → FitsText t

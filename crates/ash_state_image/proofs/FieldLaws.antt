@@ -288,7 +288,7 @@ refit_field {A} {spell} {fits} {read} field spelling Fit spelled gives wants = r
   again = λ x rest h. ap (λ (s : List ℕ). read (s ++ rest)) (spelled x) ∙ field.again x rest (wants x h);
 }
 
--- ---- sums, told apart by a tag of one byte
+-- ---- sums, distinguished by a tag of one byte
 
 -- the bytes after a tag are those of this value
 pub record HasCase {A : Type 0} (spell : A → List ℕ) (Fit : A → Type 0) (tag : ℕ) (bytes : List ℕ)

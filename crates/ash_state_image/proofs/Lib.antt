@@ -3,6 +3,7 @@ pub mod ExampleLaws
 pub mod FieldLaws
 pub mod ImageLaws
 pub mod ItemLoop
+pub mod Lengths
 pub mod Listed
 pub mod NameLaws
 pub mod Numbers

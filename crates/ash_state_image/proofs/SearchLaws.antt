@@ -37,7 +37,7 @@ one_among m n same = or_first (nat_eq n m) false (eq-eqb n m same)
 pub among_last : (xs : List ℕ) (n : ℕ) → is_among (xs ++ n ∷ []) n ≡ true
 among_last xs n = among_right xs (n ∷ []) n (one_among n n refl)
 
--- a number stands at one index
+-- a number is at one index
 once : (ns : List ℕ) → do_rise ns ≡ true → (i j : ℕ) → i < length ns → j < length ns → get_or ns i 0 ≡ get_or ns j 0 → i ≡ j
 once [] e i j lt lt2 same = absurd (omega arith)
 once (n ∷ ns) e zero zero lt lt2 same = refl

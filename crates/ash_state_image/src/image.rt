@@ -10,7 +10,7 @@
 //     modules               as in modules.rt
 //     objects               as in numbered.rt and objects.rt
 
-ghost use Rattle.std.specs.Prelude.{◌≡◌, ◌++◌, ◌≤◌, length, string_bytes, Some, None};
+ghost use Rattle.std.specs.Prelude.{◌≡◌, ◌++◌, ◌≤◌, ◌<◌, ◌^◌, length, string_bytes, Some, None};
 ghost use Rattle.std.specs.Prelude.{if◌then◌else◌, OnOk, IfOk, IfSome, ℕ, List, option_map};
 ghost use Rattle.ash_state_image.specs.Fields.{ReturnsField, text, whole};
 ghost use Rattle.ash_state_image.specs.Snapshots.{Snapshot};
@@ -180,6 +180,8 @@ pub fn write_image(alloc: Global, state: StateParts<'_>) -> Result<Vec<u8>, Allo
     // The state has an image.
     requires fits { Fits Two (snapshot_in state) }
     ensures written { IfOk result (λ image. image.items ≡ image_of (snapshot_in state.entry)) }
+    // It fits into a record.
+    ensures short { IfOk result (λ image. length image.items < 2 ^ 28) }
 {
     let mut image = Vec::new(alloc);
     write_image_into(&mut image, state)?;
