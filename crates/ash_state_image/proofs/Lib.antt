@@ -1,0 +1,16 @@
+pub mod Appended
+pub mod ExampleLaws
+pub mod FieldLaws
+pub mod ImageLaws
+pub mod ItemLoop
+pub mod Lengths
+pub mod Listed
+pub mod NameLaws
+pub mod Numbers
+pub mod ObjectLaws
+pub mod OrderLaws
+pub mod RuleLaws
+pub mod SearchLaws
+pub mod Searching
+pub mod Texts
+pub mod WordLaws

@@ -1,0 +1,25 @@
+use Rattle.std.proofs.Common.{◌≡◌, ◌∙◌, true, false, sym, ap, arith}
+use Rattle.std.specs.Prelude.{option_map}
+use Rattle.ash_state_image.specs.Views.{image_read}
+use Rattle.ash_state_image.proofs.RuleLaws.{only_kept}
+use Rattle.ash_state_image.proofs.image.read_image.Goals as goal
+
+pub returns-in_default-clause-only : goal.returns-in_default-clause-only
+returns-in_default-clause-only c = λ version s h.
+    sym (ap (option_map image_read) c.in_default.is) ∙ c.in_ok-stored.ensures.only version s h.0
+
+pub returns-then-not-branch-clause-only : goal.returns-then-not-branch-clause-only
+returns-then-not-branch-clause-only c = λ version s h.
+    let breaks : c.in_ok-keeps_rules.field-0 ≡ false = grind arith in
+    absurd (only_kept (image_read c.in-Some.stored) (version, s) c.in_ok-keeps_rules.field-0
+    (sym (ap (option_map image_read) c.in-Some.is) ∙ c.in_ok-stored.ensures.only version s h.0) h.1
+    c.in_ok-keeps_rules.ensures.exact.1 breaks)
+
+pub returns-clause-found : goal.returns-clause-found
+returns-clause-found c =
+    let holds : c.in_ok-keeps_rules.field-0 ≡ true = grind arith in
+    (rw c.in-Some.is at c.in_ok-stored.ensures.found, c.in_ok-keeps_rules.ensures.exact.0 holds)
+
+pub returns-clause-only : goal.returns-clause-only
+returns-clause-only c = λ version s h.
+    sym (ap (option_map image_read) c.in-Some.is) ∙ c.in_ok-stored.ensures.only version s h.0

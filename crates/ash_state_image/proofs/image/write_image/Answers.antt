@@ -1,0 +1,12 @@
+use Rattle.std.proofs.Common.{ℕ, List, ◌<◌, ◌^◌, length, ◌++◌, sym, ap, subst, ◌∙◌}
+use Rattle.ash_state_image.specs.Image.{image_of}
+use Rattle.ash_state_image.specs.Views.{snapshot_in}
+use Rattle.ash_state_image.specs.declared.version.Version.TheVariants.{Two}
+use Rattle.ash_state_image.proofs.Lengths.{image_short}
+use Rattle.ash_state_image.proofs.image.write_image.Goals as goal
+
+pub returns-clause-short : goal.returns-clause-short
+returns-clause-short c =
+    let s = snapshot_in c.args.state in
+    let written = c.in_ok-write_image_into.ensures ∙ ap (λ (bytes : List ℕ). bytes ++ image_of s) c.new-image.ensures.items in
+    subst (λ (bytes : List ℕ). length bytes < 2 ^ 28) (sym written) (image_short Two s c.requires.fits)

@@ -1,0 +1,9 @@
+use Rattle.ash_state_image.specs.declared.version.Version.TheVariants.{Two}
+use Rattle.ash_state_image.specs.Image.{FitsObject}
+use Rattle.ash_state_image.specs.Views.{object_in}
+use Rattle.ash_state_image.proofs.Listed.{all_map_at}
+use Rattle.ash_state_image.proofs.numbered.write_each.Goals as goal
+
+pub write_object-requires : goal.write_object-requires
+write_object-requires c = all_map_at (FitsObject Two) object_in c.args.objects.now c.loop-parts.parts-index _ c.requires
+    c.loop-parts-test.true

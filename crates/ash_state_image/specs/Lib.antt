@@ -1,0 +1,11 @@
+pub mod Fields
+pub mod Words
+pub mod ObjectBytes
+pub mod ObjectViews
+pub mod Snapshots
+pub mod Image
+pub mod ImageReading
+pub mod Views
+pub mod Rules
+pub mod Search
+pub mod Examples

@@ -1,0 +1,102 @@
+// Numbers and texts as they are read from a prefix of bytes, and written at the end of a vector.
+
+ghost use Rattle.std.specs.Prelude.{◌≡◌, ◌++◌, OnOk};
+ghost use Rattle.ash_state_image.specs.Fields.{ReturnsField, number, prefix_at, number_at};
+ghost use Rattle.ash_state_image.specs.declared.fields.ReadError.TheVariants.{NoMemory};
+
+use byteorder::{ByteOrder, LittleEndian};
+use std::alloc::{AllocError, AllocFailed};
+
+/// Why nothing was read.
+#[derive(Drop)]
+pub enum ReadError {
+    /// Memory was refused.
+    NoMemory,
+    /// The bytes spell nothing.
+    Damaged,
+}
+
+impl From<AllocError> for ReadError {
+    ghost from_gives = { λ _ e. e ≡ NoMemory };
+
+    fn from(_e: AllocError) -> ReadError {
+        ReadError::NoMemory
+    }
+}
+
+impl<T: Drop> From<AllocFailed<T>> for ReadError {
+    ghost from_gives = { λ _ e. e ≡ NoMemory };
+
+    fn from(_e: AllocFailed<T>) -> ReadError {
+        ReadError::NoMemory
+    }
+}
+
+/// So many bytes, and those after them.
+pub fn prefix(bytes: &[u8], count: usize) -> Result<(&[u8], &[u8]), ReadError>
+    ensures read { ReturnsField (λ x. (x.0.now, x.1.now)) result (prefix_at count bytes.now) }
+{
+    if bytes.len() < count {
+        return Err(ReadError::Damaged);
+    }
+    Ok(bytes.split_at(count))
+}
+
+pub fn u8_at(bytes: &[u8]) -> Result<(u8, &[u8]), ReadError>
+    ensures read { ReturnsField (λ x. (x.0, x.1.now)) result (number_at 1 bytes.now) }
+{
+    let (prefix, rest) = prefix(bytes, 1)?;
+    Ok((prefix[0], rest))
+}
+
+pub fn u16_at(bytes: &[u8]) -> Result<(u16, &[u8]), ReadError>
+    ensures read { ReturnsField (λ x. (x.0, x.1.now)) result (number_at 2 bytes.now) }
+{
+    let (prefix, rest) = prefix(bytes, 2)?;
+    Ok((LittleEndian::read_u16(prefix), rest))
+}
+
+pub fn u32_at(bytes: &[u8]) -> Result<(u32, &[u8]), ReadError>
+    ensures read { ReturnsField (λ x. (x.0, x.1.now)) result (number_at 4 bytes.now) }
+{
+    let (prefix, rest) = prefix(bytes, 4)?;
+    Ok((LittleEndian::read_u32(prefix), rest))
+}
+
+pub fn u64_at(bytes: &[u8]) -> Result<(u64, &[u8]), ReadError>
+    ensures read { ReturnsField (λ x. (x.0, x.1.now)) result (number_at 8 bytes.now) }
+{
+    let (prefix, rest) = prefix(bytes, 8)?;
+    Ok((LittleEndian::read_u64(prefix), rest))
+}
+
+pub fn write_u8(out: &mut Vec<u8>, value: u8) -> Result<(), AllocError>
+    ensures written { OnOk result (out.new.items ≡ out.old.items ++ number 1 value) }
+{
+    out.push(value)?;
+    Ok(())
+}
+
+pub fn write_u16(out: &mut Vec<u8>, value: u16) -> Result<(), AllocError>
+    ensures written { OnOk result (out.new.items ≡ out.old.items ++ number 2 value) }
+{
+    let mut bytes = [0; 2];
+    LittleEndian::write_u16(&mut bytes, value);
+    out.extend_from_slice(&bytes)
+}
+
+pub fn write_u32(out: &mut Vec<u8>, value: u32) -> Result<(), AllocError>
+    ensures written { OnOk result (out.new.items ≡ out.old.items ++ number 4 value) }
+{
+    let mut bytes = [0; 4];
+    LittleEndian::write_u32(&mut bytes, value);
+    out.extend_from_slice(&bytes)
+}
+
+pub fn write_u64(out: &mut Vec<u8>, value: u64) -> Result<(), AllocError>
+    ensures written { OnOk result (out.new.items ≡ out.old.items ++ number 8 value) }
+{
+    let mut bytes = [0; 8];
+    LittleEndian::write_u64(&mut bytes, value);
+    out.extend_from_slice(&bytes)
+}
