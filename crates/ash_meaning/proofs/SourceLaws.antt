@@ -108,12 +108,12 @@ alone_is (Ok typed) (Ok other) tree e = cc
 alone_is (Ok typed) (Err refusal) tree e = absurd (cc)
 alone_is (Err refusal) alone tree e = absurd (cc)
 
-sound_as : (admitted : AdmittedScripts) (calls : List Registration) (source : List ℕ) (tree : Typed)
-    → admitted_as admitted (typed_source calls source) (typed_source [] source) ≡ Ok tree
-    → IsSound (offered (registrations_by admitted calls)) tree
-sound_as scripts.All calls source tree e = typed_sound calls source tree e
-sound_as scripts.UsingNothingRegistered calls source tree e =
-    typed_sound [] source tree (alone_is (typed_source calls source) (typed_source [] source) tree e)
+sound_as : (admitted : AdmittedScripts) (registrations : List Registration) (source : List ℕ) (tree : Typed)
+    → admitted_as admitted (typed_source registrations source) (typed_source [] source) ≡ Ok tree
+    → IsSound (offered (registrations_by admitted registrations)) tree
+sound_as scripts.All registrations source tree e = typed_sound registrations source tree e
+sound_as scripts.UsingNothingRegistered registrations source tree e =
+    typed_sound [] source tree (alone_is (typed_source registrations source) (typed_source [] source) tree e)
 
 pub read_sound : (rules : SourceRules) → ReadsSound (host_for rules) (embedding_of rules)
 read_sound rules source tree e = sound_as rules.admitted rules.registered source tree e
@@ -144,12 +144,12 @@ both_read : (typed alone : TypedResult) (tree : Typed) → IsOk typed → alone 
 both_read (Ok typed) alone tree ok e = ap typed_or_not_yet e
 both_read (Err refusal) alone tree ok e = absurd (cc)
 
-pub admitted_exact : (calls : List Registration) (source : List ℕ) (typed : Typed)
-    → (read_typed (admitting_unregistered calls) source ≡ Ok typed)
-    ↔ (IsOk (typed_source calls source) × (typed_source [] source ≡ Ok typed))
-admitted_exact calls source typed = (
-  read_both (typed_source calls source) (typed_source [] source) typed,
-  λ h. both_read (typed_source calls source) (typed_source [] source) typed h.0 h.1,
+pub admitted_exact : (registrations : List Registration) (source : List ℕ) (typed : Typed)
+    → (read_typed (admitting_unregistered registrations) source ≡ Ok typed)
+    ↔ (IsOk (typed_source registrations source) × (typed_source [] source ≡ Ok typed))
+admitted_exact registrations source typed = (
+  read_both (typed_source registrations source) (typed_source [] source) typed,
+  λ h. both_read (typed_source registrations source) (typed_source [] source) typed h.0 h.1,
 )
 
 -- no check reports that a script can't be run so far
@@ -205,10 +205,10 @@ both_not_yet (Ok typed) (Ok other) ok err = absurd (cc)
 both_not_yet (Ok typed) (Err refusal) ok err = refl
 both_not_yet (Err refusal) alone ok err = absurd (cc)
 
-pub not_admitted_exact : (calls : List Registration) (source : List ℕ)
-    → (read_typed (admitting_unregistered calls) source ≡ Err refusals.NotYet)
-    ↔ (IsOk (typed_source calls source) × IsErr (typed_source [] source))
-not_admitted_exact calls source = (
-  not_yet_both (typed_source calls source) (typed_source [] source) (never_not_yet calls source),
-  λ h. both_not_yet (typed_source calls source) (typed_source [] source) h.0 h.1,
+pub not_admitted_exact : (registrations : List Registration) (source : List ℕ)
+    → (read_typed (admitting_unregistered registrations) source ≡ Err refusals.NotYet)
+    ↔ (IsOk (typed_source registrations source) × IsErr (typed_source [] source))
+not_admitted_exact registrations source = (
+  not_yet_both (typed_source registrations source) (typed_source [] source) (never_not_yet registrations source),
+  λ h. both_not_yet (typed_source registrations source) (typed_source [] source) h.0 h.1,
 )

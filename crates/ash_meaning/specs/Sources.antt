@@ -44,8 +44,8 @@ read_typed rules source =
 
 -- what the trees of admitted scripts may use
 abbrev pub registrations_by : AdmittedScripts → List Registration → List Registration
-registrations_by scripts.All calls = calls
-registrations_by scripts.UsingNothingRegistered calls = []
+registrations_by scripts.All registrations = registrations
+registrations_by scripts.UsingNothingRegistered registrations = []
 
 abbrev pub host_for : SourceRules → Host
 host_for rules = offered (registrations_by rules.admitted rules.registered)
@@ -56,4 +56,4 @@ embedding_of rules = record { read = read_typed rules; name_of_kind = name_of_ki
 
 -- where only those scripts are admitted that use nothing registered
 abbrev pub admitting_unregistered : List Registration → SourceRules
-admitting_unregistered calls = record { registered = calls; admitted = scripts.UsingNothingRegistered }
+admitting_unregistered registrations = record { registered = registrations; admitted = scripts.UsingNothingRegistered }

@@ -116,10 +116,10 @@ pub fn sources_are_read_sound()
 /// Where only those scripts are admitted that use nothing registered, a source that is typed has the tree that it has
 /// with nothing registered; where it has none, and nowhere else, it is refused with `NotYet`.
 pub fn unregistered_scripts_are_admitted()
-    ensures read { (calls : List Registered) (source : List ℕ) (typed : Typed) →
-        (read_typed (admitting_unregistered calls) source ≡ Ok typed)
-        ↔ (IsOk (typed_source calls source) × (typed_source [] source ≡ Ok typed)) }
-    ensures refused { (calls : List Registered) (source : List ℕ) →
-        (read_typed (admitting_unregistered calls) source ≡ Err NotYet)
-        ↔ (IsOk (typed_source calls source) × IsErr (typed_source [] source)) }
+    ensures read { (registrations : List Registered) (source : List ℕ) (typed : Typed) →
+        (read_typed (admitting_unregistered registrations) source ≡ Ok typed)
+        ↔ (IsOk (typed_source registrations source) × (typed_source [] source ≡ Ok typed)) }
+    ensures refused { (registrations : List Registered) (source : List ℕ) →
+        (read_typed (admitting_unregistered registrations) source ≡ Err NotYet)
+        ↔ (IsOk (typed_source registrations source) × IsErr (typed_source [] source)) }
 {}

@@ -46,10 +46,10 @@ pub(crate) fn typed_script(
 /// A source is typed as the rules say, where no class reaches itself; it is refused exactly where checking it reports
 /// something, and for that. The typed tree is sound with these registrations.
 pub fn typing_has_one_result()
-    ensures by_rules { (calls : List Registration) (source : List ℕ) (typed : Typed) →
-        (typed_source calls source ≡ Ok typed) ↔ IsTypedSource calls source typed }
-    ensures refused { (calls : List Registration) (source : List ℕ) (refusal : Refused) →
-        (typed_source calls source ≡ Err refusal) ↔ (checked_source calls source ≡ Err refusal) }
-    ensures sound { (calls : List Registration) (source : List ℕ) (typed : Typed) →
-        typed_source calls source ≡ Ok typed → IsSound (offered calls) typed }
+    ensures by_rules { (registrations : List Registration) (source : List ℕ) (typed : Typed) →
+        (typed_source registrations source ≡ Ok typed) ↔ IsTypedSource registrations source typed }
+    ensures refused { (registrations : List Registration) (source : List ℕ) (refusal : Refused) →
+        (typed_source registrations source ≡ Err refusal) ↔ (checked_source registrations source ≡ Err refusal) }
+    ensures sound { (registrations : List Registration) (source : List ℕ) (typed : Typed) →
+        typed_source registrations source ≡ Ok typed → IsSound (offered registrations) typed }
 {}
