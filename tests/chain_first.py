@@ -50,7 +50,7 @@ def fills(key):
     return key[1] not in ("proof", "tests")
 
 
-def behind(tasks):
+def lines_ahead(tasks):
     """For each task the lines of the longest chain of tasks that begins with it. A line of tests takes about as long as one
     of code. A task comes after those it waits for."""
     lines = dict.fromkeys(tasks, 0)
@@ -91,7 +91,7 @@ def begin(call, given, jobs, niceness):
 def in_lanes(tasks, processors, memory):
     """Runs tasks side by side and returns what each gave. A task is what it waits for, its work in lines, its memory, and
     a call that takes what was given so far and how many jobs it may use."""
-    order = behind(tasks)
+    order = lines_ahead(tasks)
     left, running, given = sorted(tasks, key=lambda it: (fills(it), -order[it])), {}, {}
     while left or running:
         ready = [it for it in left if all(below in given for below in tasks[it][0])]

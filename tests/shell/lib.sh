@@ -4,7 +4,7 @@ ashd=$(realpath -m "${ASHD:-$top/crates/ashd/out/ashd}")
 passed=0
 failed=0
 
-# verdict STATUS NAME: counts a test. The status stands first, since a $? behind a name with $(..) in it would be that of
+# verdict STATUS NAME: counts a test. The status comes first, since a $? after a name with $(..) in it would be that of
 # the command in there.
 verdict() {
     if [ "$1" -eq 0 ]; then

@@ -95,7 +95,7 @@ for number in $(seq 1 1000); do
 done
 verdict $untouched "a discard that no refusal meets"
 
-# Snapshots. One that is refused for want of memory changes nothing, and the next request is carried out; over disks in
+# Snapshots. One that is refused since memory ran out changes nothing, and the next request is handled; over disks in
 # memory a write of one may fail.
 asks "$(head -n 2 examples/first.requests)\nsnapshot\ncall m f 5\nsnapshot\nget m n\nquit\n"
 untouched=1
