@@ -1,0 +1,51 @@
+-- Arguments by the types of parameters, one after another.
+use Rattle.std.proofs.Common.{◌≡◌, ◌<◌, ◌≤◌, ◌+◌, ℕ, zero, suc, List, [], ◌∷◌, ◌++◌, length, drop, get_or, Option, Some, None, option_map, refl, sym, ◌∙◌, ap, arith, append_assoc}
+use Rattle.std.specs.Prelude.{slice_get}
+use Rattle.ash_host.specs.declared.word.Word.{Word}
+use Rattle.ash_typed.specs.declared.types.VarType.{VarType}
+use Rattle.ash_steps.specs.declared.argument.Argument.{Argument}
+use Rattle.ash_plain_steps.proofs.Drops.{got_some, got_none, at_place, past}
+use Rattle.ash_steps.specs.Tasks.{both, argument_of, arguments_of}
+
+joined : (words : List Word) (w : Word) (o : Option (List Word)) → option_map (λ more. words ++ more) (both (Some w) o) ≡ option_map (λ more. (words ++ w ∷ []) ++ more) o
+joined words w (Some more) = ap (λ (l : List Word). Some l) (sym (append_assoc words (w ∷ []) more))
+joined words w None = refl
+
+-- one more argument
+pub one_more : (words : List Word) (ps : List VarType) (given : List Argument) (i : ℕ) (of : VarType) (a : Argument) (w : Word) → slice_get ps i ≡ Some of → i < length given → a ≡ get_or given i a → argument_of of a ≡ Some w → option_map (λ more. (words ++ w ∷ []) ++ more) (arguments_of (drop (i + 1) ps) (drop (i + 1) given)) ≡ option_map (λ more. words ++ more) (arguments_of (drop i ps) (drop i given))
+one_more words ps given i of a w p within e is =
+    sym (joined words w (arguments_of (drop (i + 1) ps) (drop (i + 1) given)))
+    ∙ ap (λ (o : Option Word). option_map (λ more. words ++ more) (both o (arguments_of (drop (i + 1) ps) (drop (i + 1) given)))) (sym is)
+    ∙ (λ j. option_map (λ more. words ++ more) (arguments_of (sym (got_some ps i of p) j) (sym (at_place given i a within e) j)))
+
+none_left : (given : List Argument) (i : ℕ) → i < length given → arguments_of [] (drop i given) ≡ None
+none_left [] i within = absurd (omega arith)
+none_left (g ∷ gs) zero within = refl
+none_left (g ∷ gs) (suc i) within = none_left gs i (omega arith)
+
+-- no parameter is left
+pub no_parameter : (words : List Word) (ps : List VarType) (given : List Argument) (i : ℕ) → slice_get ps i ≡ None → i < length given → option_map (λ more. words ++ more) (arguments_of (drop i ps) (drop i given)) ≡ None
+no_parameter words ps given i p within =
+    ap (λ (l : List VarType). option_map (λ more. words ++ more) (arguments_of l (drop i given))) (got_none ps i p)
+    ∙ ap (λ (o : Option (List Word)). option_map (λ more. words ++ more) o) (none_left given i within)
+
+-- an argument is of no such type
+pub no_word : (words : List Word) (ps : List VarType) (given : List Argument) (i : ℕ) (of : VarType) (a : Argument) → slice_get ps i ≡ Some of → i < length given → a ≡ get_or given i a → argument_of of a ≡ None → option_map (λ more. words ++ more) (arguments_of (drop i ps) (drop i given)) ≡ None
+no_word words ps given i of a p within e is =
+    (λ j. option_map (λ more. words ++ more) (arguments_of (got_some ps i of p j) (at_place given i a within e j)))
+    ∙ ap (λ (o : Option Word). option_map (λ more. words ++ more) (both o (arguments_of (drop (i + 1) ps) (drop (i + 1) given)))) is
+
+-- no argument is left
+left_over : (words : List Word) (ps : List VarType) (i : ℕ) → i < length ps → option_map (λ more. words ++ more) (arguments_of (drop i ps) []) ≡ None
+left_over words [] i within = absurd (omega arith)
+left_over words (p ∷ ps) zero within = refl
+left_over words (p ∷ ps) (suc i) within = left_over words ps i (omega arith)
+
+pub too_few : (words : List Word) (ps : List VarType) (given : List Argument) (i : ℕ) → length given ≤ i → i < length ps → option_map (λ more. words ++ more) (arguments_of (drop i ps) (drop i given)) ≡ None
+too_few words ps given i over within =
+    (λ j. option_map (λ more. words ++ more) (arguments_of (drop i ps) (past given i over j))) ∙ left_over words ps i within
+
+-- each argument has its parameter
+pub as_many : (words : List Word) (ps : List VarType) (given : List Argument) (i : ℕ) → length given ≤ i → length ps ≤ i → option_map (λ more. words ++ more) (arguments_of (drop i ps) (drop i given)) ≡ Some (words ++ [])
+as_many words ps given i over all =
+    λ j. option_map (λ more. words ++ more) (arguments_of (past ps i all j) (past given i over j))

@@ -1,0 +1,14 @@
+-- What the globals of modules are handles to.
+use Rattle.std.proofs.Common.{◌≡◌, ◌<◌, ◌+◌, ℕ, List, ◌++◌, length, drop, get_or, sym, ◌∙◌, ap, append_assoc}
+use Rattle.std.proofs.lemmas.List.Elements.{filter_map-append}
+use Rattle.ash_host.specs.Objects.{handle, handles}
+use Rattle.ash_steps.specs.States.{globals_of}
+use Rattle.ash_plain_steps.specs.declared.state.LoadedModule.{LoadedModule}
+use Rattle.ash_plain_steps.specs.StateViews.{modules_seen}
+use Rattle.ash_plain_steps.proofs.Drops.{at_place}
+
+pub more_handles : (numbers : List ℕ) (ms : List LoadedModule) (i : ℕ) (m : LoadedModule) → i < length ms → m ≡ get_or ms i m → (numbers ++ handles m.globals.items) ++ handles (globals_of (modules_seen (drop (i + 1) ms))) ≡ numbers ++ handles (globals_of (modules_seen (drop i ms)))
+more_handles numbers ms i m within is =
+    append_assoc numbers (handles m.globals.items) (handles (globals_of (modules_seen (drop (i + 1) ms))))
+    ∙ ap (λ (l : List ℕ). numbers ++ l) (sym (filter_map-append handle m.globals.items (globals_of (modules_seen (drop (i + 1) ms)))))
+    ∙ ap (λ (l : List LoadedModule). numbers ++ handles (globals_of (modules_seen l))) (sym (at_place ms i m within is))

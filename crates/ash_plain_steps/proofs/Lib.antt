@@ -1,0 +1,10 @@
+pub mod Ascending
+pub mod Places
+pub mod Numbers
+pub mod Drops
+pub mod ArgumentLists
+pub mod Words
+pub mod Handles
+pub mod Found
+pub mod Changed
+pub mod Asked

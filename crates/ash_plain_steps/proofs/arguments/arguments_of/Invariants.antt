@@ -1,0 +1,7 @@
+use Rattle.std.proofs.Common.{◌≡◌, ◌++◌, drop, option_map}
+use Rattle.ash_steps.specs.Tasks.{arguments_of}
+use Rattle.ash_plain_steps.proofs.arguments.arguments_of.Given as goal
+
+-- the words so far, and those of what is left
+abbrev pub invariant-loop-place : goal.invariant-loop-place
+invariant-loop-place l = option_map (λ more. l.words.items ++ more) (arguments_of (drop l.place l.parameters) (drop l.place l.arguments)) ≡ arguments_of l.parameters l.arguments

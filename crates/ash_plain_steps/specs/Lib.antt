@@ -1,0 +1,5 @@
+pub mod StateViews
+pub mod RequestViews
+pub mod Consistency
+pub mod TaskViews
+pub mod StepViews

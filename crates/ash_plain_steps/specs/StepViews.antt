@@ -1,0 +1,48 @@
+-- What the steps of the code come to.
+use Rattle.std.specs.Prelude.{◌≡◌, ◌<◌, ℕ, List, length, set, Option, Some, None, Result, Ok, Err}
+use Rattle.ash_typed.specs.Modules.{module_of}
+use Rattle.ash_steps.specs.States.{State, Embedding, find_module}
+use Rattle.ash_steps.specs.Tasks.{max_seq}
+use Rattle.ash_plain_steps.specs.declared.state.PlainState.{PlainState}
+use Rattle.ash_plain_steps.specs.declared.request.StepError.{StepError}
+use Rattle.ash_plain_steps.specs.declared.request.StepError.TheVariants as errors
+use Rattle.ash_plain_steps.specs.declared.task.NewModule.{NewModule}
+use Rattle.ash_plain_steps.specs.declared.task.Task.{Task}
+use Rattle.ash_plain_steps.specs.declared.task.Task.TheVariants as tasks
+use Rattle.ash_plain.specs.Views.{world_seen}
+use Rattle.ash_evaluator.specs.declared.ends.Outcome as code_outcome
+use Rattle.ash_evaluator.specs.EndViews.{end_seen}
+use Rattle.ash_steps.specs.Steps.{answered}
+use Rattle.ash_plain_steps.specs.declared.state.LoadedModule.{LoadedModule}
+use Rattle.ash_plain_steps.specs.declared.request.Step as code_step
+use Rattle.ash_plain_steps.specs.StateViews.{modules_seen, state_seen}
+use Rattle.ash_plain_steps.specs.RequestViews.{step_seen}
+
+-- The code gives what the definitions give, or says that they give nothing. Where memory was refused, nothing is said.
+abbrev pub ComesTo : {X A : Type 0} → (X → A) → Result X StepError → Option A → Type 0
+ComesTo view (Ok x) wanted = wanted ≡ Some (view x)
+ComesTo view (Err errors.NoStep) wanted = wanted ≡ None
+ComesTo view (Err errors.NoMemory) wanted = Unit {0}
+
+-- A module that can be loaded: a sequence number is left, its tree is what its source is read as, and none has its name.
+pub record IsLoadable {Fault : Type 0} (embedding : Embedding Fault) (state : PlainState) (new : NewModule) : Type 0 where
+  pub numbered : state.seq < max_seq
+  pub read : embedding.read new.source.now ≡ Ok (module_of new.tree)
+  pub absent : find_module new.name.now (state_seen state) ≡ None
+
+-- A module that can be called or removed: a sequence number is left, and it is there.
+pub record IsThere (state : PlainState) (place : ℕ) : Type 0 where
+  pub numbered : state.seq < max_seq
+  pub within : place < length state.modules.items
+
+-- what is known of a task that is performed
+abbrev pub IsPerformable : {Fault : Type 0} → Embedding Fault → PlainState → Task → Type 0
+IsPerformable embedding state (tasks.Initialize new) = IsLoadable embedding state new
+IsPerformable embedding state (tasks.Invoke call) = IsThere state call.module
+IsPerformable embedding state (tasks.Remove place) = IsThere state place
+IsPerformable embedding state _ = Unit {0}
+
+-- What is left of a call of the module at a place, which had lent its globals: they are what the run left in them.
+pub record IsAfterCall {Code Fault : Type 0} (fault : Code → Fault) (ms : List LoadedModule) (place : ℕ) (m : LoadedModule) (outcome : code_outcome.Outcome) (old : State) (new : code_step.Step Code) : Type 0 where
+  pub globals : new.state.modules.items ≡ set ms place (record m { globals = outcome.world.globals })
+  pub stepped : step_seen fault new ≡ answered (end_seen outcome.end) (modules_seen new.state.modules.items) (world_seen outcome.world) old

@@ -1,0 +1,20 @@
+//! What the plain program of states and requests is put together from, by the definitions of `ash_steps`.
+//!
+//! A state has its modules by ascending name, each with the typed tree of its source, and the objects that live. How a
+//! source is read is left to the embedding program, by the trait `Sources`. Each function is proved to give what the
+//! definition gives that its contract names, and each type to represent what the definitions speak of, by the functions
+//! of `specs/` whose names end in `_seen`; `AreConsistent` says what is known of the modules of a state. Where memory
+//! runs out nothing is said.
+//!
+//! In reading order: `request` (what is asked and replied), `state`, `sources`, `task` (what a request asks for);
+//! `name`, `arguments`, `modules`, `functions` (what a request names, and is handed).
+#![tactic(auto)]
+
+mod arguments;
+mod functions;
+mod modules;
+mod name;
+pub mod request;
+pub mod sources;
+pub mod state;
+mod task;
