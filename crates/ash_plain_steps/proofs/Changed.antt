@@ -9,7 +9,7 @@ use Rattle.std.proofs.lemmas.Option.{get_or_from_slice_get, slice_get_within, sl
 use Rattle.std.proofs.lemmas.Slice.Eq.{bytes_eq-Decides}
 use Rattle.ash_host.specs.declared.word.Word.{Word}
 use Rattle.ash_typed.specs.Modules.{module_of}
-use Rattle.ash_steps.specs.States.{Loaded, Embedding, has_name, globals_of, update_globals, without_module, with_module}
+use Rattle.ash_steps.specs.States.{LoadedModule as Loaded, Embedding, has_name, globals_of, update_globals, without_module, with_module}
 use Rattle.ash_plain_steps.specs.declared.state.LoadedModule.{LoadedModule}
 use Rattle.ash_plain_steps.specs.StateViews.{loaded_seen, modules_seen}
 use Rattle.ash_plain_steps.specs.Consistency.{Ascend, IsRead, AreConsistent, IsInserted}

@@ -2,7 +2,7 @@
 use Rattle.std.specs.Prelude.{List, map, string_bytes}
 use Rattle.ash_plain_data.specs.CallViews.{record_seen}
 use Rattle.ash_plain.specs.Views.{box_seen}
-use Rattle.ash_steps.specs.States.{Loaded, State, Hosts}
+use Rattle.ash_steps.specs.States.{LoadedModule as Loaded, State, Hosts}
 use Rattle.ash_plain_steps.specs.declared.state.LoadedModule.{LoadedModule}
 use Rattle.ash_plain_steps.specs.declared.state.PlainState.{PlainState}
 use Rattle.ash_plain_steps.specs.declared.state.Hosts as hosts

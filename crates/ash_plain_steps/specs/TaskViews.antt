@@ -9,7 +9,7 @@ use Rattle.ash_typed.specs.Modules.{Variables, Class, Module, module_of}
 use Rattle.ash_typed.specs.SoundModules.{names_of_globals}
 use Rattle.ash_steps.specs.States.{has_name}
 use Rattle.ash_phrases.specs.Classes.{dotted}
-use Rattle.ash_steps.specs.Requests.{Refusal, Contents, Fields, HostState, Elements}
+use Rattle.ash_steps.specs.Requests.{Refusal, ObjectContents as Contents, Fields, HostState, Elements}
 use Rattle.ash_steps.specs.Tasks.{Task, Initialize, Invoke, Remove, Read, Show, Count, Rewrite, TaskResult, class_placed, shown_fields}
 use Rattle.ash_plain_steps.specs.declared.state.LoadedModule.{LoadedModule}
 use Rattle.ash_plain_steps.specs.declared.request.Refusal as refusal
