@@ -5,6 +5,7 @@ use Rattle.std.specs.Bool.{IsTrue, ⊤}
 use Rattle.std.specs.List.{AllByRecursion}
 use Rattle.std.proofs.lemmas.Bool.{leb-true, le-leb, eqb-true}
 use Rattle.ash_host.specs.declared.word.Word.{Word}
+use Rattle.ash_host.specs.Limits.{max_objects}
 use Rattle.ash_host.specs.Objects.{Plain, numbers}
 use Rattle.ash_state_image.specs.declared.version.Version.{Version}
 use Rattle.ash_state_image.specs.declared.version.Version.TheVariants as versions
@@ -14,7 +15,7 @@ use Rattle.ash_state_image.specs.ObjectBytes.{plain, FitsPlain}
 use Rattle.ash_state_image.specs.Snapshots.{Loaded, Snapshot}
 use Rattle.ash_state_image.specs.Image.{loaded_module, service, object, state_bytes, version_number, is_module_name}
 use Rattle.ash_state_image.specs.Image.{are_ascending, names_of, do_rise, has_version, max_source_bytes, max_globals, max_modules}
-use Rattle.ash_state_image.specs.Image.{max_services, max_stored_objects, FitsText, FitsModule, FitsObject, FitServices}
+use Rattle.ash_state_image.specs.Image.{max_services, FitsText, FitsModule, FitsObject, FitServices}
 use Rattle.ash_state_image.specs.Image.{FitModules, FitObjects, Fits, Spells}
 use Rattle.ash_state_image.specs.ImageReading.{name_at, source_at, globals_at, module_at, modules_at, services_at, body_at}
 use Rattle.ash_state_image.specs.ImageReading.{object_at, objects_at, is_text, registered_at, snapshot_at, version_at, image_at}
@@ -107,7 +108,7 @@ unfolding objects_at
 objects_field version =
     refit_field
     (checked_field (λ objects. do_rise (numbers objects))
-    (items_field 4 (checked_field (λ n. leb n max_stored_objects) (number_field 4)) (object_field version)))
+    (items_field 4 (checked_field (λ n. leb n max_objects) (number_field 4)) (object_field version)))
     (items 4 object) (FitObjects version)
     (λ objects. refl)
     (λ objects h. record { few = leb-true _ _ h.0.0.1; each = h.0.1; order = h.1 })

@@ -3,11 +3,11 @@ use Rattle.std.proofs.Common.{◌≡◌, ℕ, zero, suc, ◌≤◌, leb, List, [
 use Rattle.std.specs.List.{AllByRecursion}
 use Rattle.std.proofs.lemmas.Bool.{leb-true, le-leb}
 use Rattle.ash_host.specs.declared.word.Word.{Word}
-use Rattle.ash_host.specs.Calls.{max_state}
+use Rattle.ash_host.specs.Limits.{max_elements, max_state_bytes}
 use Rattle.ash_host.specs.Objects.{Element, Bools, Ints, Uints, Int64s, Uint64s, Handles, Hosts, Plain, Script, Array, Host}
 use Rattle.ash_state_image.specs.Fields.{number, text, items}
 use Rattle.ash_state_image.specs.Words.{word, FitsWord}
-use Rattle.ash_state_image.specs.ObjectBytes.{max_fields, max_array_elements, element, plain, FitsElement, FitsHost}
+use Rattle.ash_state_image.specs.ObjectBytes.{max_fields, element, plain, FitsElement, FitsHost}
 use Rattle.ash_state_image.specs.ObjectBytes.{FitsPlain, element_case, element_at, fields_at, elements_at, state_at}
 use Rattle.ash_state_image.specs.ObjectBytes.{kind_and_state_at, script_at, array_at, plain_case, plain_at, host}
 use Rattle.ash_state_image.proofs.Numbers.{IsBytes}
@@ -72,20 +72,20 @@ fields_field =
     (λ fields h. ((omega (arith, h.0), le-leb _ _ h.0), h.1))
 
 pub elements_field : IsField (items 2 word)
-    (λ elements. (length elements ≤ max_array_elements) × AllByRecursion FitsWord elements) elements_at
+    (λ elements. (length elements ≤ max_elements) × AllByRecursion FitsWord elements) elements_at
 unfolding elements_at
 elements_field =
-    refit_field (items_field 2 (checked_field (λ n. leb n max_array_elements) (number_field 2)) word_field) (items 2 word) _
+    refit_field (items_field 2 (checked_field (λ n. leb n max_elements) (number_field 2)) word_field) (items 2 word) _
     (λ elements. refl)
     (λ elements h. (leb-true _ _ h.0.1, h.1))
     (λ elements h. ((omega (arith, h.0), le-leb _ _ h.0), h.1))
 
 -- ---- a kind and a state
 
-state_field : IsField (text 2) (λ state. length state ≤ max_state) state_at
+state_field : IsField (text 2) (λ state. length state ≤ max_state_bytes) state_at
 unfolding state_at
 state_field =
-    refit_field (checked_field (λ state. leb (length state) max_state) (text_field 2)) (text 2) _
+    refit_field (checked_field (λ state. leb (length state) max_state_bytes) (text_field 2)) (text 2) _
     (λ state. refl)
     (λ state h. leb-true _ _ h.1)
     (λ state h. (omega (arith, h), le-leb _ _ h))

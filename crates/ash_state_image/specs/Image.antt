@@ -115,10 +115,6 @@ max_modules = 16
 abbrev pub max_services : ℕ
 max_services = 16
 
--- the most objects
-abbrev pub max_stored_objects : ℕ
-max_stored_objects = 4096
-
 -- what has a spelling
 
 -- a text of what is registered that is text, and within its limit
@@ -157,7 +153,7 @@ pub record FitModules (modules : List Loaded) : Type 0 where
 
 -- objects that are few, by ascending number
 pub record FitObjects (version : Version) (objects : List (ℕ × Plain ℕ)) : Type 0 where
-  pub few : length objects ≤ max_stored_objects
+  pub few : length objects ≤ max_objects
   pub each : AllByRecursion (FitsObject version) objects
   pub order : IsTrue (do_rise (numbers objects))
 

@@ -3,6 +3,7 @@ use Rattle.std.specs.Prelude.{ℕ, ◌==◌, ◌&&◌, nat_le, Bool, if◌then�
 use Rattle.std.specs.Str.{is_utf8}
 use Rattle.ash_host.specs.declared.word.Word.{Word}
 use Rattle.ash_host.specs.Objects.{Plain, numbers}
+use Rattle.ash_host.specs.Limits.{max_objects}
 use Rattle.ash_state_image.specs.declared.version.Version.{Version}
 use Rattle.ash_state_image.specs.declared.version.Version.TheVariants as versions
 use Rattle.ash_state_image.specs.Fields.{◌>>=◌, as_at, checked_at, pair_at, then_at, number_at, text_at, items_at}
@@ -10,7 +11,7 @@ use Rattle.ash_state_image.specs.Words.{word_at}
 use Rattle.ash_state_image.specs.ObjectBytes.{kind_and_state_at, plain_at}
 use Rattle.ash_state_image.specs.Snapshots.{Loaded, Snapshot}
 use Rattle.ash_state_image.specs.Image.{is_module_name, are_ascending, names_of, do_rise, has_version, max_text_bytes}
-use Rattle.ash_state_image.specs.Image.{max_source_bytes, max_globals, max_modules, max_services, max_stored_objects}
+use Rattle.ash_state_image.specs.Image.{max_source_bytes, max_globals, max_modules, max_services}
 
 -- modules
 
@@ -53,7 +54,7 @@ object_at version = pair_at (number_at 8) (body_at version)
 -- a count, and that many objects, by ascending number
 unfoldable pub objects_at : Version → List ℕ → Option (List (ℕ × Plain ℕ) × List ℕ)
 objects_at version = checked_at (λ objects. do_rise (numbers objects))
-    (items_at (checked_at (λ n. nat_le n max_stored_objects) (number_at 4)) (object_at version))
+    (items_at (checked_at (λ n. nat_le n max_objects) (number_at 4)) (object_at version))
 
 -- states
 

@@ -3,7 +3,7 @@
 use Rattle.std.specs.Prelude.{ℕ, zero, suc, ◌<◌, ◌≤◌, ◌^◌, nat_le, List, ◌++◌, length, Option, Some, None, ⊤}
 use Rattle.std.specs.List.{AllByRecursion}
 use Rattle.ash_host.specs.declared.word.Word.{Word}
-use Rattle.ash_host.specs.Calls.{max_state}
+use Rattle.ash_host.specs.Limits.{max_elements, max_state_bytes}
 use Rattle.ash_host.specs.Objects.{Element, Bools, Ints, Uints, Int64s, Uint64s, Handles, Hosts, Plain, Script, Array, Host}
 use Rattle.ash_state_image.specs.Fields.{number, text, items, as_at, checked_at, pair_at, number_at, text_at, items_at, tagged_at}
 use Rattle.ash_state_image.specs.Words.{word, FitsWord, word_at}
@@ -13,10 +13,6 @@ use Rattle.ash_state_image.specs.Words.{word, FitsWord, word_at}
 -- the most fields of an object
 abbrev pub max_fields : ℕ
 max_fields = 32
-
--- the most elements of an array
-abbrev pub max_array_elements : ℕ
-max_array_elements = 4096
 
 -- the spelling
 
@@ -63,11 +59,11 @@ pub record FitsScript (owner class : ℕ) (fields : List Word) : Type 0 where
 
 pub record FitsHost (kind : ℕ) (state : List ℕ) : Type 0 where
   pub kind_fits : kind < 2 ^ 16
-  pub short : length state ≤ max_state
+  pub short : length state ≤ max_state_bytes
 
 pub record FitsArray (of : Element ℕ) (elements : List Word) : Type 0 where
   pub element_fits : FitsElement of
-  pub few : length elements ≤ max_array_elements
+  pub few : length elements ≤ max_elements
   pub words : AllByRecursion FitsWord elements
 
 -- an object whose numbers are in the ranges of their fields, and whose words are within their limits
@@ -98,11 +94,11 @@ fields_at = items_at (checked_at (λ n. nat_le n max_fields) (number_at 1)) word
 
 -- a count that elements may have, and so many words
 unfoldable pub elements_at : List ℕ → Option (List Word × List ℕ)
-elements_at = items_at (checked_at (λ n. nat_le n max_array_elements) (number_at 2)) word_at
+elements_at = items_at (checked_at (λ n. nat_le n max_elements) (number_at 2)) word_at
 
 -- a state that a host object may have
 unfoldable pub state_at : List ℕ → Option (List ℕ × List ℕ)
-state_at = checked_at (λ state. nat_le (length state) max_state) (text_at 2)
+state_at = checked_at (λ state. nat_le (length state) max_state_bytes) (text_at 2)
 
 -- a kind, and a state
 unfoldable pub kind_and_state_at : List ℕ → Option ((ℕ × List ℕ) × List ℕ)
