@@ -6,6 +6,7 @@ use Rattle.std.specs.Cmp.Lexicographic.{slice_cmp}
 use Rattle.std.specs.List.{list_all, AllByRecursion}
 use Rattle.std.specs.Ordering.{is_lt, nat_cmp}
 use Rattle.std.specs.Str.{IsUtf8}
+use Rattle.ash_host.specs.Limits.{max_objects}
 use Rattle.ash_host.specs.Objects.{Plain, Array, numbers}
 use Rattle.ash_state_image.specs.declared.version.Version.{Version}
 use Rattle.ash_state_image.specs.declared.version.Version.TheVariants as versions
