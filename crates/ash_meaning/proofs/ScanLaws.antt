@@ -20,7 +20,7 @@ use Rattle.ash_lex.specs.declared.faults.LexFault.TheVariants as faults
 use Rattle.ash_lex.proofs.WordLookups.{reserved_word-is, unsupported_word-is, reserved_word-none, unsupported_word-none}
 use Rattle.ash_lex.proofs.Prefixes.{starts-true}
 use Rattle.ash_lex.proofs.LongestPiece.{longest_piece_is, none_begins}
-use Rattle.ash_lex.proofs.Reading.{IsReadTo, past_gap, past_token, first_fault, spelled, read_mark, read_nothing}
+use Rattle.ash_lex.proofs.Reading.{IsReadTo, past_gap, past_token, first_fault, has_tokens, read_mark, read_nothing}
 use Rattle.ash_meaning.specs.Scanning.{Step, Gap, Token, Fault, word_by, step_over, after, From, scan_from, scan}
 
 -- what the text spells, or its first fault
@@ -94,12 +94,12 @@ module _ (text : List ℕ) (place line : ℕ) (tokens : List Lexeme) (read : IsR
 by_end : (text : List ℕ) (place line : ℕ) (tokens : List Lexeme) → IsReadTo text place line tokens
     → (on : Result (List Lexeme) LexFault) → (place < length text → IsScan text on) → (v : Bool)
     → nat_le (length text) place ≡ v → IsScan text (cond v (Ok tokens) on)
-by_end text place line tokens read on rest true e = spelled text place line tokens read (grind (arith, nat_tests))
+by_end text place line tokens read on rest true e = has_tokens text place line tokens read (grind (arith, nat_tests))
 by_end text place line tokens read on rest false e = rest (grind (arith, nat_tests))
 
 scan_from-is : (fuel : ℕ) (text : List ℕ) (place line : ℕ) (tokens : List Lexeme) → IsReadTo text place line tokens
     → length text ≤ place + fuel → IsScan text (scan_from fuel text place line tokens)
-scan_from-is zero text place line tokens read h = spelled text place line tokens read (omega arith)
+scan_from-is zero text place line tokens read h = has_tokens text place line tokens read (omega arith)
 scan_from-is (suc fuel) text place line tokens read h =
     by_end text place line tokens read _ (λ more.
     goes_on text place line tokens read more (scan_from fuel text)

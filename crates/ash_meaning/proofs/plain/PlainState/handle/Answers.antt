@@ -38,11 +38,11 @@ returns-in-Ok-clause-refused c =
     subst (λ (request : declared.Request). RefusesUnchanged (request_of request) c.args.self.now (Value c.in-Ok.word)
     c.args.self.now) (sym c.in-Global.is)
     (refuses_unchanged c.args.budget (Global c.in-Global.module.now c.in-Global.name.now) c.args.self.now
-    (Value c.in-Ok.word) c.args.self.now (inl (c.in-Ok.ensures c.args.budget)))
+    (Value c.in-Ok.word) c.args.self.now (inl (c.in-Ok.ensures.stepped c.args.budget)))
 
 pub returns-in-Err-clause-refused : goal.returns-in-Err-clause-refused
 returns-in-Err-clause-refused c =
     subst (λ (request : declared.Request). RefusesUnchanged (request_of request) c.args.self.now
     (Refused (refusal_of c.in-Err.refusal)) c.args.self.now) (sym c.in-Global.is)
     (refuses_unchanged c.args.budget (Global c.in-Global.module.now c.in-Global.name.now) c.args.self.now
-    (Refused (refusal_of c.in-Err.refusal)) c.args.self.now (inl (c.in-Err.ensures c.args.budget)))
+    (Refused (refusal_of c.in-Err.refusal)) c.args.self.now (inl (c.in-Err.ensures.stepped c.args.budget)))
