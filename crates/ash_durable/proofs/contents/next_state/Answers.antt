@@ -13,4 +13,4 @@ returns-in-Some c =
     let text : s.registered ≡ text_of (registered c.args.registry) =
     ap (λ (t : Snapshot). t.registered) (body_once c.args.body.now s c.requires.0 is_body c.requires.1) ∙ c.requires.2
     in
-    leads_on (registered c.args.registry) c.args.body.now s c.args.gate c.restore.result is_body text c.restore.ensures.exact
+    leads_on (registered c.args.registry) c.args.body.now s c.args.gate c.restore.result is_body text c.restore.ensures

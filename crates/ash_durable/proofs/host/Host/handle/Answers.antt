@@ -13,7 +13,7 @@ returns-in-Snapshot-clause-handled g c = rw (c.in-Snapshot.is, c.into-in-Snapsho
     (c.snapshot.ensures.handled c.args.budget)
 
 pub returns-in-Err-clause-handled : goal.returns-in-Err-clause-handled
-returns-in-Err-clause-handled g c = rw c.in-Global.is (c.in-Err.ensures c.args.budget)
+returns-in-Err-clause-handled g c = rw c.in-Global.is (c.in-Err.ensures.handled c.args.budget)
 
 pub returns-in-Load-clause-refused : goal.returns-in-Load-clause-refused
 returns-in-Load-clause-refused g c =
