@@ -8,3 +8,4 @@ pub mod Handles
 pub mod Found
 pub mod Changed
 pub mod Asked
+pub mod Given

@@ -6,7 +6,7 @@ use Rattle.ash_host.specs.declared.word.Word.{Word}
 use Rattle.ash_typed.specs.declared.tree.items.Module as script
 use Rattle.ash_typed.specs.Modules.{Module, module_of}
 use Rattle.ash_evaluator.specs.EndViews.{end_seen}
-use Rattle.ash_steps.specs.Requests.{Request, Load, Call, Discard, Global, Object, Seq, Snapshot, ObjectContents as Contents, Fields, HostState, Elements, Shown}
+use Rattle.ash_steps.specs.Requests.{Request, Load, Call, Discard, Global, Seq, Snapshot, ObjectContents as Contents, Fields, HostState, Elements, Shown}
 use Rattle.ash_steps.specs.Requests as steps
 use Rattle.ash_steps.specs.Requests.{Refusal, Reply, Answered, Value, ShownAs, Number, Done, Refused}
 use Rattle.ash_steps.specs.Steps.{Step}
@@ -28,7 +28,6 @@ request_seen (requests.Load name source) = Load name.now source.now
 request_seen (requests.Call module_name function arguments) = Call module_name.now function.now arguments.now
 request_seen (requests.Discard name) = Discard name.now
 request_seen (requests.Global module_name name) = Global module_name.now name.now
-request_seen (requests.Object number) = Object number
 request_seen requests.Seq = Seq
 request_seen requests.Snapshot = Snapshot
 

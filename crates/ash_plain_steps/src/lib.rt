@@ -7,13 +7,16 @@
 //! runs out nothing is said.
 //!
 //! In reading order: `request` (what is asked and replied), `state`, `sources`, `task` (what a request asks for);
-//! `name`, `arguments`, `modules`, `functions` (what a request names, and is handed).
+//! `name`, `arguments`, `modules`, `functions` (what a request names, and is handed); `calls` and `refusals` (what each
+//! request asks for, or why it is refused).
 #![tactic(auto)]
 
 mod arguments;
+mod calls;
 mod functions;
 mod modules;
 mod name;
+mod refusals;
 pub mod request;
 pub mod sources;
 pub mod state;
