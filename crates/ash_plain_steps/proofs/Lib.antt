@@ -9,3 +9,4 @@ pub mod Found
 pub mod Changed
 pub mod Asked
 pub mod Given
+pub mod Ran

@@ -1,4 +1,5 @@
-//! What the plain program of states and requests is put together from, by the definitions of `ash_steps`.
+//! The plain program of states and requests: `plain_step` is proved to come to the step that the definitions of
+//! `ash_steps` have, for each request but a look at an object, which is not among its requests yet.
 //!
 //! A state has its modules by ascending name, each with the typed tree of its source, and the objects that live. How a
 //! source is read is left to the embedding program, by the trait `Sources`. Each function is proved to give what the
@@ -8,7 +9,7 @@
 //!
 //! In reading order: `request` (what is asked and replied), `state`, `sources`, `task` (what a request asks for);
 //! `name`, `arguments`, `modules`, `functions` (what a request names, and is handed); `calls` and `refusals` (what each
-//! request asks for, or why it is refused).
+//! request asks for, or why it is refused); `runs` (what the tasks do that change the state), `steps`.
 #![tactic(auto)]
 
 mod arguments;
@@ -18,6 +19,8 @@ mod modules;
 mod name;
 mod refusals;
 pub mod request;
+mod runs;
 pub mod sources;
 pub mod state;
+pub mod steps;
 mod task;
