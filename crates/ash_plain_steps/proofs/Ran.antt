@@ -1,5 +1,5 @@
 -- What runs leave, and what the definitions perform.
-use Rattle.std.proofs.Common.{◌≡◌, ◌<◌, ℕ, List, [], set, Option, Some, None, Result, Ok, Err, refl, sym, ◌∙◌, ap, subst, length, arith}
+use Rattle.std.proofs.Common.{◌≡◌, ◌<◌, ℕ, List, [], set, Option, Some, None, Result, Ok, Err, refl, sym, ◌∙◌, ap, subst, length, arith, inl, inr}
 use Rattle.std.specs.Prelude.{slice_get, option_map}
 use Rattle.ash_host.specs.declared.word.Word.{Word}
 use Rattle.ash_host.specs.Objects.{handles}
@@ -8,9 +8,10 @@ use Rattle.ash_phrases.specs.Activity.{World}
 use Rattle.ash_phrases.specs.Releases.{sweep}
 use Rattle.ash_phrases.specs.Ends.{Finished, Outcome, call_function, load_module}
 use Rattle.ash_evaluator.specs.EndViews.{outcome_seen}
-use Rattle.ash_steps.specs.States.{LoadedModule as Loaded, State, Hosts, globals_of, without_module, update_globals, world_of}
-use Rattle.ash_steps.specs.Tasks.{Task, TaskResult, Initialize, Invoke, Remove}
-use Rattle.ash_steps.specs.Steps.{Step, answered, after_load, after_call, perform, unless_refused}
+use Rattle.ash_steps.specs.Requests.{Request, Refused}
+use Rattle.ash_steps.specs.States.{LoadedModule as Loaded, State, Hosts, Embedding, globals_of, without_module, update_globals, world_of}
+use Rattle.ash_steps.specs.Tasks.{Task, TaskResult, Initialize, Invoke, Remove, task_of}
+use Rattle.ash_steps.specs.Steps.{Step, replied, answered, after_load, after_call, perform, unless_refused, step, TakesMemory}
 use Rattle.ash_plain_steps.specs.declared.state.LoadedModule.{LoadedModule}
 use Rattle.ash_plain_steps.specs.declared.request.StepError.{StepError}
 use Rattle.ash_plain_steps.specs.declared.request.StepError.TheVariants as errors
@@ -23,7 +24,7 @@ use Rattle.ash_plain_steps.specs.StateViews.{loaded_seen, modules_seen}
 use Rattle.ash_plain_steps.specs.RequestViews.{step_seen, refusal_seen}
 use Rattle.ash_plain_steps.specs.Consistency.{Ascend}
 use Rattle.ash_plain_steps.specs.TaskViews.{task_seen, RefusesAs}
-use Rattle.ash_plain_steps.specs.StepViews.{ComesTo}
+use Rattle.ash_plain_steps.specs.StepViews.{ComesTo, ChangesState, MayChange, AsksFor, LosesMemory, IsStep}
 use Rattle.std.proofs.lemmas.List.{length-set}
 use Rattle.ash_plain_steps.proofs.Found.{within_got}
 use Rattle.ash_plain_steps.proofs.Changed.{lent, set_again, seen_set}
@@ -89,19 +90,57 @@ module _ {Code Fault : Type 0} (fault : Code → Fault) where
     steps_so (Some one) wanted e h = let given : TaskResult Fault = Ok one in let is : given ≡ wanted = cc in subst (λ (w : TaskResult Fault). ComesTo (step_seen fault) r (unless_refused budget w state hosts)) is (h one refl)
     steps_so None wanted e h = absurd (cc)
 
-  pub refused_as : (r : refusal.Refusal Code) (wanted : TaskResult Fault) → (r ≡ refusals.NoMemory → ⊥) → RefusesAs fault r wanted → wanted ≡ Err (refusal_seen fault r)
-  refused_as refusals.SequenceSpent wanted n h = h
-  refused_as refusals.BadName wanted n h = h
-  refused_as refusals.ModuleTaken wanted n h = h
-  refused_as refusals.TooManyModules wanted n h = h
-  refused_as (refusals.BadSource f) wanted n h = h
-  refused_as refusals.NoModule wanted n h = h
-  refused_as refusals.NoFunction wanted n h = h
-  refused_as refusals.NotCallable wanted n h = h
-  refused_as refusals.BadArguments wanted n h = h
-  refused_as refusals.NoGlobal wanted n h = h
-  refused_as refusals.NoObject wanted n h = h
-  refused_as refusals.Reopen wanted n h = h
-  refused_as refusals.DeviceFailed wanted n h = h
-  refused_as refusals.NoMemory wanted n h = absurd (n refl)
-  refused_as refusals.GenerationSpent wanted n h = h
+  -- what a task that was performed gives
+  pub is_step : (embedding : Embedding Fault) (budget : ℕ) (request : Request) (state : State) (hosts : Hosts) (t : task.Task) (r : Result (code_step.Step Code) StepError) → (ChangesState t → MayChange request) → LosesMemory r (ChangesState t) → ComesTo (step_seen fault) r (step embedding budget request state hosts) → IsStep fault embedding budget request state hosts r
+  is_step embedding budget request state hosts t (Ok one) may lost h = inl h
+  is_step embedding budget request state hosts t (Err errors.NoStep) may lost h = h
+  is_step embedding budget request state hosts t (Err errors.NoMemory) may lost h = may lost
+
+  -- what may be asked for by a request that may change the state
+  pub asks_changing : (request : Request) (r : Result task.Task (refusal.Refusal Code)) → MayChange request → TakesMemory request → AsksFor request r
+  asks_changing request (Ok t) may takes = λ h. may
+  asks_changing request (Err refusals.SequenceSpent) may takes = tt
+  asks_changing request (Err refusals.BadName) may takes = tt
+  asks_changing request (Err refusals.ModuleTaken) may takes = tt
+  asks_changing request (Err refusals.TooManyModules) may takes = tt
+  asks_changing request (Err (refusals.BadSource f)) may takes = tt
+  asks_changing request (Err refusals.NoModule) may takes = tt
+  asks_changing request (Err refusals.NoFunction) may takes = tt
+  asks_changing request (Err refusals.NotCallable) may takes = tt
+  asks_changing request (Err refusals.BadArguments) may takes = tt
+  asks_changing request (Err refusals.NoGlobal) may takes = tt
+  asks_changing request (Err refusals.NoObject) may takes = tt
+  asks_changing request (Err refusals.Reopen) may takes = tt
+  asks_changing request (Err refusals.DeviceFailed) may takes = tt
+  asks_changing request (Err refusals.NoMemory) may takes = takes
+  asks_changing request (Err refusals.GenerationSpent) may takes = tt
+
+  -- a task that changes the state
+  pub loses_changing : {X : Type 0} (r : Result X StepError) (t : task.Task) → ChangesState t → LosesMemory r (ChangesState t)
+  loses_changing (Ok x) t h = tt
+  loses_changing (Err errors.NoStep) t h = tt
+  loses_changing (Err errors.NoMemory) t h = h
+
+  -- a reply that refuses
+  pub is_refusal : (embedding : Embedding Fault) (budget : ℕ) (request : Request) (state : State) (hosts : Hosts) (r : refusal.Refusal Code) (one : code_step.Step Code) → (let failed : Result task.Task (refusal.Refusal Code) = Err r in AsksFor request failed) → RefusesAs fault r (task_of embedding request state) → step_seen fault one ≡ replied (Refused (refusal_seen fault r)) state hosts → IsStep fault embedding budget request state hosts (Ok one)
+  is_refusal embedding budget request state hosts r one = by r
+    where
+      so : (r : refusal.Refusal Code) → task_of embedding request state ≡ Err (refusal_seen fault r) → step_seen fault one ≡ replied (Refused (refusal_seen fault r)) state hosts → IsStep fault embedding budget request state hosts (Ok one)
+      so r h e = inl (ap (λ (w : TaskResult Fault). unless_refused budget w state hosts) h ∙ ap (λ (s : Step Fault). Some s) (sym e))
+
+      by : (r : refusal.Refusal Code) → (let failed : Result task.Task (refusal.Refusal Code) = Err r in AsksFor request failed) → RefusesAs fault r (task_of embedding request state) → step_seen fault one ≡ replied (Refused (refusal_seen fault r)) state hosts → IsStep fault embedding budget request state hosts (Ok one)
+      by refusals.SequenceSpent takes h e = so refusals.SequenceSpent h e
+      by refusals.BadName takes h e = so refusals.BadName h e
+      by refusals.ModuleTaken takes h e = so refusals.ModuleTaken h e
+      by refusals.TooManyModules takes h e = so refusals.TooManyModules h e
+      by (refusals.BadSource f) takes h e = so (refusals.BadSource f) h e
+      by refusals.NoModule takes h e = so refusals.NoModule h e
+      by refusals.NoFunction takes h e = so refusals.NoFunction h e
+      by refusals.NotCallable takes h e = so refusals.NotCallable h e
+      by refusals.BadArguments takes h e = so refusals.BadArguments h e
+      by refusals.NoGlobal takes h e = so refusals.NoGlobal h e
+      by refusals.NoObject takes h e = so refusals.NoObject h e
+      by refusals.Reopen takes h e = so refusals.Reopen h e
+      by refusals.DeviceFailed takes h e = so refusals.DeviceFailed h e
+      by refusals.GenerationSpent takes h e = so refusals.GenerationSpent h e
+      by refusals.NoMemory takes h e = inr (takes, e)

@@ -8,7 +8,7 @@ ghost use Rattle.ash_plain_steps.specs.StateViews.{state_seen};
 ghost use Rattle.ash_plain_steps.specs.RequestViews.{request_seen};
 ghost use Rattle.ash_plain_steps.specs.Consistency.{AreConsistent};
 ghost use Rattle.ash_plain_steps.specs.TaskViews.{GivesTask};
-ghost use Rattle.ash_plain_steps.specs.StepViews.{IsPerformable};
+ghost use Rattle.ash_plain_steps.specs.StepViews.{IsPerformable, AsksFor};
 
 use crate::calls::call_in;
 use crate::functions::word_named;
@@ -121,6 +121,7 @@ fn reading<S: Sources>(
         → AreConsistent embedding state.now.modules.items
         → GivesTask S.fault_seen state.now.modules.items result
         (task_of embedding (ReadGlobal module.now name.now) (state_seen state.now)) }
+    ensures memory { AsksFor (ReadGlobal module.now name.now) result }
 {
     let Some(place) = place_of(&state.modules, module) else {
         return Err(Refusal::NoModule);
@@ -144,6 +145,7 @@ pub(crate) fn task_of<'a, S: Sources>(
     ensures task { AreConsistent (S.embedding sources.now) state.now.modules.items
         → GivesTask S.fault_seen state.now.modules.items result
         (task_of (S.embedding sources.now) (request_seen request.now) (state_seen state.now)) }
+    ensures memory { AsksFor (request_seen request.now) result }
 {
     match *request {
         Request::Load { name, source } => loading(sources, name, source, state),

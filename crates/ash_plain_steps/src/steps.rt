@@ -3,15 +3,15 @@
 ghost use Rattle.std.specs.Prelude.{◌≡◌, Some, IfOk};
 ghost use Rattle.ash_steps.specs.States.{Embedding};
 ghost use Rattle.ash_steps.specs.Tasks.{Task as TaskData};
-ghost use Rattle.ash_steps.specs.Steps.{perform, step};
+ghost use Rattle.ash_steps.specs.Steps.{perform};
 ghost use Rattle.ash_plain_steps.specs.StateViews.{modules_seen, state_seen, hosts_seen};
 ghost use Rattle.ash_plain_steps.specs.RequestViews.{request_seen, step_seen};
 ghost use Rattle.ash_plain_steps.specs.Consistency.{AreConsistent};
 ghost use Rattle.ash_plain_steps.specs.TaskViews.{task_seen};
-ghost use Rattle.ash_plain_steps.specs.StepViews.{ComesTo, IsPerformable};
+ghost use Rattle.ash_plain_steps.specs.StepViews.{ComesTo, IsPerformable, ChangesState, LosesMemory, IsStep};
 
 use crate::refusals::task_of;
-use crate::request::{Refusal, Reply, Request, Step, StepError};
+use crate::request::{Reply, Request, Step, StepError};
 use crate::runs::{discard, initialize, invoke};
 use crate::sources::Sources;
 use crate::state::{Hosts, PlainState};
@@ -43,6 +43,7 @@ fn perform<S: Sources>(
         (perform budget one (state_seen state) (hosts_seen hosts)) }
     ensures consistent { IfOk result (λ s.
         AreConsistent (S.embedding sources.now) s.state.modules.items) }
+    ensures memory { LosesMemory result (ChangesState task.entry) }
 {
     match task {
         Task::Initialize(new) => initialize::<S>(budget, new, state, hosts),
@@ -58,12 +59,13 @@ fn perform<S: Sources>(
 }
 
 /// The step of one request, with so many ticks: the reply, the state after it, and what of the hosts is left. The state
-/// goes into it, and is in no other place again where there is no step.
+/// goes into it, and is in no other place again where there is no step. Where memory was refused before the state
+/// changed, the reply is the refusal `NoMemory`, and all is as it was.
 ///
 /// # Errors
 ///
 /// `NoStep` where the definitions have no step: hosts gave no answer to a call of the run. `NoMemory` where memory was
-/// refused.
+/// refused while the state changed, which can come only of a load, a call or a removal.
 pub fn plain_step<S: Sources>(
     sources: &S,
     budget: u64,
@@ -72,15 +74,13 @@ pub fn plain_step<S: Sources>(
     hosts: Hosts,
 ) -> Result<Step<S::Fault>, StepError>
     requires consistent { AreConsistent (S.embedding sources.now) state.modules.items }
-    ensures stepped { ComesTo (step_seen S.fault_seen) result
-        (step (S.embedding sources.now) budget (request_seen request.now) (state_seen state)
-        (hosts_seen hosts)) }
+    ensures stepped { IsStep S.fault_seen (S.embedding sources.now) budget (request_seen request.now)
+        (state_seen state) (hosts_seen hosts) result }
     ensures consistent { IfOk result (λ s.
         AreConsistent (S.embedding sources.now) s.state.modules.items) }
 {
     match task_of(sources, request, &state) {
         Ok(task) => perform(sources, budget, task, state, hosts),
-        Err(Refusal::NoMemory) => Err(StepError::NoMemory),
         Err(refusal) => Ok(replied(Reply::Refused(refusal), state, hosts)),
     }
 }
