@@ -1,6 +1,6 @@
 -- What runs leave, and what the definitions perform.
 use Rattle.std.proofs.Common.{◌≡◌, ◌<◌, ℕ, List, [], set, Option, Some, None, Result, Ok, Err, refl, sym, ◌∙◌, ap, subst, length, arith, inl, inr}
-use Rattle.std.specs.Prelude.{slice_get, option_map}
+use Rattle.std.specs.Prelude.{slice_get, option_map, IfOk}
 use Rattle.ash_host.specs.declared.word.Word.{Word}
 use Rattle.ash_host.specs.Objects.{handles}
 use Rattle.ash_typed.specs.Modules.{Module, module_of}
@@ -11,7 +11,8 @@ use Rattle.ash_evaluator.specs.EndViews.{outcome_seen}
 use Rattle.ash_steps.specs.Requests.{Request, Refused}
 use Rattle.ash_steps.specs.States.{LoadedModule as Loaded, State, Hosts, Embedding, globals_of, without_module, update_globals, world_of}
 use Rattle.ash_steps.specs.Tasks.{Task, TaskResult, Initialize, Invoke, Remove, task_of}
-use Rattle.ash_steps.specs.Steps.{Step, replied, answered, after_load, after_call, perform, unless_refused, step, TakesMemory}
+use Rattle.ash_steps.specs.Steps.{Step, replied, answered, after_load, after_call, perform, unless_refused, step, TakesMemory, Steps, performed, put_off}
+use Rattle.ash_steps.specs.Steps as all_steps
 use Rattle.ash_plain_steps.specs.declared.state.LoadedModule.{LoadedModule}
 use Rattle.ash_plain_steps.specs.declared.request.StepError.{StepError}
 use Rattle.ash_plain_steps.specs.declared.request.StepError.TheVariants as errors
@@ -144,3 +145,9 @@ module _ {Code Fault : Type 0} (fault : Code → Fault) where
       by refusals.DeviceFailed takes h e = so refusals.DeviceFailed h e
       by refusals.GenerationSpent takes h e = so refusals.GenerationSpent h e
       by refusals.NoMemory takes h e = inr (takes, e)
+
+  -- a step of the code is one of those that the definitions have
+  pub steps_of : (embedding : Embedding Fault) (budget : ℕ) (request : Request) (state : State) (hosts : Hosts) (r : Result (code_step.Step Code) StepError) → IsStep fault embedding budget request state hosts r → IfOk r (λ s. Steps embedding budget request state hosts (step_seen fault s))
+  steps_of embedding budget request state hosts (Ok one) (inl e) = performed e
+  steps_of embedding budget request state hosts (Ok one) (inr e) = put_off (all_steps.no_memory e.0) e.1
+  steps_of embedding budget request state hosts (Err e) h = tt

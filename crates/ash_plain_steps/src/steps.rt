@@ -3,7 +3,7 @@
 ghost use Rattle.std.specs.Prelude.{◌≡◌, Some, IfOk};
 ghost use Rattle.ash_steps.specs.States.{Embedding};
 ghost use Rattle.ash_steps.specs.Tasks.{Task as TaskData};
-ghost use Rattle.ash_steps.specs.Steps.{perform};
+ghost use Rattle.ash_steps.specs.Steps.{perform, Steps};
 ghost use Rattle.ash_plain_steps.specs.StateViews.{modules_seen, state_seen, hosts_seen};
 ghost use Rattle.ash_plain_steps.specs.RequestViews.{request_seen, step_seen};
 ghost use Rattle.ash_plain_steps.specs.Consistency.{AreConsistent};
@@ -74,8 +74,10 @@ pub fn plain_step<S: Sources>(
     hosts: Hosts,
 ) -> Result<Step<S::Fault>, StepError>
     requires consistent { AreConsistent (S.embedding sources.now) state.modules.items }
-    ensures stepped { IsStep S.fault_seen (S.embedding sources.now) budget (request_seen request.now)
-        (state_seen state) (hosts_seen hosts) result }
+    ensures stepped { IsStep S.fault_seen (S.embedding sources.now) budget
+        (request_seen request.now) (state_seen state) (hosts_seen hosts) result }
+    ensures defined { IfOk result (λ s. Steps (S.embedding sources.now) budget
+        (request_seen request.now) (state_seen state) (hosts_seen hosts) (step_seen S.fault_seen s)) }
     ensures consistent { IfOk result (λ s.
         AreConsistent (S.embedding sources.now) s.state.modules.items) }
 {
