@@ -3,7 +3,7 @@ use Rattle.std.proofs.Common.{◌≡◌, ◌<◌, ℕ, List, [], set, Option, So
 use Rattle.std.specs.Prelude.{slice_get, option_map, IfOk}
 use Rattle.ash_host.specs.declared.word.Word.{Word}
 use Rattle.ash_host.specs.Objects.{handles}
-use Rattle.ash_typed.specs.Modules.{Module, module_of}
+use Rattle.ash_typed.specs.Modules.{Module}
 use Rattle.ash_phrases.specs.Activity.{World}
 use Rattle.ash_phrases.specs.Releases.{sweep}
 use Rattle.ash_phrases.specs.Ends.{Finished, Outcome, call_function, load_module}
@@ -20,11 +20,10 @@ use Rattle.ash_plain_steps.specs.declared.request.Step as code_step
 use Rattle.ash_plain_steps.specs.declared.request.Refusal as refusal
 use Rattle.ash_plain_steps.specs.declared.request.Refusal.TheVariants as refusals
 use Rattle.ash_plain_steps.specs.declared.task.Task as task
-use Rattle.ash_plain_steps.specs.declared.task.Task.TheVariants as tasks
 use Rattle.ash_plain_steps.specs.StateViews.{loaded_seen, modules_seen}
 use Rattle.ash_plain_steps.specs.RequestViews.{step_seen, refusal_seen}
 use Rattle.ash_plain_steps.specs.Consistency.{Ascend}
-use Rattle.ash_plain_steps.specs.TaskViews.{task_seen, RefusesAs}
+use Rattle.ash_plain_steps.specs.TaskViews.{RefusesAs}
 use Rattle.ash_plain_steps.specs.StepViews.{ComesTo, ChangesState, MayChange, AsksFor, LosesMemory, IsStep}
 use Rattle.std.proofs.lemmas.List.{length-set}
 use Rattle.ash_plain_steps.proofs.Found.{within_got}

@@ -17,7 +17,6 @@ use Rattle.ash_plain_steps.specs.declared.request.Refusal.TheVariants as refusal
 use Rattle.ash_plain_steps.specs.declared.request.Contents as contents
 use Rattle.ash_plain_steps.specs.declared.request.Contents.TheVariants as all_contents
 use Rattle.ash_plain_steps.specs.declared.request.Shown as shown
-use Rattle.ash_plain_steps.specs.declared.request.Answer as answer
 use Rattle.ash_plain_steps.specs.declared.request.Reply as reply
 use Rattle.ash_plain_steps.specs.declared.request.Reply.TheVariants as replies
 use Rattle.ash_plain_steps.specs.declared.request.Step as step

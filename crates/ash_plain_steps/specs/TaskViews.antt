@@ -1,5 +1,5 @@
 -- What the code's tasks represent, and what the code gives where it refuses.
-use Rattle.std.specs.Prelude.{◌≡◌, ℕ, List, Option, Some, None, Result, Ok, Err, map, option_map, slice_get, if◌then◌else◌, codes}
+use Rattle.std.specs.Prelude.{◌≡◌, ℕ, List, Option, Some, None, Result, Ok, Err, option_map, slice_get, if◌then◌else◌, codes}
 use Rattle.std.specs.List.{find, position_from}
 use Rattle.std.specs.Str.{bytes_eq}
 use Rattle.std.specs.Option.{option_and_then}
@@ -9,7 +9,7 @@ use Rattle.ash_typed.specs.Modules.{Variables, Class, Module, module_of}
 use Rattle.ash_typed.specs.SoundModules.{names_of_globals}
 use Rattle.ash_steps.specs.States.{has_name}
 use Rattle.ash_phrases.specs.Classes.{dotted}
-use Rattle.ash_steps.specs.Requests.{Refusal, ObjectContents as Contents, Fields, HostState, Elements}
+use Rattle.ash_steps.specs.Requests.{ObjectContents as Contents, Fields, HostState, Elements}
 use Rattle.ash_steps.specs.Tasks.{Task, Initialize, Invoke, Remove, Read, Count, Rewrite, TaskResult, class_placed, shown_fields}
 use Rattle.ash_plain_steps.specs.declared.state.LoadedModule.{LoadedModule}
 use Rattle.ash_plain_steps.specs.declared.request.Refusal as refusal

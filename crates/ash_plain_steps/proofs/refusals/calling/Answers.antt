@@ -1,4 +1,4 @@
-use Rattle.std.proofs.Common.{◌≡◌, ℕ, List, Some, Result, Ok, Err, sym, ◌∙◌, ap, subst, arith}
+use Rattle.std.proofs.Common.{◌≡◌, List, Some, Ok, sym, ◌∙◌, ap, subst, arith}
 use Rattle.std.specs.Prelude.{slice_get, option_map}
 use Rattle.ash_typed.specs.Modules.{module_of}
 use Rattle.ash_steps.specs.Tasks.{Task, TaskResult, Invoke}

@@ -1,4 +1,4 @@
-use Rattle.std.proofs.Common.{◌≡◌, List, sym, ◌∙◌, ap, arith}
+use Rattle.std.proofs.Common.{List, sym, ◌∙◌, ap, arith}
 use Rattle.ash_plain_steps.proofs.Given.{place_in, discard_nowhere, removal_given}
 use Rattle.ash_plain_steps.proofs.refusals.discarding.Goals as goal
 

@@ -1,4 +1,4 @@
-use Rattle.std.proofs.Common.{◌≡◌, List, [], ◌∙◌, ap}
+use Rattle.std.proofs.Common.{List, [], ◌∙◌, ap}
 use Rattle.ash_host.specs.declared.word.Word.{Word}
 use Rattle.ash_phrases.specs.Activity.{World}
 use Rattle.ash_phrases.specs.Releases.{sweep}

@@ -1,14 +1,10 @@
-use Rattle.std.proofs.Common.{◌≡◌, ℕ, List, [], ◌∙◌, ap, sym, subst}
+use Rattle.std.proofs.Common.{◌≡◌, List, [], ◌∙◌, ap, sym, subst}
 use Rattle.std.specs.List.{remove}
-use Rattle.ash_phrases.specs.Ends.{Finished}
-use Rattle.ash_host.specs.declared.word.Word.{Word}
-use Rattle.ash_phrases.specs.Activity.{World}
 use Rattle.ash_plain.specs.Views.{world_seen}
 use Rattle.std.proofs.lemmas.Option.{slice_get-get_or}
 use Rattle.std.specs.Prelude.{slice_get}
 use Rattle.std.proofs.Common.{get_or}
 use Rattle.ash_steps.specs.States.{LoadedModule as Loaded, world_of}
-use Rattle.ash_steps.specs.Steps.{answered}
 use Rattle.ash_plain_steps.specs.declared.state.LoadedModule.{LoadedModule}
 use Rattle.ash_plain_steps.specs.StateViews.{loaded_seen, modules_seen, state_seen, hosts_seen}
 use Rattle.ash_plain_steps.specs.RequestViews.{step_seen}

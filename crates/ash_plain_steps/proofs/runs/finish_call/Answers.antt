@@ -1,8 +1,6 @@
-use Rattle.std.proofs.Common.{◌≡◌, ◌∙◌, List, ap, set}
-use Rattle.ash_host.specs.declared.word.Word.{Word}
+use Rattle.std.proofs.Common.{◌∙◌, ap, set}
 use Rattle.ash_plain.specs.Views.{world_seen}
 use Rattle.ash_evaluator.specs.EndViews.{end_seen}
-use Rattle.ash_steps.specs.States.{LoadedModule as Loaded}
 use Rattle.ash_steps.specs.Steps.{answered}
 use Rattle.ash_plain_steps.specs.declared.state.LoadedModule.{LoadedModule}
 use Rattle.ash_plain_steps.specs.StateViews.{modules_seen}

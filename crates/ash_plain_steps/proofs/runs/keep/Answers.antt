@@ -1,12 +1,11 @@
-use Rattle.std.proofs.Common.{◌≡◌, ℕ, List, Ok, ◌∙◌, ap, sym, subst}
+use Rattle.std.proofs.Common.{List, ◌∙◌, ap, sym, subst}
 use Rattle.std.specs.List.{find}
-use Rattle.ash_typed.specs.Modules.{module_of}
 use Rattle.ash_phrases.specs.Ends.{Finished}
 use Rattle.ash_plain.specs.Views.{world_seen}
 use Rattle.ash_steps.specs.States.{LoadedModule as Loaded, has_name, with_module}
 use Rattle.ash_steps.specs.Steps.{answered}
 use Rattle.ash_plain_steps.specs.declared.state.LoadedModule.{LoadedModule}
-use Rattle.ash_plain_steps.specs.StateViews.{loaded_seen, modules_seen}
+use Rattle.ash_plain_steps.specs.StateViews.{modules_seen}
 use Rattle.ash_plain_steps.specs.Consistency.{AreConsistent, IsRead}
 use Rattle.ash_plain_steps.proofs.Changed.{consistent_insert}
 use Rattle.ash_plain_steps.proofs.runs.keep.Goals as goal
