@@ -1,14 +1,11 @@
 -- Modules of which one has other globals, is removed, or is added.
-use Rattle.std.proofs.Common.{◌≡◌, ◌<◌, ℕ, zero, suc, Bool, true, false, cond, not, List, [], ◌∷◌, ◌++◌, length, map, set, Some, None, refl, sym, ◌∙◌, ap, subst, arith, get_or}
+use Rattle.std.proofs.Common.{◌≡◌, ℕ, zero, suc, Bool, true, false, cond, not, List, [], ◌∷◌, ◌++◌, set, Some, None, refl, sym, ◌∙◌, ap, subst, get_or}
 use Rattle.std.specs.Prelude.{slice_get, option_map}
-use Rattle.std.specs.List.{AllByRecursion, remove, insert, find}
-use Rattle.std.specs.declared.alloc.Global.{Global as Memory}
-use Rattle.std.specs.declared.vec.Vec.{Vec}
-use Rattle.std.proofs.lemmas.List.{map-set, length-map}
+use Rattle.std.specs.List.{AllByRecursion, remove, find}
+use Rattle.std.proofs.lemmas.List.{map-set}
 use Rattle.std.proofs.lemmas.Option.{get_or_from_slice_get, slice_get_within, slice_get-map}
 use Rattle.std.proofs.lemmas.Slice.Eq.{bytes_eq-Decides}
 use Rattle.ash_host.specs.declared.word.Word.{Word}
-use Rattle.ash_typed.specs.Modules.{module_of}
 use Rattle.ash_steps.specs.States.{LoadedModule as Loaded, Embedding, has_name, globals_of, update_globals, without_module, with_module}
 use Rattle.ash_plain_steps.specs.declared.state.LoadedModule.{LoadedModule}
 use Rattle.ash_plain_steps.specs.StateViews.{loaded_seen, modules_seen}

@@ -8,3 +8,5 @@ pub mod Handles
 pub mod Found
 pub mod Changed
 pub mod Asked
+pub mod Given
+pub mod Ran

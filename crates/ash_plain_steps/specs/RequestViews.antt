@@ -6,7 +6,7 @@ use Rattle.ash_host.specs.declared.word.Word.{Word}
 use Rattle.ash_typed.specs.declared.tree.items.Module as script
 use Rattle.ash_typed.specs.Modules.{Module, module_of}
 use Rattle.ash_evaluator.specs.EndViews.{end_seen}
-use Rattle.ash_steps.specs.Requests.{Request, Load, Call, Discard, Global, Object, Seq, Snapshot, ObjectContents as Contents, Fields, HostState, Elements, Shown}
+use Rattle.ash_steps.specs.Requests.{Request, Load, Call, Discard, Global, Seq, Snapshot, ObjectContents as Contents, Fields, HostState, Elements, Shown}
 use Rattle.ash_steps.specs.Requests as steps
 use Rattle.ash_steps.specs.Requests.{Refusal, Reply, Answered, Value, ShownAs, Number, Done, Refused}
 use Rattle.ash_steps.specs.Steps.{Step}
@@ -17,7 +17,6 @@ use Rattle.ash_plain_steps.specs.declared.request.Refusal.TheVariants as refusal
 use Rattle.ash_plain_steps.specs.declared.request.Contents as contents
 use Rattle.ash_plain_steps.specs.declared.request.Contents.TheVariants as all_contents
 use Rattle.ash_plain_steps.specs.declared.request.Shown as shown
-use Rattle.ash_plain_steps.specs.declared.request.Answer as answer
 use Rattle.ash_plain_steps.specs.declared.request.Reply as reply
 use Rattle.ash_plain_steps.specs.declared.request.Reply.TheVariants as replies
 use Rattle.ash_plain_steps.specs.declared.request.Step as step
@@ -28,7 +27,6 @@ request_seen (requests.Load name source) = Load name.now source.now
 request_seen (requests.Call module_name function arguments) = Call module_name.now function.now arguments.now
 request_seen (requests.Discard name) = Discard name.now
 request_seen (requests.Global module_name name) = Global module_name.now name.now
-request_seen (requests.Object number) = Object number
 request_seen requests.Seq = Seq
 request_seen requests.Snapshot = Snapshot
 

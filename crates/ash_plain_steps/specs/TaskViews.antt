@@ -1,5 +1,5 @@
 -- What the code's tasks represent, and what the code gives where it refuses.
-use Rattle.std.specs.Prelude.{◌≡◌, ℕ, List, Option, Some, None, Result, Ok, Err, map, option_map, slice_get, if◌then◌else◌, codes}
+use Rattle.std.specs.Prelude.{◌≡◌, ℕ, List, Option, Some, None, Result, Ok, Err, option_map, slice_get, if◌then◌else◌, codes}
 use Rattle.std.specs.List.{find, position_from}
 use Rattle.std.specs.Str.{bytes_eq}
 use Rattle.std.specs.Option.{option_and_then}
@@ -9,15 +9,15 @@ use Rattle.ash_typed.specs.Modules.{Variables, Class, Module, module_of}
 use Rattle.ash_typed.specs.SoundModules.{names_of_globals}
 use Rattle.ash_steps.specs.States.{has_name}
 use Rattle.ash_phrases.specs.Classes.{dotted}
-use Rattle.ash_steps.specs.Requests.{Refusal, ObjectContents as Contents, Fields, HostState, Elements}
-use Rattle.ash_steps.specs.Tasks.{Task, Initialize, Invoke, Remove, Read, Show, Count, Rewrite, TaskResult, class_placed, shown_fields}
+use Rattle.ash_steps.specs.Requests.{ObjectContents as Contents, Fields, HostState, Elements}
+use Rattle.ash_steps.specs.Tasks.{Task, Initialize, Invoke, Remove, Read, Count, Rewrite, TaskResult, class_placed, shown_fields}
 use Rattle.ash_plain_steps.specs.declared.state.LoadedModule.{LoadedModule}
 use Rattle.ash_plain_steps.specs.declared.request.Refusal as refusal
 use Rattle.ash_plain_steps.specs.declared.request.Refusal.TheVariants as refusals
 use Rattle.ash_plain_steps.specs.declared.task.Task as task
 use Rattle.ash_plain_steps.specs.declared.task.Task.TheVariants as tasks
 use Rattle.ash_plain_steps.specs.StateViews.{loaded_seen}
-use Rattle.ash_plain_steps.specs.RequestViews.{refusal_seen, shown_seen}
+use Rattle.ash_plain_steps.specs.RequestViews.{refusal_seen}
 
 -- a task, whose module goes by its place among these
 abbrev pub task_seen : List LoadedModule → task.Task → Option Task
@@ -25,7 +25,6 @@ task_seen ms (tasks.Initialize new) = Some (Initialize new.name.now new.source.n
 task_seen ms (tasks.Invoke call) = option_map (λ m. Invoke (loaded_seen m) (module_of m.tree) call.function call.args.items) (slice_get ms call.module)
 task_seen ms (tasks.Remove place) = option_map (λ m. Remove (loaded_seen m).name) (slice_get ms place)
 task_seen ms (tasks.Read word) = Some (Read word)
-task_seen ms (tasks.Show shown) = Some (Show (shown_seen shown))
 task_seen ms tasks.Count = Some Count
 task_seen ms tasks.Rewrite = Some Rewrite
 

@@ -32,10 +32,6 @@ pub enum Request<'a> {
         module: &'a str,
         name: &'a str,
     },
-    /// What the object of a number is, and has in it.
-    Object {
-        number: u64,
-    },
     /// How many requests have been answered.
     Seq,
     /// Write the whole state afresh, which changes nothing of it.

@@ -1,4 +1,4 @@
-use Rattle.std.proofs.Common.{◌≡◌, ◌++◌, List, drop, ◌+◌, ap, ◌∙◌}
+use Rattle.std.proofs.Common.{◌++◌, List, drop, ◌+◌, ap, ◌∙◌}
 use Rattle.ash_host.specs.Objects.{handles}
 use Rattle.ash_steps.specs.States.{globals_of}
 use Rattle.ash_plain_steps.specs.StateViews.{modules_seen}

@@ -1,0 +1,43 @@
+//! What a call names in a module.
+
+ghost use Rattle.ash_typed.specs.Modules.{module_of};
+ghost use Rattle.ash_steps.specs.States.{LoadedModule as Loaded};
+ghost use Rattle.ash_steps.specs.Tasks.{Invoke, call_in};
+ghost use Rattle.ash_plain_steps.specs.TaskViews.{Gives};
+
+use crate::arguments::{arguments_of, is_callable};
+use crate::functions::place_of_function;
+use crate::request::Refusal;
+use crate::sources::Sources;
+use ash_host::Word;
+use ash_steps::Argument;
+use ash_typed::Module;
+use std::alloc::Global;
+
+/// The function that a call names, by its place, and the words of its arguments. Refused with, in this order,
+/// `NoFunction`, `NotCallable` and `BadArguments`.
+#[tactic(auto, using(crate::proofs::Asked::no_function, crate::proofs::Asked::nothing_there, crate::proofs::Asked::not_callable, crate::proofs::Asked::bad_arguments, crate::proofs::Asked::invoked))]
+pub(crate) fn call_in<S: Sources>(
+    alloc: Global,
+    tree: &Module,
+    name: &str,
+    arguments: &[Argument],
+) -> Result<(usize, Vec<Word>), Refusal<S::Fault>>
+    ensures { (m : Loaded) → Gives S.fault_seen
+        (λ found. Invoke m (module_of tree.now) found.0 found.1.items) result
+        (call_in m (module_of tree.now) name.now arguments.now) }
+{
+    let Some(place) = place_of_function(&tree.functions, name) else {
+        return Err(Refusal::NoFunction);
+    };
+    let Some(function) = tree.functions.get(place) else {
+        return Err(Refusal::NoFunction);
+    };
+    if !is_callable(function) {
+        return Err(Refusal::NotCallable);
+    }
+    match arguments_of(alloc, &function.parameters, arguments)? {
+        Some(words) => Ok((place, words)),
+        None => Err(Refusal::BadArguments),
+    }
+}
