@@ -1,0 +1,147 @@
+//! Replies as the program writes them, and events.
+
+use ash_evaluator::ends::End;
+use ash_host::{Event, Target, Word};
+use ash_meaning::refusal::Refusal as SourceRefusal;
+use ash_phrases::Exception;
+use ash_plain_steps::request::{Answer, Refusal, Reply};
+use std::alloc::{AllocError, Global};
+use std::fmt::Write;
+
+pub fn write_word(out: &mut String, word: Word) -> Result<(), AllocError> {
+    match word {
+        Word::Bool(truth) => write!(out, "{truth}"),
+        Word::Int(number) => write!(out, "{number}"),
+        Word::Uint(number) => write!(out, "{number}"),
+        Word::Int64(number) => write!(out, "{number}"),
+        Word::Uint64(number) => write!(out, "{number}"),
+        Word::Null => write!(out, "null"),
+        Word::Object(number) => write!(out, "object {number}"),
+    }
+}
+
+pub fn write_bytes(out: &mut String, bytes: &[u8]) -> Result<(), AllocError> {
+    for byte in bytes {
+        write!(out, "{byte:02x}")?;
+    }
+    Ok(())
+}
+
+fn write_exception(out: &mut String, exception: Exception) -> Result<(), AllocError> {
+    write!(out, "exception {}", exception.name())?;
+    match exception {
+        Exception::Raised(code) => write!(out, " {code}"),
+        _ => Ok(()),
+    }
+}
+
+fn write_end(out: &mut String, end: &End) -> Result<(), AllocError> {
+    match end {
+        End::Finished(None) => write!(out, "ok"),
+        End::Finished(Some(word)) => {
+            write!(out, "ok ")?;
+            write_word(out, *word)
+        }
+        End::Threw {
+            exception,
+            function,
+            line,
+        } => {
+            write_exception(out, *exception)?;
+            write!(out, " {function} {line}")
+        }
+        End::Aborted { function, line } => write!(out, "aborted {function} {line}"),
+    }
+}
+
+/// The numbers of the objects that were dropped, where there are some.
+fn write_dropped(out: &mut String, events: &[Event]) -> Result<(), AllocError> {
+    let mut word = " dropped";
+    for event in events {
+        if let Event::Dropped(number) = event {
+            write!(out, "{word} {number}")?;
+            word = "";
+        }
+    }
+    Ok(())
+}
+
+fn write_answer(out: &mut String, answer: &Answer) -> Result<(), AllocError> {
+    write_end(out, &answer.end)?;
+    write!(out, " seq {}", answer.seq)?;
+    write_dropped(out, &answer.events)
+}
+
+fn write_source_refusal(out: &mut String, refusal: &SourceRefusal) -> Result<(), AllocError> {
+    match refusal {
+        SourceRefusal::NotYet => write!(out, "199 NotYet"),
+        SourceRefusal::Unexpected { at } => write!(out, "104 Unexpected {at}"),
+        SourceRefusal::TypeMismatch { at } => write!(out, "304 TypeMismatch {at}"),
+        SourceRefusal::CyclicType(names) => write!(out, "309 CyclicType {names}"),
+        other => write!(out, "{other:?}"),
+    }
+}
+
+fn write_refusal(out: &mut String, refusal: &Refusal<SourceRefusal>) -> Result<(), AllocError> {
+    write!(out, "refused ")?;
+    match refusal {
+        Refusal::SequenceSpent => write!(out, "410 SequenceSpent"),
+        Refusal::BadName => write!(out, "409 BadName"),
+        Refusal::ModuleTaken => write!(out, "402 ModuleTaken"),
+        Refusal::TooManyModules => write!(out, "408 TooManyModules"),
+        Refusal::BadSource(fault) => write_source_refusal(out, fault),
+        Refusal::NoModule => write!(out, "401 NoModule"),
+        Refusal::NoFunction => write!(out, "403 NoFunction"),
+        Refusal::NotCallable => write!(out, "404 NotCallable"),
+        Refusal::BadArguments => write!(out, "405 BadArguments"),
+        Refusal::NoGlobal => write!(out, "406 NoGlobal"),
+        Refusal::NoObject => write!(out, "407 NoObject"),
+        Refusal::Reopen => write!(out, "508 Reopen"),
+        Refusal::DeviceFailed => write!(out, "507 DeviceFailed"),
+        Refusal::NoMemory => write!(out, "509 NoMemory"),
+        Refusal::GenerationSpent => write!(out, "511 GenerationSpent"),
+    }
+}
+
+fn write_reply(out: &mut String, reply: &Reply<SourceRefusal>) -> Result<(), AllocError> {
+    match reply {
+        Reply::Answered(answer) => write_answer(out, answer),
+        Reply::Value(word) => {
+            write!(out, "ok ")?;
+            write_word(out, *word)
+        }
+        Reply::Shown(shown) => write!(out, "ok object {}", shown.number),
+        Reply::Number(seq) => write!(out, "ok {seq}"),
+        Reply::Done => write!(out, "ok"),
+        Reply::Refused(refusal) => write_refusal(out, refusal),
+    }
+}
+
+/// A reply as the program writes it.
+pub fn reply_text(alloc: Global, reply: &Reply<SourceRefusal>) -> Result<String, AllocError> {
+    let mut out = String::new(alloc);
+    write_reply(&mut out, reply)?;
+    Ok(out)
+}
+
+fn write_event(out: &mut String, event: Event) -> Result<(), AllocError> {
+    match event {
+        Event::Drew(number) => write!(out, "Drew {number}; "),
+        Event::Called(Target::Object(number), method) => write!(out, "Called {number} {method}; "),
+        Event::Called(Target::Service(place), function) => {
+            write!(out, "Called service {place} {function}; ")
+        }
+        Event::Dropped(number) => write!(out, "Dropped {number}; "),
+    }
+}
+
+/// The events of a reply; one that is no answer has none.
+pub fn events_text(alloc: Global, reply: &Reply<SourceRefusal>) -> Result<String, AllocError> {
+    let mut out = String::new(alloc);
+    if let Reply::Answered(answer) = reply {
+        for event in &answer.events {
+            write_event(&mut out, *event)?;
+        }
+    }
+    Ok(out)
+}

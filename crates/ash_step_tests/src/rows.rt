@@ -1,0 +1,138 @@
+//! Rows, and how they are run.
+
+ghost use Rattle.std.specs.Prelude.{◌≡◌, [], IfOk};
+ghost use Rattle.ash_meaning.specs.Sources.{rules_of, embedding_of};
+ghost use Rattle.ash_plain_steps.specs.Consistency.{AreConsistent};
+
+use crate::calls::{HostStep, answers};
+use crate::reader::Reader;
+use crate::registered::{pool, registry, zero};
+use crate::replies::{events_text, reply_text};
+use crate::requests::{arguments_of, request_of};
+use crate::states::state_text;
+use ash_meaning::refusal::Refusal;
+use ash_meaning::sources::{AdmittedScripts, Sources};
+use ash_plain_steps::request::{Request, Step, StepError};
+use ash_plain_steps::state::{Hosts, PlainState};
+use ash_plain_steps::steps::plain_step;
+use std::alloc::Global;
+use std::process::Abort;
+use std::test::Fail;
+
+/// A request as a line, where a source follows the name of its module; its reply as the program writes it; its events.
+pub type Exchange<'a> = (&'a str, &'a str, &'a str);
+
+/// What is found before the first request.
+#[derive(Clone, Copy)]
+pub struct Host {
+    /// How many counters are free.
+    pub counters: usize,
+    /// How many ticks a request has.
+    pub budget: u64,
+    /// The last number that was given to an object.
+    pub last: u64,
+    pub admitted: AdmittedScripts,
+}
+
+/// Two counters are free, and each script is admitted.
+pub const HOST: Host = Host {
+    counters: 2,
+    budget: 1000,
+    last: 0,
+    admitted: AdmittedScripts::All,
+};
+
+/// The step of one request.
+fn stepped(
+    reader: &Reader<'_>,
+    budget: u64,
+    request: &Request<'_>,
+    state: PlainState,
+    hosts: Hosts,
+) -> Result<Step<Refusal>, StepError>
+    requires consistent { AreConsistent (embedding_of (rules_of reader.now.sources)) state.modules.items }
+    ensures consistent { IfOk result (λ s. AreConsistent (embedding_of (rules_of reader.now.sources))
+        s.state.modules.items) }
+{
+    plain_step(reader, budget, request, state, hosts)
+}
+
+/// A row: what it shows, what is found before the first request, the requests, and the state that they leave.
+#[derive(Clone, Copy)]
+pub struct Row<'a> {
+    pub what: &'a str,
+    pub host: Host,
+    /// What is asked of counters and the service, in order.
+    pub steps: &'a [HostStep],
+    pub exchanges: &'a [Exchange<'a>],
+    pub left: &'a str,
+}
+
+/// Compares a text with the one that is wanted of a row.
+fn check_text(rt: &impl Abort, found: &str, wanted: &str, what: (&str, &str)) {
+    if found != wanted {
+        let (row, part) = what;
+        panic!(rt; "{row}, {part}: found {found}, wanted {wanted}");
+    }
+}
+
+/// Compares the reply and the events of a step.
+fn check_step(
+    rt: &impl Abort,
+    alloc: Global,
+    what: &str,
+    step: &Step<Refusal>,
+    wanted: (&str, &str),
+) -> Result<(), Fail> {
+    let (reply, events) = wanted;
+    let found = reply_text(alloc, &step.reply)?;
+    check_text(rt, found.as_str(), reply, (what, "the reply"));
+    let found = events_text(alloc, &step.reply)?;
+    check_text(rt, found.as_str(), events, (what, reply));
+    Ok(())
+}
+
+/// The state before any request, but for the last number that was given to an object.
+fn begun(alloc: Global, last: u64) -> Result<PlainState, Fail>
+    ensures no_modules { IfOk result (λ state. state.modules.items ≡ []) }
+{
+    let mut state = PlainState::new(alloc, vec![in alloc; zero(alloc)?]?);
+    state.last = last;
+    Ok(state)
+}
+
+/// Runs the requests of a row, one after another, and compares the reply and the events of each, and the state
+/// that is left.
+pub fn check_row(rt: &impl Abort, alloc: Global, row: &Row<'_>) -> Result<(), Fail> {
+    let registry = registry(alloc)?;
+    let reader = Reader {
+        sources: Sources {
+            registry: &registry,
+            admitted: row.host.admitted,
+        },
+    };
+    let mut state = begun(alloc, row.host.last)?;
+    let mut hosts = Hosts {
+        pool: pool(alloc, row.host.counters)?,
+        answers: answers(alloc, row.steps)?,
+    };
+    for (request, reply, events) in row.exchanges {
+        let arguments = arguments_of(alloc, request)?;
+        let request = request_of(request, &arguments);
+        let step = stepped(&reader, row.host.budget, &request, state, hosts)?;
+        check_step(rt, alloc, row.what, &step, (*reply, *events))?;
+        state = step.state;
+        hosts = step.hosts;
+    }
+    let found = state_text(alloc, &state, &hosts)?;
+    check_text(rt, found.as_str(), row.left, (row.what, "the state"));
+    Ok(())
+}
+
+/// Runs rows, each from the beginning.
+pub fn check_rows(rt: &impl Abort, alloc: Global, rows: &[Row<'_>]) -> Result<(), Fail> {
+    for row in rows {
+        check_row(rt, alloc, row)?;
+    }
+    Ok(())
+}
