@@ -10,7 +10,8 @@
 
 #[cfg(test)]
 mod arrays;
-pub mod calls;
+#[cfg(test)]
+mod calls;
 #[cfg(test)]
 mod classes;
 #[cfg(test)]
@@ -23,13 +24,19 @@ mod interfaces;
 mod limits;
 #[cfg(test)]
 mod modules;
-pub mod reader;
-pub mod registered;
-pub mod replies;
-pub mod requests;
-pub mod rows;
+#[cfg(test)]
+mod reader;
+#[cfg(test)]
+mod registered;
+#[cfg(test)]
+mod replies;
+#[cfg(test)]
+mod requests;
+#[cfg(test)]
+mod rows;
 #[cfg(test)]
 mod services;
 #[cfg(test)]
 mod sources;
-pub mod states;
+#[cfg(test)]
+mod states;
