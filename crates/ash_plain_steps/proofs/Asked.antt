@@ -1,5 +1,5 @@
 -- What requests ask for, by what is found.
-use Rattle.std.proofs.Common.{◌≡◌, ◌<◌, ◌≤◌, ℕ, Bool, true, false, not, List, length, Option, Some, None, Ok, Err, sym, ◌∙◌, ap, nat_lt, lt-ltb, le-ltb}
+use Rattle.std.proofs.Common.{refl, subst, ◌≡◌, ◌<◌, ◌≤◌, ℕ, Bool, true, false, not, List, length, Option, Some, None, Ok, Err, sym, ◌∙◌, ap, nat_lt, lt-ltb, le-ltb}
 use Rattle.std.specs.Prelude.{slice_get, is_some}
 use Rattle.std.specs.List.{position_from}
 use Rattle.std.specs.Option.{option_and_then}
@@ -12,7 +12,7 @@ use Rattle.ash_steps.specs.declared.argument.Argument.{Argument}
 use Rattle.ash_steps.specs.States.{LoadedModule as Loaded, State, Embedding, find_module}
 use Rattle.ash_steps.specs.Requests.{Load, Call, Discard, Global, SequenceSpent, BadName, ModuleTaken, TooManyModules, NoModule, NoFunction, NotCallable, BadArguments, NoGlobal}
 use Rattle.ash_steps.specs.Tasks.{TaskResult, Invoke, Remove, Read, max_seq, max_modules, is_module_name, is_callable, arguments_of, numbered, require, require_some, initialize, tree_of, task_of, call_in, word_named}
-use Rattle.ash_plain_steps.specs.TaskViews.{word_among}
+use Rattle.ash_plain_steps.specs.TaskViews.{word_among, TakesMemoryToFind}
 
 pub spent : {Fault : Type 0} (state : State) (next : TaskResult Fault) → max_seq ≤ state.seq → numbered state next ≡ Err SequenceSpent
 spent state next h = let none : nat_lt state.seq max_seq ≡ false = le-ltb _ _ h in ap (λ (b : Bool). require b SequenceSpent next) none
@@ -57,6 +57,14 @@ module _ {Fault : Type 0} (m : Loaded) (tree : Module) (name : List ℕ) (args :
 
   pub invoked : (place : ℕ) (f : Function) (words : List Word) → Some place ≡ position_from (λ (f : Function). bytes_eq f.name name) 0 tree.functions → slice_get tree.functions place ≡ Some f → is_callable f ≡ true → Some words ≡ arguments_of f.parameters args → call_in {Fault = Fault} m tree name args ≡ Ok (Invoke m tree place words)
   invoked place f words e g so is = callable_with place f (Some words) e g so is
+
+found_words : (Fault : Type 0) (m : Loaded) (tree : Module) (place : ℕ) (o : Option (List Word)) → TakesMemoryToFind {Fault = Fault} (require_some o BadArguments (λ given. Ok (Invoke m tree place given)))
+found_words Fault m tree place (Some words) = tt
+found_words Fault m tree place None = tt
+
+-- The words of arguments take memory, once the function is found and may be called.
+pub words_take : (Fault : Type 0) (m : Loaded) (tree : Module) (name : List ℕ) (args : List Argument) (place : ℕ) (f : Function) → Some place ≡ position_from (λ (f : Function). bytes_eq f.name name) 0 tree.functions → slice_get tree.functions place ≡ Some f → is_callable f ≡ true → TakesMemoryToFind {Fault = Fault} (call_in m tree name args)
+words_take Fault m tree name args place f e g so = subst (λ (r : TaskResult Fault). TakesMemoryToFind r) (sym (callable_with m tree name args place f (arguments_of f.parameters args) e g so refl)) (found_words Fault m tree place (arguments_of f.parameters args))
 
 pub word_named_is : (name : List ℕ) (tree : Module) (globals : List Word) → word_named name tree globals ≡ word_among name tree.globals globals
 word_named_is name tree globals = ap (option_and_then (λ place. slice_get globals place)) (position_is (λ other. bytes_eq other name) (names_of_globals tree.globals))

@@ -1,5 +1,5 @@
 -- What the code finds for a request, and what the request asks for then.
-use Rattle.std.proofs.Common.{◌≡◌, ◌<◌, ◌≤◌, ℕ, Bool, true, false, List, length, Option, Some, None, Result, Ok, Err, refl, sym, ◌∙◌, ap, nat_lt, lt-ltb, le-ltb, get_or}
+use Rattle.std.proofs.Common.{subst, ◌≡◌, ◌<◌, ◌≤◌, ℕ, Bool, true, false, List, length, Option, Some, None, Result, Ok, Err, refl, sym, ◌∙◌, ap, nat_lt, lt-ltb, le-ltb, get_or}
 use Rattle.std.specs.Prelude.{slice_get, option_map, is_some}
 use Rattle.std.specs.List.{find, position}
 use Rattle.std.proofs.lemmas.List.{length-map}
@@ -16,7 +16,7 @@ use Rattle.ash_plain_steps.specs.declared.state.PlainState.{PlainState}
 use Rattle.ash_plain_steps.specs.declared.task.Task.TheVariants as tasks
 use Rattle.ash_plain_steps.specs.StateViews.{loaded_seen, modules_seen, state_seen}
 use Rattle.ash_plain_steps.specs.Consistency.{AreConsistent}
-use Rattle.ash_plain_steps.specs.TaskViews.{task_seen, word_among}
+use Rattle.ash_plain_steps.specs.TaskViews.{task_seen, word_among, TakesMemoryToFind}
 use Rattle.ash_plain_steps.proofs.Ascending.{same_name}
 use Rattle.ash_plain_steps.proofs.Places.{found_nowhere}
 use Rattle.ash_plain_steps.proofs.Found.{found_got, found_some, tree_got}
@@ -67,6 +67,14 @@ module _ {Fault : Type 0} (embedding : Embedding Fault) (s : PlainState) (name :
 
   pub load_read : (source : List ℕ) (found : Result Module Fault) → s.seq < max_seq → is_module_name name ≡ true → is_some (place_in name s.modules.items) ≡ false → length s.modules.items < max_modules → found ≡ embedding.read source → task_of embedding (Load name source) (state_seen s) ≡ initialize name source found
   load_read source found h n t f r = load_at source true false true h n t (few_is s.modules.items f) ∙ ap (initialize name source) (sym r)
+
+  source_takes : (source : List ℕ) (found : Result Module Fault) → TakesMemoryToFind (initialize name source found)
+  source_takes source (Ok tree) = tt
+  source_takes source (Err fault) = tt
+
+  -- The reading of a source takes memory.
+  pub reading_takes : (source : List ℕ) → s.seq < max_seq → is_module_name name ≡ true → is_some (place_in name s.modules.items) ≡ false → length s.modules.items < max_modules → TakesMemoryToFind (task_of embedding (Load name source) (state_seen s))
+  reading_takes source h n t f = subst (λ (r : TaskResult Fault). TakesMemoryToFind r) (sym (load_read source (embedding.read source) h n t f refl)) (source_takes source (embedding.read source))
 
   -- no module has the name
 

@@ -143,10 +143,10 @@ module _ {Code Fault : Type 0} (fault : Code → Fault) where
       by refusals.Reopen takes h e = so refusals.Reopen h e
       by refusals.DeviceFailed takes h e = so refusals.DeviceFailed h e
       by refusals.GenerationSpent takes h e = so refusals.GenerationSpent h e
-      by refusals.NoMemory takes h e = inr (takes, e)
+      by refusals.NoMemory takes h e = inr (takes, h, e)
 
   -- a step of the code is one of those that the definitions have
   pub steps_of : (embedding : Embedding Fault) (budget : ℕ) (request : Request) (state : State) (hosts : Hosts) (r : Result (code_step.Step Code) StepError) → IsStep fault embedding budget request state hosts r → IfOk r (λ s. Steps embedding budget request state hosts (step_seen fault s))
   steps_of embedding budget request state hosts (Ok one) (inl e) = performed e
-  steps_of embedding budget request state hosts (Ok one) (inr e) = put_off (all_steps.no_memory e.0) e.1
+  steps_of embedding budget request state hosts (Ok one) (inr e) = put_off (all_steps.no_memory e.0) e.2
   steps_of embedding budget request state hosts (Err e) h = tt

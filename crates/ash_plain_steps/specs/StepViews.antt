@@ -3,7 +3,7 @@ use Rattle.std.specs.Prelude.{◌≡◌, ◌<◌, ◌⊎◌, ℕ, List, length, 
 use Rattle.ash_typed.specs.Modules.{module_of}
 use Rattle.ash_steps.specs.States.{State, Hosts, Embedding, find_module}
 use Rattle.ash_steps.specs.Requests.{Request, Load, Call, Discard, NoMemory, Refused}
-use Rattle.ash_steps.specs.Tasks.{max_seq}
+use Rattle.ash_steps.specs.Tasks.{max_seq, task_of}
 use Rattle.ash_plain_steps.specs.declared.state.PlainState.{PlainState}
 use Rattle.ash_plain_steps.specs.declared.request.StepError.{StepError}
 use Rattle.ash_plain_steps.specs.declared.request.StepError.TheVariants as errors
@@ -20,6 +20,7 @@ use Rattle.ash_plain_steps.specs.declared.state.LoadedModule.{LoadedModule}
 use Rattle.ash_plain_steps.specs.declared.request.Step as code_step
 use Rattle.ash_plain_steps.specs.StateViews.{modules_seen, state_seen}
 use Rattle.ash_plain_steps.specs.RequestViews.{step_seen}
+use Rattle.ash_plain_steps.specs.TaskViews.{TakesMemoryToFind}
 
 -- The code gives what the definitions give, or says that they give nothing. Where memory was refused, nothing is said.
 abbrev pub ComesTo : {X A : Type 0} → (X → A) → Result X StepError → Option A → Type 0
@@ -53,12 +54,13 @@ LosesMemory (Err errors.NoMemory) may = may
 LosesMemory _ may = Unit {0}
 
 module _ {Code Fault : Type 0} (fault : Code → Fault) (embedding : Embedding Fault) (budget : ℕ) (request : Request) (state : State) (hosts : Hosts) where
-  -- What the code gives for a request: the step of the definitions, or a refusal since memory was refused, which changes
-  -- nothing, or that the definitions have no step. Where memory was refused while the state changed, there is neither step
+  -- What the code gives for a request: the step of the definitions; or a refusal since memory was refused, which changes
+  -- nothing and replaces no cause that is found without memory; or that the definitions have no step. Where memory was refused while the state changed, there is neither step
   -- nor state: that can come only of a request that changes the state.
   abbrev pub IsStep : Result (code_step.Step Code) StepError → Type 0
   IsStep (Ok one) = (step embedding budget request state hosts ≡ Some (step_seen fault one))
-      ⊎ (TakesMemory request × (step_seen fault one ≡ replied (Refused NoMemory) state hosts))
+      ⊎ (TakesMemory request × TakesMemoryToFind (task_of embedding request state)
+      × (step_seen fault one ≡ replied (Refused NoMemory) state hosts))
   IsStep (Err errors.NoStep) = step embedding budget request state hosts ≡ None
   IsStep (Err errors.NoMemory) = MayChange request
 

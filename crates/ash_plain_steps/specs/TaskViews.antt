@@ -9,7 +9,7 @@ use Rattle.ash_typed.specs.Modules.{Variables, Class, Module, module_of}
 use Rattle.ash_typed.specs.SoundModules.{names_of_globals}
 use Rattle.ash_steps.specs.States.{has_name}
 use Rattle.ash_phrases.specs.Classes.{dotted}
-use Rattle.ash_steps.specs.Requests.{ObjectContents as Contents, Fields, HostState, Elements}
+use Rattle.ash_steps.specs.Requests.{BadSource, BadArguments, ObjectContents as Contents, Fields, HostState, Elements}
 use Rattle.ash_steps.specs.Tasks.{Task, Initialize, Invoke, Remove, Read, Count, Rewrite, TaskResult, class_placed, shown_fields}
 use Rattle.ash_plain_steps.specs.declared.state.LoadedModule.{LoadedModule}
 use Rattle.ash_plain_steps.specs.declared.request.Refusal as refusal
@@ -28,9 +28,17 @@ task_seen ms (tasks.Read word) = Some (Read word)
 task_seen ms tasks.Count = Some Count
 task_seen ms tasks.Rewrite = Some Rewrite
 
--- The code refuses for the cause for which the definitions refuse. Where memory was refused, nothing is said.
+-- what is found with memory: the tree of a source or its fault, and the words of arguments
+abbrev pub TakesMemoryToFind : {Fault : Type 0} → TaskResult Fault → Type 0
+TakesMemoryToFind (Ok (Initialize name source tree)) = Unit {0}
+TakesMemoryToFind (Ok (Invoke loaded tree function args)) = Unit {0}
+TakesMemoryToFind (Err (BadSource fault)) = Unit {0}
+TakesMemoryToFind (Err BadArguments) = Unit {0}
+TakesMemoryToFind _ = ⊥
+
+-- The code refuses for the cause for which the definitions refuse, or since memory was refused where it takes some to find it.
 abbrev pub RefusesAs : {Code Fault : Type 0} → (Code → Fault) → refusal.Refusal Code → TaskResult Fault → Type 0
-RefusesAs fault refusals.NoMemory wanted = Unit {0}
+RefusesAs fault refusals.NoMemory wanted = TakesMemoryToFind wanted
 RefusesAs fault r wanted = wanted ≡ Err (refusal_seen fault r)
 
 -- The code gives the task that the definitions give, or refuses.
