@@ -1,0 +1,4 @@
+pub mod States
+pub mod Steps
+pub mod Images
+pub mod Holding

@@ -1,0 +1,18 @@
+//! The laws of the states of hosts. A function without a body does nothing: its contract is the law.
+
+ghost use Rattle.std.specs.Prelude.{ℕ, List};
+ghost use Rattle.ash_registry.specs.Registrations.{Registration};
+ghost use Rattle.ash_states.specs.States.{IsAdmitted, empty};
+ghost use Rattle.ash_states.specs.Steps.{StepsKeepAdmitted};
+ghost use Rattle.ash_states.specs.Images.{IsImageOfOneState};
+
+/// A host may be in the state before any request, and in what a request leaves of a state that a host may be in.
+pub fn hosts_stay_admitted()
+    ensures first { (registered : List Registration) → IsAdmitted (empty registered) }
+    ensures steps { StepsKeepAdmitted }
+{}
+
+/// Bytes are the image of one state of a host, where these are the registrations.
+pub fn image_of_one_state()
+    ensures one { IsImageOfOneState }
+{}

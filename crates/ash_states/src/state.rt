@@ -1,0 +1,126 @@
+//! The state of a host: its steps, and its image.
+
+ghost use Rattle.std.specs.Prelude.{◌≡◌, ◌<◌, ◌^◌, length, IfOk};
+ghost use Rattle.ash_registry.specs.Registered.{registered};
+ghost use Rattle.ash_plain_steps.specs.RequestViews.{request_seen};
+ghost use Rattle.ash_state_image.specs.Rules.{IsShaped};
+ghost use Rattle.ash_state_image.specs.Views.{snapshot_of};
+ghost use Rattle.ash_state_image.specs.declared.version.Version.TheVariants.{Two};
+ghost use Rattle.ash_states.specs.States.{empty};
+ghost use Rattle.ash_states.specs.Steps.{Handled};
+ghost use Rattle.ash_states.specs.Images.{IsImageIn, IsBodyOf, IsRestored};
+
+use ash_meaning::fault::SourceFault;
+use ash_plain_steps::request::{Reply, Request, StepError};
+use ash_plain_steps::state::PlainState;
+use ash_registry::Registry;
+use ash_state_image::stored::StoredState;
+use std::alloc::{AllocError, Global};
+use std::marker::Model;
+
+/// Why a request to a host is refused.
+pub type HostRefusal = ash_plain_steps::request::Refusal<SourceFault>;
+
+/// What a request to a host is replied.
+pub type HostReply = ash_plain_steps::request::Reply<SourceFault>;
+
+/// What is registered with a host, and what outlives a request.
+#[derive(Drop)]
+pub struct HostState {
+    registry: Registry,
+    state: PlainState,
+}
+
+impl Model for HostState {
+    ghost use Rattle.ash_registry.specs.Registered.{registered};
+    ghost use Rattle.ash_plain_steps.specs.StateViews.{state_seen};
+    ghost use Rattle.ash_states.specs.States as states;
+    ghost use Rattle.ash_states.specs.Holding.{IsHeld};
+
+    ghost Value = { states.HostState };
+
+    ghost view = { λ s. record { registered = registered s.registry; state = state_seen s.state } };
+
+    // A host may be in the state, and each tree is that of its source.
+    ghost invariant = { λ s. IsHeld (registered s.registry) s.state };
+}
+
+impl HostState {
+    /// The state before any request, with what is registered.
+    pub fn new(alloc: Global, registry: Registry) -> HostState
+        ensures before_any_request { result ≡ empty (registered registry) }
+    {
+        HostState {
+            registry,
+            state: PlainState::new(alloc, Vec::new(alloc)),
+        }
+    }
+
+    /// The state that was stored, with what is registered: each source is read again. `None` where no host with these
+    /// registrations may be in it. An `Err` means that memory was refused.
+    pub fn restore(
+        alloc: Global,
+        registry: Registry,
+        stored: StoredState,
+    ) -> Result<Option<HostState>, AllocError>
+        requires shaped { IsShaped (snapshot_of stored) }
+        ensures exact { IfOk result (IsRestored (registered registry) (snapshot_of stored)) }
+    {
+        todo
+    }
+
+    /// What is registered.
+    pub fn registry(&self) -> &Registry
+        ensures same { registered result.now ≡ self.now.registered }
+    {
+        &self.registry
+    }
+
+    /// What is registered, taken out of the state.
+    pub fn into_registry(self) -> Registry
+        ensures same { registered result ≡ self.registered }
+    {
+        self.registry
+    }
+
+    /// How many requests have been answered.
+    pub fn seq(&self) -> u64
+        ensures number { result ≡ self.now.state.seq }
+    {
+        self.state.seq
+    }
+
+    /// The image of the state, in version 2. An `Err` means that memory was refused.
+    pub fn image(&self) -> Result<Vec<u8>, AllocError>
+        ensures image { IfOk result (λ image. IsImageIn Two image.items self.now) }
+        // It fits into a record.
+        ensures short { IfOk result (λ image. length image.items < 2 ^ 32) }
+    {
+        todo
+    }
+
+    /// The body of a record that has the image of the state. An `Err` means that memory was refused.
+    pub fn body(&self) -> Result<Vec<u8>, AllocError>
+        ensures body { IfOk result (λ body. IsBodyOf body.items self.now) }
+        // It fits into a record.
+        ensures short { IfOk result (λ body. length body.items < 2 ^ 32) }
+    {
+        todo
+    }
+
+    /// One request, with so many ticks.
+    ///
+    /// # Errors
+    ///
+    /// The state is lost, which can come only of a request that changes it: memory was refused while it changed, or a
+    /// run called a host object.
+    pub fn handle(
+        &mut self,
+        request: &Request<'_>,
+        budget: u64,
+    ) -> Result<Reply<SourceFault>, StepError>
+        ensures handled { Handled budget (request_seen request.now) self.old result self.new }
+    {
+        todo
+    }
+}
