@@ -12,9 +12,9 @@ use Rattle.ash_states.specs.States.{HostState, IsAdmitted}
 
 -- The state that a snapshot is of, whatever is registered.
 
--- the name of the module at an index
-abbrev pub name_at : List Loaded → ℕ → List ℕ
-name_at ms index = option_map_or (λ (m : Loaded). m.name) (slice_get ms index) []
+-- the name of the module at an index; none is named where there is no module
+abbrev pub name_at : List LoadedModule → ℕ → List ℕ
+name_at ms index = option_map_or (λ (m : LoadedModule). m.name) (slice_get ms index) []
 
 -- what the elements of an array are, each module by its name
 abbrev pub element_named : (ℕ → List ℕ) → Element ℕ → Element (List ℕ)
@@ -39,10 +39,13 @@ entry_named name entry = (entry.0, plain_named name entry.1)
 abbrev pub loaded_of : Loaded → LoadedModule
 loaded_of m = record { name = m.name; source = m.source; globals = m.globals }
 
+abbrev pub loaded_modules_of : List Loaded → List LoadedModule
+loaded_modules_of ms = map loaded_of ms
+
 abbrev pub state_of : Snapshot → State
 state_of s = record {
-  modules = map loaded_of s.modules;
-  objects = map (entry_named (name_at s.modules)) s.objects;
+  modules = loaded_modules_of s.modules;
+  objects = map (entry_named (name_at (loaded_modules_of s.modules))) s.objects;
   services = map (λ (service : ℕ × List ℕ). service.1) s.services;
   last = s.last;
   seq = s.seq;
@@ -67,10 +70,14 @@ IsImageOf bytes s = (version : Version) × IsImageIn version bytes s
 abbrev pub IsBodyOf : List ℕ → HostState → Type 0
 IsBodyOf body s = (image : List ℕ) × (body ≡ 1 ∷ image) × IsImageOf image s
 
+-- No host with these registrations may be in the state of the snapshot.
+abbrev pub IsRefused : List Registration → Snapshot → Type 0
+IsRefused registered snapshot = (s : HostState) → s.registered ≡ registered → state_of snapshot ≡ s.state → snapshot.services ≡ [] → IsAdmitted s → ⊥
+
 -- What is restored of a snapshot with these registrations: the one state that it is of, where a host may be in it.
 abbrev pub IsRestored : List Registration → Snapshot → Option HostState → Type 0
 IsRestored registered snapshot (Some s) = (s.registered ≡ registered) × (state_of snapshot ≡ s.state) × (snapshot.services ≡ []) × IsAdmitted s
-IsRestored registered snapshot None = (s : HostState) → s.registered ≡ registered → state_of snapshot ≡ s.state → snapshot.services ≡ [] → IsAdmitted s → ⊥
+IsRestored registered snapshot None = IsRefused registered snapshot
 
 -- Bytes are the image of one state where these are the registrations, whoever reads them.
 abbrev pub IsImageOfOneState : Type 0

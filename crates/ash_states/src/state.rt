@@ -10,6 +10,9 @@ ghost use Rattle.ash_states.specs.States.{empty};
 ghost use Rattle.ash_states.specs.Steps.{Handled};
 ghost use Rattle.ash_states.specs.Images.{IsImageIn, IsBodyOf, IsRestored};
 
+use crate::restoring::restore_state;
+use crate::steps::step_of;
+use crate::writing::{body_of, image_of};
 use ash_meaning::fault::SourceFault;
 use ash_plain_steps::request::{Reply, Request, StepError};
 use ash_plain_steps::state::PlainState;
@@ -17,6 +20,7 @@ use ash_registry::Registry;
 use ash_state_image::stored::StoredState;
 use std::alloc::{AllocError, Global};
 use std::marker::Model;
+use std::mem;
 
 /// Why a request to a host is refused.
 pub type HostRefusal = ash_plain_steps::request::Refusal<SourceFault>;
@@ -66,7 +70,10 @@ impl HostState {
         requires shaped { IsShaped (snapshot_of stored) }
         ensures exact { IfOk result (IsRestored (registered registry) (snapshot_of stored)) }
     {
-        todo
+        match restore_state(alloc, &registry, stored)? {
+            Some(state) => Ok(Some(HostState { registry, state })),
+            None => Ok(None),
+        }
     }
 
     /// What is registered.
@@ -96,7 +103,7 @@ impl HostState {
         // It fits into a record.
         ensures short { IfOk result (λ image. length image.items < 2 ^ 32) }
     {
-        todo
+        image_of(&self.registry, &self.state)
     }
 
     /// The body of a record that has the image of the state. An `Err` means that memory was refused.
@@ -105,7 +112,7 @@ impl HostState {
         // It fits into a record.
         ensures short { IfOk result (λ body. length body.items < 2 ^ 32) }
     {
-        todo
+        body_of(&self.registry, &self.state)
     }
 
     /// One request, with so many ticks.
@@ -121,6 +128,11 @@ impl HostState {
     ) -> Result<Reply<SourceFault>, StepError>
         ensures handled { Handled budget (request_seen request.now) self.old result self.new }
     {
-        todo
+        let alloc = self.state.alloc;
+        let lost = PlainState::new(alloc, Vec::new(alloc));
+        let state = mem::replace(&mut self.state, lost);
+        let step = step_of(&self.registry, request, budget, state)?;
+        self.state = step.state;
+        Ok(step.reply)
     }
 }

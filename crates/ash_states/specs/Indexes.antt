@@ -1,0 +1,78 @@
+-- The snapshot that is written of a state: each module by its index.
+use Rattle.std.specs.Prelude.{ℕ, ◌<◌, ◌^◌, List, [], map, position, unwrap_or}
+use Rattle.std.specs.List.{AllByRecursion}
+use Rattle.ash_host.specs.Objects.{Element, Bools, Ints, Uints, Int64s, Uint64s, Handles, Hosts, Plain, Script, Array, Host}
+use Rattle.ash_registry.specs.Text.{text_of}
+use Rattle.ash_steps.specs.States.{LoadedModule, has_name}
+use Rattle.ash_state_image.specs.Snapshots.{Loaded, Snapshot}
+use Rattle.ash_states.specs.States.{HostState}
+
+-- the index of the module of a name; 0 where no module has it
+abbrev pub index_in : List LoadedModule → List ℕ → ℕ
+index_in ms name = unwrap_or (position (has_name name) ms) 0
+
+-- what the elements of an array are, each module by its index
+abbrev pub element_indexed : (List ℕ → ℕ) → Element (List ℕ) → Element ℕ
+element_indexed index Bools = Bools
+element_indexed index Ints = Ints
+element_indexed index Uints = Uints
+element_indexed index Int64s = Int64s
+element_indexed index Uint64s = Uint64s
+element_indexed index (Handles owner place) = Handles (index owner) place
+element_indexed index (Hosts kind) = Hosts kind
+
+-- what an object is, each module by its index
+abbrev pub plain_indexed : (List ℕ → ℕ) → Plain (List ℕ) → Plain ℕ
+plain_indexed index (Script owner place fields) = Script (index owner) place fields
+plain_indexed index (Array of elements) = Array (element_indexed index of) elements
+plain_indexed index (Host kind state) = Host kind state
+
+-- an object with its number
+abbrev pub entry_indexed : (List ℕ → ℕ) → ℕ × Plain (List ℕ) → ℕ × Plain ℕ
+entry_indexed index entry = (entry.0, plain_indexed index entry.1)
+
+abbrev pub stored_of : LoadedModule → Loaded
+stored_of m = record { name = m.name; source = m.source; globals = m.globals }
+
+abbrev pub stored_modules_of : List LoadedModule → List Loaded
+stored_modules_of ms = map stored_of ms
+
+-- the snapshot of a state
+abbrev pub snapshot_for : HostState → Snapshot
+snapshot_for s = record {
+  registered = text_of s.registered;
+  seq = (s.state).seq;
+  last = (s.state).last;
+  services = [];
+  modules = stored_modules_of (s.state).modules;
+  objects = map (entry_indexed (index_in (s.state).modules)) (s.state).objects;
+}
+
+-- what a spelling has room for
+
+-- the index of a module in one byte, and the place of a class in two
+pub record IsIndexed (ms : List LoadedModule) (owner : List ℕ) (place : ℕ) : Type 0 where
+  pub index : index_in ms owner < 2 ^ 8
+  pub place : place < 2 ^ 16
+
+abbrev pub IsElementIndexed : List LoadedModule → Element (List ℕ) → Type 0
+IsElementIndexed ms (Handles owner place) = IsIndexed ms owner place
+IsElementIndexed ms _ = Unit {0}
+
+abbrev pub IsPlainIndexed : List LoadedModule → Plain (List ℕ) → Type 0
+IsPlainIndexed ms (Script owner place fields) = IsIndexed ms owner place
+IsPlainIndexed ms (Array of elements) = IsElementIndexed ms of
+IsPlainIndexed ms (Host kind state) = Unit {0}
+
+-- the kind of host objects in two bytes
+abbrev pub HasElementKind : {M : Type 0} → Element M → Type 0
+HasElementKind (Hosts kind) = kind < 2 ^ 16
+HasElementKind _ = Unit {0}
+
+abbrev pub HasKind : {M : Type 0} → Plain M → Type 0
+HasKind (Script owner place fields) = Unit {0}
+HasKind (Array of elements) = HasElementKind of
+HasKind (Host kind state) = kind < 2 ^ 16
+
+abbrev pub HaveKinds : {M : Type 0} → List (ℕ × Plain M) → Type 0
+HaveKinds {M} objects = AllByRecursion (λ (e : ℕ × Plain M). HasKind e.1) objects

@@ -1,0 +1,38 @@
+-- What the code gives on the way from a state that was stored.
+use Rattle.std.specs.Prelude.{◌≡◌, ℕ, List, [], ◌∷◌, Option, Some, None, Ok}
+use Rattle.std.specs.List.{AllByRecursion}
+use Rattle.ash_host.specs.Objects.{Plain, Objects, with_at}
+use Rattle.ash_registry.specs.Registrations.{Registration}
+use Rattle.ash_typed.specs.Modules.{Module}
+use Rattle.ash_steps.specs.States.{Embedding}
+use Rattle.ash_plain_steps.specs.declared.state.LoadedModule as code_module
+use Rattle.ash_plain_steps.specs.declared.state.PlainState.{PlainState}
+use Rattle.ash_plain_steps.specs.StateViews.{loaded_seen, modules_seen, state_seen}
+use Rattle.ash_plain_steps.specs.Consistency.{IsRead}
+use Rattle.ash_state_image.specs.Snapshots.{Loaded, Snapshot}
+use Rattle.ash_states.specs.Images.{loaded_of, loaded_modules_of, state_of, IsRefused}
+use Rattle.ash_states.specs.Holding.{IsHeld}
+
+-- a source has a typed tree
+abbrev pub HasTree : {Fault : Type 0} → Embedding Fault → Loaded → Type 0
+HasTree embedding m = (tree : Module) × (embedding.read m.source ≡ Ok tree)
+
+-- A module that was stored is read again, or its source has no typed tree.
+abbrev pub ReadsModule : {Fault : Type 0} → Embedding Fault → Loaded → Option code_module.LoadedModule → Type 0
+ReadsModule embedding stored (Some m) = (loaded_seen m ≡ loaded_of stored) × IsRead embedding m
+ReadsModule embedding stored None = HasTree embedding stored → ⊥
+
+-- the modules that were stored are read again, or the source of one of them has no typed tree
+abbrev pub ReadsModules : {Fault : Type 0} → Embedding Fault → List Loaded → Option (List code_module.LoadedModule) → Type 0
+ReadsModules embedding stored (Some ms) = (modules_seen ms ≡ loaded_modules_of stored) × AllByRecursion (IsRead embedding) ms
+ReadsModules embedding stored None = AllByRecursion (HasTree embedding) stored → ⊥
+
+-- these objects, with others put at their numbers one after another
+unfoldable pub with_all : {M : Type 0} → Objects M → Objects M → Objects M
+with_all objects [] = objects
+with_all objects (e ∷ more) = with_all (with_at e.0 e.1 objects) more
+
+-- the state of a snapshot, where a host may be in it
+abbrev pub RestoresState : List Registration → Snapshot → Option PlainState → Type 0
+RestoresState registered snapshot (Some s) = (state_seen s ≡ state_of snapshot) × (snapshot.services ≡ []) × IsHeld registered s
+RestoresState registered snapshot None = IsRefused registered snapshot

@@ -1,0 +1,117 @@
+//! The parts of a state that is written, with the indexes of modules in place of their names.
+
+ghost use Rattle.std.specs.Prelude.{◌≡◌, map, IfOk};
+ghost use Rattle.std.specs.List.{AllByRecursion};
+ghost use Rattle.ash_plain_data.specs.ObjectViews.{element_seen, object_seen};
+ghost use Rattle.ash_plain_steps.specs.StateViews.{modules_seen};
+ghost use Rattle.ash_state_image.specs.ObjectViews.{element_of, plain_in};
+ghost use Rattle.ash_state_image.specs.Views.{modules_in, objects_in};
+ghost use Rattle.ash_states.specs.Indexes.{index_in, element_indexed, plain_indexed, entry_indexed, stored_modules_of};
+ghost use Rattle.ash_states.specs.Indexes.{IsElementIndexed, IsPlainIndexed, HasElementKind, HasKind, HaveKinds};
+
+use ash_plain::objects::Objects;
+use ash_plain_data::object::{Element, Object};
+use ash_plain_steps::state::LoadedModule;
+use ash_state_image::parts::{ArrayParts, BodyParts, HostParts, ModuleParts, ObjectParts, ScriptParts};
+use ash_state_image::stored::ElementType;
+use std::alloc::{AllocError, Global};
+
+/// The index of the module of a name.
+fn index_of(modules: &[LoadedModule], name: &str) -> usize
+    ensures { result ≡ index_in (modules_seen modules.now) name.now }
+{
+    modules
+        .iter()
+        .position(|m| m.name.as_str() == name)
+        .unwrap_or(0)
+}
+
+/// What the elements of an array are.
+fn element_type(modules: &[LoadedModule], of: &Element) -> ElementType
+    requires indexed { IsElementIndexed (modules_seen modules.now) (element_seen of.now) }
+    ensures indexed { element_of result
+        ≡ element_indexed (index_in (modules_seen modules.now)) (element_seen of.now) }
+    ensures kind { HasElementKind (element_of result) }
+{
+    match of {
+        Element::Bools => ElementType::Bool,
+        Element::Ints => ElementType::Int,
+        Element::Uints => ElementType::Uint,
+        Element::Int64s => ElementType::Int64,
+        Element::Uint64s => ElementType::Uint64,
+        Element::Handles { owner, place } => {
+            ElementType::Class(index_of(modules, owner.as_str()) as u8, *place as u16)
+        }
+        Element::Hosts(kind) => ElementType::Host(*kind),
+    }
+}
+
+/// What an object is, beside its number.
+fn body_parts<'a>(modules: &[LoadedModule], object: &'a Object) -> BodyParts<'a>
+    requires indexed { IsPlainIndexed (modules_seen modules.now) (object_seen object.now) }
+    ensures indexed { plain_in result
+        ≡ plain_indexed (index_in (modules_seen modules.now)) (object_seen object.now) }
+    ensures kind { HasKind (plain_in result) }
+{
+    match object {
+        Object::Script {
+            owner,
+            place,
+            fields,
+        } => BodyParts::Script(ScriptParts {
+            owner: index_of(modules, owner.as_str()) as u8,
+            class: *place as u16,
+            fields: fields.as_slice(),
+        }),
+        Object::Array { of, elements } => BodyParts::Array(ArrayParts {
+            element: element_type(modules, of),
+            elements: elements.as_slice(),
+        }),
+        Object::Host { kind, state } => BodyParts::Host(HostParts {
+            kind: *kind,
+            state: state.as_slice(),
+        }),
+    }
+}
+
+/// The objects by ascending number.
+pub(crate) fn object_parts<'a>(
+    alloc: Global,
+    modules: &[LoadedModule],
+    objects: &'a Objects,
+) -> Result<Vec<ObjectParts<'a>>, AllocError>
+    requires indexed { AllByRecursion (λ e. IsPlainIndexed (modules_seen modules.now) e.1)
+        objects.now }
+    ensures indexed { IfOk result (λ parts. objects_in parts.items
+        ≡ map (entry_indexed (index_in (modules_seen modules.now))) objects.now) }
+    ensures kinds { IfOk result (λ parts. HaveKinds (objects_in parts.items)) }
+{
+    let mut parts = Vec::with_capacity(alloc, objects.len())?;
+    for (number, object) in objects.entries() {
+        let body = body_parts(modules, object);
+        parts.push(ObjectParts {
+            number: *number,
+            body,
+        })?;
+    }
+    Ok(parts)
+}
+
+/// The modules by ascending name.
+pub(crate) fn module_parts(
+    alloc: Global,
+    modules: &[LoadedModule],
+) -> Result<Vec<ModuleParts<'_>>, AllocError>
+    ensures stored { IfOk result (λ parts. modules_in parts.items
+        ≡ stored_modules_of (modules_seen modules.now)) }
+{
+    let mut parts = Vec::with_capacity(alloc, modules.len())?;
+    for loaded in modules {
+        parts.push(ModuleParts {
+            name: loaded.name.as_str(),
+            source: &loaded.source,
+            globals: &loaded.globals,
+        })?;
+    }
+    Ok(parts)
+}

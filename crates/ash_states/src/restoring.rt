@@ -1,0 +1,58 @@
+//! A state that was stored, restored where a host may be in it.
+
+ghost use Rattle.std.specs.Prelude.{◌≡◌, IfOk};
+ghost use Rattle.ash_registry.specs.Registered.{registered};
+ghost use Rattle.ash_meaning.specs.Sources.{rules_of, admitting_unregistered};
+ghost use Rattle.ash_state_image.specs.Rules.{IsShaped};
+ghost use Rattle.ash_state_image.specs.Views.{snapshot_of};
+ghost use Rattle.ash_states.specs.Restoring.{RestoresState};
+
+use crate::modules::read_modules;
+use crate::objects::objects_of;
+use ash_admission::is_well_typed;
+use ash_meaning::sources::{AdmittedScripts, Sources};
+use ash_plain_steps::state::PlainState;
+use ash_registry::Registry;
+use ash_state_image::stored::StoredState;
+use std::alloc::{AllocError, Global};
+
+/// How a host with this registry reads sources: scripts are admitted that use nothing registered.
+pub(crate) fn sources_for(registry: &Registry) -> Sources<'_>
+    ensures { rules_of result ≡ admitting_unregistered (registered registry.now) }
+{
+    Sources {
+        registry,
+        admitted: AdmittedScripts::UsingNothingRegistered,
+    }
+}
+
+/// The state that was stored, where a host with this registry may be in it: there are no services, each source has a
+/// typed tree, and what is stored is of the types that the sources say.
+pub(crate) fn restore_state(
+    alloc: Global,
+    registry: &Registry,
+    stored: StoredState,
+) -> Result<Option<PlainState>, AllocError>
+    requires shaped { IsShaped (snapshot_of stored) }
+    ensures exact { IfOk result (RestoresState (registered registry.now) (snapshot_of stored)) }
+{
+    let sources = sources_for(registry);
+    if !stored.services.is_empty() {
+        return Ok(None);
+    }
+    let Some(modules) = read_modules(alloc, &sources, stored.modules)? else {
+        return Ok(None);
+    };
+    let objects = objects_of(alloc, &modules, stored.objects)?;
+    if !is_well_typed(&modules, &objects) {
+        return Ok(None);
+    }
+    Ok(Some(PlainState {
+        alloc,
+        modules,
+        objects,
+        services: Vec::new(alloc),
+        last: stored.last,
+        seq: stored.seq,
+    }))
+}

@@ -1,0 +1,76 @@
+//! The image of a state.
+
+ghost use Rattle.std.specs.Prelude.{◌≡◌, ◌<◌, ◌^◌, length, IfOk};
+ghost use Rattle.ash_registry.specs.Registered.{registered};
+ghost use Rattle.ash_state_image.specs.Image.{Fits};
+ghost use Rattle.ash_state_image.specs.Views.{modules_in, objects_in, snapshot_in};
+ghost use Rattle.ash_state_image.specs.declared.version.Version.TheVariants.{Two};
+ghost use Rattle.ash_states.specs.Images.{IsImageIn, IsBodyOf};
+ghost use Rattle.ash_states.specs.Holding.{IsHeld, held_with};
+ghost use Rattle.ash_states.specs.Indexes.{snapshot_for};
+ghost use Rattle.ash_states.specs.Writing.{AreListed};
+
+use crate::parts::{module_parts, object_parts};
+use ash_plain_steps::state::PlainState;
+use ash_registry::Registry;
+use ash_state_image::image::{write_body, write_image};
+use ash_state_image::parts::{ModuleParts, ObjectParts, StateParts};
+use std::alloc::AllocError;
+
+/// The modules and the objects of a state by their parts.
+struct Lists<'a> {
+    modules: Vec<ModuleParts<'a>>,
+    objects: Vec<ObjectParts<'a>>,
+}
+
+fn lists_of(registry: &Registry, state: &PlainState) -> Result<Lists<'_>, AllocError>
+    requires held { IsHeld (registered registry.now) state.now }
+    ensures listed { IfOk result (AreListed (held_with (registered registry.now) state.now)) }
+{
+    let modules = module_parts(state.alloc, &state.modules)?;
+    let objects = object_parts(state.alloc, &state.modules, &state.objects)?;
+    Ok(Lists { modules, objects })
+}
+
+/// The parts of a state.
+fn state_parts<'a>(
+    registry: &'a Registry,
+    state: &'a PlainState,
+    lists: &'a Lists<'a>,
+) -> StateParts<'a>
+    requires held { IsHeld (registered registry.now) state.now }
+    requires listed { AreListed (held_with (registered registry.now) state.now) lists.now }
+    ensures same { snapshot_in result ≡ snapshot_for (held_with (registered registry.now) state.now) }
+    ensures fits { Fits Two (snapshot_in result) }
+{
+    StateParts {
+        registered: registry.text(),
+        seq: state.seq,
+        last: state.last,
+        services: &[],
+        modules: &lists.modules,
+        objects: &lists.objects,
+    }
+}
+
+/// The image of a state, in version 2.
+pub(crate) fn image_of(registry: &Registry, state: &PlainState) -> Result<Vec<u8>, AllocError>
+    requires held { IsHeld (registered registry.now) state.now }
+    ensures image { IfOk result (λ image. IsImageIn Two image.items
+        (held_with (registered registry.now) state.now)) }
+    ensures short { IfOk result (λ image. length image.items < 2 ^ 32) }
+{
+    let lists = lists_of(registry, state)?;
+    write_image(state.alloc, state_parts(registry, state, &lists))
+}
+
+/// The body of a record that has the image of a state.
+pub(crate) fn body_of(registry: &Registry, state: &PlainState) -> Result<Vec<u8>, AllocError>
+    requires held { IsHeld (registered registry.now) state.now }
+    ensures body { IfOk result (λ body. IsBodyOf body.items
+        (held_with (registered registry.now) state.now)) }
+    ensures short { IfOk result (λ body. length body.items < 2 ^ 32) }
+{
+    let lists = lists_of(registry, state)?;
+    write_body(state.alloc, state_parts(registry, state, &lists))
+}
