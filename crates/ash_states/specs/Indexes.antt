@@ -5,7 +5,10 @@ use Rattle.ash_host.specs.Objects.{Element, Bools, Ints, Uints, Int64s, Uint64s,
 use Rattle.ash_registry.specs.Text.{text_of}
 use Rattle.ash_steps.specs.States.{LoadedModule, has_name}
 use Rattle.ash_state_image.specs.Snapshots.{Loaded, Snapshot}
-use Rattle.ash_states.specs.States.{HostState}
+use Rattle.ash_state_image.specs.declared.version.Version.TheVariants.{Two}
+use Rattle.ash_state_image.specs.Image.{FitsText}
+use Rattle.ash_states.specs.States.{HostState, IsAdmitted}
+use Rattle.ash_states.specs.Images.{IsImageIn}
 
 -- the index of the module of a name; 0 where no module has it
 abbrev pub index_in : List LoadedModule → List ℕ → ℕ
@@ -76,3 +79,8 @@ HasKind (Host kind state) = kind < 2 ^ 16
 
 abbrev pub HaveKinds : {M : Type 0} → List (ℕ × Plain M) → Type 0
 HaveKinds {M} objects = AllByRecursion (λ (e : ℕ × Plain M). HasKind e.1) objects
+
+-- Each state that a host may be in has an image in version 2, where the text of what is registered has a spelling, and so
+-- have the kinds that objects name.
+abbrev pub HaveImages : Type 0
+HaveImages = (s : HostState) → IsAdmitted s → FitsText (text_of s.registered) → HaveKinds (s.state).objects → (bytes : List ℕ) × IsImageIn Two bytes s

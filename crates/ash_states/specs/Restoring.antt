@@ -28,7 +28,7 @@ ReadsModules embedding stored (Some ms) = (modules_seen ms ≡ loaded_modules_of
 ReadsModules embedding stored None = AllByRecursion (HasTree embedding) stored → ⊥
 
 -- these objects, with others put at their numbers one after another
-unfoldable pub with_all : {M : Type 0} → Objects M → Objects M → Objects M
+abbrev pub with_all : {M : Type 0} → Objects M → Objects M → Objects M
 with_all objects [] = objects
 with_all objects (e ∷ more) = with_all (with_at e.0 e.1 objects) more
 

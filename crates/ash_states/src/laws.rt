@@ -5,6 +5,7 @@ ghost use Rattle.ash_registry.specs.Registrations.{Registration};
 ghost use Rattle.ash_states.specs.States.{IsAdmitted, empty};
 ghost use Rattle.ash_states.specs.Steps.{StepsKeepAdmitted};
 ghost use Rattle.ash_states.specs.Images.{IsImageOfOneState};
+ghost use Rattle.ash_states.specs.Indexes.{HaveImages};
 
 /// A host may be in the state before any request, and in what a request leaves of a state that a host may be in.
 pub fn hosts_stay_admitted()
@@ -15,4 +16,10 @@ pub fn hosts_stay_admitted()
 /// Bytes are the image of one state of a host, where these are the registrations.
 pub fn image_of_one_state()
     ensures one { IsImageOfOneState }
+{}
+
+/// Each state that a host may be in has an image in version 2, where the text of what is registered has a spelling, and
+/// so have the kinds that objects name.
+pub fn admitted_states_have_images()
+    ensures image { HaveImages }
 {}

@@ -11,7 +11,7 @@ ghost use Rattle.ash_states.specs.Steps.{Handled};
 ghost use Rattle.ash_states.specs.Images.{IsImageIn, IsBodyOf, IsRestored};
 
 use crate::restoring::restore_state;
-use crate::steps::step_of;
+use crate::steps::{first_state, step_of};
 use crate::writing::{body_of, image_of};
 use ash_meaning::fault::SourceFault;
 use ash_plain_steps::request::{Reply, Request, StepError};
@@ -56,7 +56,7 @@ impl HostState {
     {
         HostState {
             registry,
-            state: PlainState::new(alloc, Vec::new(alloc)),
+            state: first_state(alloc),
         }
     }
 
@@ -129,10 +129,13 @@ impl HostState {
         ensures handled { Handled budget (request_seen request.now) self.old result self.new }
     {
         let alloc = self.state.alloc;
-        let lost = PlainState::new(alloc, Vec::new(alloc));
-        let state = mem::replace(&mut self.state, lost);
-        let step = step_of(&self.registry, request, budget, state)?;
-        self.state = step.state;
-        Ok(step.reply)
+        let state = mem::replace(&mut self.state, first_state(alloc));
+        match step_of(&self.registry, request, budget, state) {
+            Ok(step) => {
+                self.state = step.state;
+                Ok(step.reply)
+            }
+            Err(error) => Err(error),
+        }
     }
 }

@@ -1,6 +1,10 @@
 //! The step of one request.
 
+ghost use Rattle.std.specs.Prelude.{◌≡◌, List, []};
+ghost use Rattle.ash_registry.specs.Registrations.{Registration};
 ghost use Rattle.ash_registry.specs.Registered.{registered};
+ghost use Rattle.ash_steps.specs.States.{empty};
+ghost use Rattle.ash_plain_steps.specs.StateViews.{state_seen};
 ghost use Rattle.ash_plain_steps.specs.RequestViews.{request_seen};
 ghost use Rattle.ash_states.specs.Holding.{IsHeld, IsStepOf};
 
@@ -10,7 +14,16 @@ use ash_plain_steps::request::{Request, Step, StepError};
 use ash_plain_steps::state::{Hosts, PlainState};
 use ash_plain_steps::steps::plain_step;
 use ash_registry::Registry;
+use std::alloc::Global;
 use std::collections::VecDeque;
+
+/// The state before any request.
+pub(crate) fn first_state(alloc: Global) -> PlainState
+    ensures empty { state_seen result ≡ empty [] }
+    ensures held { (registrations : List Registration) → IsHeld registrations result }
+{
+    PlainState::new(alloc, Vec::new(alloc))
+}
 
 /// The step of one request, with so many ticks, where there are no host objects.
 pub(crate) fn step_of(

@@ -1,0 +1,47 @@
+-- A host may be in what a request leaves, where it may be in what the request finds.
+use Rattle.std.proofs.Common.{◌≡◌, ℕ, List, [], Option, Some, None, Ok, Err, refl, sym, ap, ◌∙◌, subst, inl, inr, ◌⊎◌}
+use Rattle.ash_registry.specs.Registrations.{Registration}
+use Rattle.ash_steps.specs.States.{State, Hosts}
+use Rattle.ash_steps.specs.Requests.{Request, NoMemory, Reply, Refused}
+use Rattle.ash_steps.specs.Steps.{Step, TakesMemory, replied, performed}
+use Rattle.ash_steps.specs.Steps as steps
+use Rattle.ash_wellformed.proofs.Entries.{mapped}
+use Rattle.ash_wellformed_states.specs.WellFormedStates.{AreHosts, IsWellFormedState}
+use Rattle.ash_wellformed_states.proofs.Stepped.{steps_keep}
+use Rattle.ash_wellformed_states.proofs.First.{empty_well}
+use Rattle.ash_meaning.specs.SourceFaults.{SourceFault}
+use Rattle.ash_meaning.specs.Sources.{admitting_unregistered}
+use Rattle.ash_meaning.proofs.SourceLaws.{read_sound}
+use Rattle.ash_states.specs.States.{HostState, IsAdmitted, empty, embedding_for, offered_to}
+use Rattle.ash_states.specs.Steps.{no_hosts, outcome_of, step, RanOut, Steps, StepsKeepAdmitted}
+use Rattle.ash_states.proofs.NoServices.{steps_leave_none}
+
+no_hosts_are : AreHosts no_hosts
+no_hosts_are = record { pool = tt; answers = tt }
+
+pub empty_admitted : (registered : List Registration) → IsAdmitted (empty registered)
+empty_admitted registered = record { formed = empty_well (embedding_for registered) (offered_to registered) [] tt; no_services = refl }
+
+-- after a step of the definitions
+pub step_admitted : (budget : ℕ) (request : Request) (old : HostState) (one : Step SourceFault) → IsAdmitted old → steps.Steps (embedding_for old.registered) budget request old.state no_hosts one → IsAdmitted (record { registered = old.registered; state = one.state })
+step_admitted budget request old one h stepped =
+    let kept = steps_keep (embedding_for old.registered) (offered_to old.registered) budget request old.state no_hosts one (read_sound (admitting_unregistered old.registered)) h.formed no_hosts_are stepped in
+    record {
+      formed = kept.0;
+      no_services = steps_leave_none old.state no_hosts ((h.formed).numbered) h.no_services (embedding_for old.registered) budget request one stepped;
+    }
+
+-- the step that a host takes is one of the definitions
+step_taken : (budget : ℕ) (request : Request) (old : HostState) (reply : Reply SourceFault) (new : HostState) → step budget request old ≡ Some (reply, new) → (one : Step SourceFault) × (steps.step (embedding_for old.registered) budget request old.state no_hosts ≡ Some one) × (outcome_of old.registered one ≡ (reply, new))
+step_taken budget request old reply new e = mapped (outcome_of old.registered) (steps.step (embedding_for old.registered) budget request old.state no_hosts) (reply, new) e
+
+pub steps_keep_admitted : StepsKeepAdmitted
+steps_keep_admitted budget request old reply new h (inl e) =
+    let (one, taken, same) = step_taken budget request old reply new e in
+    let after : (outcome_of old.registered one).1 ≡ new = ap (λ (p : Reply SourceFault × HostState). p.1) same in
+    (
+      subst IsAdmitted after (step_admitted budget request old one h (performed taken)),
+      sym (ap (λ (s : HostState). s.registered) after),
+    )
+steps_keep_admitted budget request old reply new h (inr out) =
+    (subst IsAdmitted (sym out.unchanged) h, ap (λ (s : HostState). s.registered) out.unchanged)

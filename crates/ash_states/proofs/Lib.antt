@@ -1,0 +1,14 @@
+pub mod Lists
+pub mod Names
+pub mod Renamed
+pub mod Inserted
+pub mod Formed
+pub mod Restored
+pub mod Indexed
+pub mod Fitting
+pub mod Kept
+pub mod NoServices
+pub mod Admitted
+pub mod Depicted
+pub mod OneImage
+pub mod Taken

@@ -1,0 +1,89 @@
+-- What was stored is restored exactly where a host may be in it.
+use Rattle.std.proofs.Common.{◌≡◌, ℕ, List, [], ◌∷◌, map, refl, sym, ap, ◌∙◌, subst}
+use Rattle.std.specs.Prelude.{Some, None}
+use Rattle.std.specs.List.{AllByRecursion}
+use Rattle.ash_host.specs.Objects.{Objects}
+use Rattle.ash_registry.specs.Registrations.{Registration}
+use Rattle.ash_steps.specs.States.{LoadedModule, State, Embedding}
+use Rattle.ash_meaning.specs.SourceFaults.{SourceFault}
+use Rattle.ash_wellformed.specs.WellFormed.{AreObjects, AreOffered}
+use Rattle.ash_wellformed_states.specs.WellFormedStates.{known_of, IsLoaded}
+use Rattle.ash_plain_steps.specs.declared.state.PlainState.{PlainState}
+use Rattle.ash_plain_steps.specs.StateViews.{modules_seen, state_seen}
+use Rattle.ash_plain_steps.specs.Consistency.{AreConsistent}
+use Rattle.ash_plain_steps.specs.Consistency as code
+use Rattle.ash_state_image.specs.Snapshots.{Loaded, Snapshot}
+use Rattle.ash_state_image.specs.Rules.{IsShaped}
+use Rattle.ash_states.specs.States.{HostState, IsAdmitted, embedding_for, offered_to}
+use Rattle.ash_states.specs.Images.{loaded_of, loaded_modules_of, state_of, IsRefused}
+use Rattle.ash_states.specs.Holding.{IsHeld, held_with}
+use Rattle.ash_states.specs.Restoring.{HasTree, ReadsModules, RestoresState}
+use Rattle.ash_states.proofs.Lists.{all_more, all_unmap}
+use Rattle.ash_states.proofs.Names.{ascend_of, code_ascend}
+use Rattle.ash_states.proofs.Formed.{formed}
+
+-- states of which all is the same are one
+pub state_same : (a b : State) → a.modules ≡ b.modules → a.objects ≡ b.objects → a.services ≡ b.services → a.last ≡ b.last → a.seq ≡ b.seq → a ≡ b
+state_same a b modules objects services last seq =
+    ap (λ (x : List LoadedModule). let t : State = record { modules = x; objects = a.objects; services = a.services; last = a.last; seq = a.seq } in t) modules
+    ∙ ap (λ (x : Objects (List ℕ)). let t : State = record { modules = b.modules; objects = x; services = a.services; last = a.last; seq = a.seq } in t) objects
+    ∙ ap (λ (x : List (List ℕ)). let t : State = record { modules = b.modules; objects = b.objects; services = x; last = a.last; seq = a.seq } in t) services
+    ∙ ap (λ (x : ℕ). let t : State = record { modules = b.modules; objects = b.objects; services = b.services; last = x; seq = a.seq } in t) last
+    ∙ ap (λ (x : ℕ). let t : State = record { modules = b.modules; objects = b.objects; services = b.services; last = b.last; seq = x } in t) seq
+
+module _ (registered : List Registration) (snapshot : Snapshot) where
+  abbrev embedding : Embedding SourceFault
+  embedding = embedding_for registered
+
+  abbrev Typed : List LoadedModule → Objects (List ℕ) → Type 0
+  Typed ms objects = AllByRecursion (IsLoaded embedding objects) ms × AreObjects (known_of embedding ms) objects × AreOffered (offered_to registered) objects
+
+  -- a state that is no host's
+
+  admitted_at : (s : HostState) → s.registered ≡ registered → state_of snapshot ≡ s.state → IsAdmitted s → IsAdmitted (record { registered = registered; state = state_of snapshot })
+  admitted_at s at is h =
+      subst (λ (r : List Registration). IsAdmitted (record { registered = r; state = state_of snapshot })) at
+      (subst (λ (t : State). IsAdmitted (record { registered = s.registered; state = t })) (sym is) h)
+
+  has_tree : (objects : Objects (List ℕ)) (m : Loaded) → IsLoaded embedding objects (loaded_of m) → HasTree embedding m
+  has_tree objects m l = (l.tree, l.is)
+
+  -- a source has no typed tree
+  pub unread : ReadsModules embedding snapshot.modules None → IsRefused registered snapshot
+  unread not s at is none h =
+      let there = admitted_at s at is h in
+      not (all_more (λ (m : Loaded). IsLoaded embedding (state_of snapshot).objects (loaded_of m)) (HasTree embedding) (has_tree (state_of snapshot).objects) snapshot.modules
+      (all_unmap loaded_of (IsLoaded embedding (state_of snapshot).objects) snapshot.modules ((there.formed).loaded)))
+
+  -- something that is stored is not of its type
+  pub mistyped : (Typed (state_of snapshot).modules (state_of snapshot).objects → ⊥) → IsRefused registered snapshot
+  mistyped not s at is none h =
+      let there = admitted_at s at is h in
+      not ((there.formed).loaded, ((there.formed).living, (there.formed).offered))
+
+  -- a state that is one of a host's
+
+  pub restored : IsShaped snapshot → snapshot.services ≡ [] → (s : PlainState) → (state_seen s).services ≡ [] → ReadsModules embedding snapshot.modules (Some s.modules.items) → s.objects ≡ (state_of snapshot).objects → s.last ≡ snapshot.last → s.seq ≡ snapshot.seq → Typed (state_of snapshot).modules (state_of snapshot).objects → RestoresState registered snapshot (Some s)
+  restored (version, fits, keeps) none s empty read objects last seq typed =
+      (same, (none, record { admitted = admitted; consistent = consistent }))
+    where
+      no_services : (state_of snapshot).services ≡ []
+      no_services = ap (map (λ (service : ℕ × List ℕ). service.1)) none
+
+      same : state_seen s ≡ state_of snapshot
+      same = state_same (state_seen s) (state_of snapshot) read.0 objects (empty ∙ sym no_services) last seq
+
+      well : IsAdmitted (record { registered = registered; state = state_of snapshot })
+      well = record {
+        formed = formed embedding (offered_to registered) version snapshot fits keeps none typed.0 (typed.1).0 (typed.1).1;
+        no_services = no_services;
+      }
+
+      admitted : IsAdmitted (held_with registered s)
+      admitted = subst (λ (t : State). IsAdmitted (record { registered = registered; state = t })) (sym same) well
+
+      consistent : AreConsistent embedding s.modules.items
+      consistent = record {
+        ascending = subst (λ (ms : List LoadedModule). code.Ascend ms) (sym read.0) (code_ascend (loaded_modules_of snapshot.modules) (ascend_of snapshot.modules (fits.modules).order));
+        read = read.1;
+      }

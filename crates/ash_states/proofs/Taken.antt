@@ -1,0 +1,86 @@
+-- The step that the code takes is one that a host takes.
+use Rattle.std.proofs.Common.{◌≡◌, ◌⊎◌, ℕ, List, [], Option, Some, None, Result, Ok, Err, option_map, refl, sym, ap, ◌∙◌, subst, inl, inr}
+use Rattle.std.specs.Prelude.{IfOk}
+use Rattle.ash_registry.specs.Registrations.{Registration}
+use Rattle.ash_steps.specs.States.{State, Hosts}
+use Rattle.ash_steps.specs.States as states
+use Rattle.ash_steps.specs.Requests.{Request, NoMemory, Reply, Refused}
+use Rattle.ash_steps.specs.Tasks.{Task, Initialize, Invoke, Remove, Read, Show, Count, Rewrite, TaskResult}
+use Rattle.ash_steps.specs.Tasks as tasks
+use Rattle.ash_steps.specs.Steps.{Step, TakesMemory, replied, unless_refused}
+use Rattle.ash_steps.specs.Steps as steps
+use Rattle.ash_plain_steps.specs.declared.request.Step as code_step
+use Rattle.ash_plain_steps.specs.declared.request.StepError.{StepError}
+use Rattle.ash_plain_steps.specs.declared.request.StepError.TheVariants as errors
+use Rattle.ash_plain_steps.specs.declared.state.LoadedModule as code_module
+use Rattle.ash_plain_steps.specs.declared.state.PlainState.{PlainState}
+use Rattle.ash_plain_steps.specs.StateViews.{state_seen}
+use Rattle.ash_plain_steps.specs.RequestViews.{reply_seen, step_seen}
+use Rattle.ash_plain_steps.specs.Consistency.{AreConsistent}
+use Rattle.ash_plain_steps.specs.TaskViews.{TakesMemoryToFind}
+use Rattle.ash_plain_steps.specs.StepViews.{IsChange, IsStep}
+use Rattle.ash_meaning.specs.declared.fault.SourceFault as code_fault
+use Rattle.ash_meaning.specs.SourceFaults.{SourceFault, fault_of}
+use Rattle.ash_meaning.specs.SourceFaults as faults
+use Rattle.ash_states.specs.States.{HostState, IsAdmitted, empty, embedding_for}
+use Rattle.ash_states.specs.Steps.{no_hosts, task_of, outcome_of, step, RanOut, Steps, Handled}
+use Rattle.ash_states.specs.Holding.{held_with, IsHeld, IsStepOf}
+use Rattle.ash_states.proofs.Admitted.{empty_admitted, step_admitted}
+
+-- there is no step only where a task changes the state
+no_step_changes : {F : Type 0} (budget : ℕ) (result : TaskResult F) (state : State) (hosts : Hosts) → unless_refused budget result state hosts ≡ None → IsChange result
+no_step_changes budget (Ok (Initialize name source tree)) state hosts e = tt
+no_step_changes budget (Ok (Invoke m tree function args)) state hosts e = tt
+no_step_changes budget (Ok (Remove name)) state hosts e = tt
+no_step_changes budget (Ok (Read word)) state hosts e = absurd (cc)
+no_step_changes budget (Ok (Show shown)) state hosts e = absurd (cc)
+no_step_changes budget (Ok Count) state hosts e = absurd (cc)
+no_step_changes budget (Ok Rewrite) state hosts e = absurd (cc)
+no_step_changes budget (Err refusal) state hosts e = absurd (cc)
+
+module _ (registered : List Registration) (budget : ℕ) (request : Request) (old : PlainState) (held : IsHeld registered old) where
+  abbrev CodeStep : Type 0
+  CodeStep = code_step.Step code_fault.SourceFault
+
+  taken : (one : CodeStep) → IsStep fault_of faults.TakesMemoryToFind (embedding_for registered) budget request (state_seen old) no_hosts (Ok one) → Steps budget request (held_with registered old) (reply_seen fault_of one.reply) (held_with registered one.state)
+  taken one (inl e) = inl (ap (option_map (outcome_of registered)) e)
+  taken one (inr (takes, finds, same)) = inr (record {
+    takes = takes;
+    finds = finds;
+    reply_is = ap (λ (s : Step SourceFault). s.reply) same;
+    unchanged = ap (λ (s : Step SourceFault). let h : HostState = record { registered = registered; state = s.state } in h) same;
+  })
+
+  left : (one : CodeStep) → steps.Steps (embedding_for registered) budget request (state_seen old) no_hosts (step_seen fault_of one) → AreConsistent (embedding_for registered) one.state.modules.items → IsHeld registered one.state
+  left one stepped consistent = record {
+    admitted = step_admitted budget request (held_with registered old) (step_seen fault_of one) held.admitted stepped;
+    consistent = consistent;
+  }
+
+  at_none : (result : Result CodeStep StepError)
+      → IsStep fault_of faults.TakesMemoryToFind (embedding_for registered) budget request (state_seen old) no_hosts result
+      → IfOk result (λ one. steps.Steps (embedding_for registered) budget request (state_seen old) no_hosts (step_seen fault_of one))
+      → IfOk result (λ one. AreConsistent (embedding_for registered) one.state.modules.items)
+      → IsStepOf registered budget request old result
+  at_none (Ok one) is stepped consistent = (taken one is, left one stepped consistent)
+  at_none (Err errors.NoStep) is stepped consistent = no_step_changes budget (tasks.task_of (embedding_for registered) request (state_seen old)) (state_seen old) no_hosts is
+  at_none (Err errors.NoMemory) is stepped consistent = is
+
+  pub step_is : (hosts : Hosts) (result : Result CodeStep StepError)
+      → hosts ≡ no_hosts
+      → IsStep fault_of faults.TakesMemoryToFind (embedding_for registered) budget request (state_seen old) hosts result
+      → IfOk result (λ one. steps.Steps (embedding_for registered) budget request (state_seen old) hosts (step_seen fault_of one))
+      → IfOk result (λ one. AreConsistent (embedding_for registered) one.state.modules.items)
+      → IsStepOf registered budget request old result
+  step_is hosts result none is stepped consistent =
+      at_none result
+      (subst (λ (h : Hosts). IsStep fault_of faults.TakesMemoryToFind (embedding_for registered) budget request (state_seen old) h result) none is)
+      (subst (λ (h : Hosts). IfOk result (λ one. steps.Steps (embedding_for registered) budget request (state_seen old) h (step_seen fault_of one))) none stepped)
+      consistent
+
+-- the state before any request
+pub first_held : (registered : List Registration) (s : PlainState) → state_seen s ≡ states.empty [] → s.modules.items ≡ [] → IsHeld registered s
+first_held registered s is none = record {
+  admitted = subst (λ (t : State). IsAdmitted (record { registered = registered; state = t })) (sym is) (empty_admitted registered);
+  consistent = subst (λ (ms : List code_module.LoadedModule). AreConsistent (embedding_for registered) ms) (sym none) (record { ascending = tt; read = tt });
+}
