@@ -83,7 +83,7 @@ element_fits ms Ints h k = tt
 element_fits ms Uints h k = tt
 element_fits ms Int64s h k = tt
 element_fits ms Uint64s h k = tt
-element_fits ms (Handles owner place) h k = (h.index, h.place)
+element_fits ms (Handles owner place) h k = (h.index_fits, h.place_fits)
 element_fits ms (Hosts kind) h k = k
 
 has_two : (o : Plain ℕ) → has_version Two o ≡ true
@@ -101,8 +101,8 @@ module _ {Fault : Type 0} (embedding : Embedding Fault) (host : signatures.Host)
       let few : length (script.source).fields ≤ 32 = few_fields name.sound script.class script.source script.at in
       let many : length fields ≡ length (map type_declared (script.source).fields) = values_length script.values in
       record {
-        owner_fits = indexed.index;
-        class_fits = indexed.place;
+        owner_fits = indexed.index_fits;
+        class_fits = indexed.place_fits;
         few = omega (arith, length-map (script.source).fields type_declared);
         words = values_fit small script.values;
       }

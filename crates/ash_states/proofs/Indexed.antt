@@ -110,7 +110,7 @@ module _ {Fault : Type 0} (embedding : Embedding Fault) (host : signatures.Host)
       record { within = at.0; named = at.1; sound = reads m.source tree (tree_read (embedding.read m.source) tree read) }
 
   is_indexed : {owner : List ℕ} {tree : Module} (place : ℕ) → IsIndexedName host s.modules owner tree → place < 2 ^ 16 → IsIndexed s.modules owner place
-  is_indexed place name lt = record { index = omega (arith, name.within, h.few_modules); place = lt }
+  is_indexed place name lt = record { index_fits = omega (arith, name.within, h.few_modules); place_fits = lt }
 
   script_placeable : (all : Objects (List ℕ)) (owner : List ℕ) (place : ℕ) (fields : List Word) → IsScript (known_of embedding s.modules) all owner place fields → IsPlaceable s.modules (Script owner place fields)
   script_placeable all owner place fields script =

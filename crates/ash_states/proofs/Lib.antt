@@ -12,3 +12,4 @@ pub mod Admitted
 pub mod Depicted
 pub mod OneImage
 pub mod Taken
+pub mod Placed

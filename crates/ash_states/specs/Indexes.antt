@@ -55,8 +55,8 @@ snapshot_for s = record {
 
 -- the index of a module in one byte, and the place of a class in two
 pub record IsIndexed (ms : List LoadedModule) (owner : List ℕ) (place : ℕ) : Type 0 where
-  pub index : index_in ms owner < 2 ^ 8
-  pub place : place < 2 ^ 16
+  pub index_fits : index_in ms owner < 2 ^ 8
+  pub place_fits : place < 2 ^ 16
 
 abbrev pub IsElementIndexed : List LoadedModule → Element (List ℕ) → Type 0
 IsElementIndexed ms (Handles owner place) = IsIndexed ms owner place

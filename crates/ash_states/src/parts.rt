@@ -1,9 +1,10 @@
 //! The parts of a state that is written, with the indexes of modules in place of their names.
 
 ghost use Rattle.std.specs.Prelude.{◌≡◌, map, IfOk};
-ghost use Rattle.std.specs.List.{AllByRecursion};
+ghost use Rattle.std.specs.List.{position, AllByRecursion};
+ghost use Rattle.ash_steps.specs.States.{has_name};
 ghost use Rattle.ash_plain_data.specs.ObjectViews.{element_seen, object_seen};
-ghost use Rattle.ash_plain_steps.specs.StateViews.{modules_seen};
+ghost use Rattle.ash_plain_steps.specs.StateViews.{loaded_seen, modules_seen};
 ghost use Rattle.ash_state_image.specs.ObjectViews.{element_of, plain_in};
 ghost use Rattle.ash_state_image.specs.Views.{modules_in, objects_in};
 ghost use Rattle.ash_states.specs.Indexes.{index_in, element_indexed, plain_indexed, entry_indexed, stored_modules_of};
@@ -16,14 +17,19 @@ use ash_state_image::parts::{ArrayParts, BodyParts, HostParts, ModuleParts, Obje
 use ash_state_image::stored::ElementType;
 use std::alloc::{AllocError, Global};
 
+/// The place of the module of a name.
+fn place_of(modules: &[LoadedModule], name: &str) -> Option<usize>
+    ensures { result ≡ position (λ m. has_name name.now (loaded_seen m)) modules.now }
+{
+    modules.iter().position(|m| m.name.as_str() == name)
+}
+
 /// The index of the module of a name.
+#[tactic(auto, using(crate::proofs::Placed::index_is))]
 fn index_of(modules: &[LoadedModule], name: &str) -> usize
     ensures { result ≡ index_in (modules_seen modules.now) name.now }
 {
-    modules
-        .iter()
-        .position(|m| m.name.as_str() == name)
-        .unwrap_or(0)
+    place_of(modules, name).unwrap_or(0)
 }
 
 /// What the elements of an array are.
@@ -87,7 +93,7 @@ pub(crate) fn object_parts<'a>(
     ensures kinds { IfOk result (λ parts. HaveKinds (objects_in parts.items)) }
 {
     let mut parts = Vec::with_capacity(alloc, objects.len())?;
-    for (number, object) in objects.entries() {
+    for (number, object) in objects.iter() {
         let body = body_parts(modules, object);
         parts.push(ObjectParts {
             number: *number,
