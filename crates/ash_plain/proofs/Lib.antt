@@ -1,3 +1,4 @@
 pub mod Entries
 pub mod Sweeps
 pub mod Pools
+pub mod Counts

@@ -4,8 +4,9 @@
 //! its contract names: for each activity it comes to the value and the activity that the definition gives, or ends as
 //! it says. Where memory runs out it answers `NoMemory`, and of the activity nothing is said then.
 //!
-//! In reading order: `objects` (those that live, and the sweep), `activity` (what runs); the named steps of activities:
-//! `releases`, `frames`, `object_steps`, `host_steps`, `array_steps`, `locations`, `stores`, `flow`.
+//! In reading order: `objects` (those that live, how many handles there are to each, and the sweep), `activity` (what
+//! runs); the named steps of activities: `releases`, `frames`, `object_steps`, `host_steps`, `array_steps`, `locations`,
+//! `stores`, `flow`.
 #![tactic(auto)]
 
 pub mod activity;

@@ -5,10 +5,11 @@ ghost use Rattle.std.specs.List.{list_any};
 ghost use Rattle.std.specs.Option.{option_map_or};
 ghost use Rattle.ash_host.specs.declared.event.Event.TheVariants.{Dropped};
 ghost use Rattle.ash_host.specs.Objects.{object_at, with_at, handles, fields_of};
+ghost use Rattle.ash_host.specs.Objects.{is_handle_to, handles_to, fields_to};
 ghost use Rattle.ash_host.specs.Reach.{is_among, is_reachable, after_sweep, drops_of_sweep};
 ghost use Rattle.ash_phrases.specs.ObjectSteps.{change_at, with_words};
 ghost use Rattle.ash_phrases.specs.HostSteps.{with_state_in};
-ghost use Rattle.ash_plain_data.specs.ObjectViews.{object_seen};
+ghost use Rattle.ash_plain_data.specs.ObjectViews.{object_seen, entry_seen};
 ghost use Rattle.ash_plain.specs.Sweeping.{with_found, gone};
 
 use ash_host::{Event, Word};
@@ -45,6 +46,41 @@ pub(crate) fn push_handles(words: &[Word], numbers: &mut Vec<u64>) -> Result<(),
         }
     }
     Ok(())
+}
+
+/// Whether a word is a handle to an object.
+fn is_handle_to(number: u64, word: Word) -> bool
+    ensures { result ≡ is_handle_to number word }
+{
+    match word {
+        Word::Object(other) => number == other,
+        _ => false,
+    }
+}
+
+/// How many of these words are handles to an object.
+pub fn handles_to(number: u64, words: &[Word]) -> usize
+    ensures counted { result ≡ handles_to number words.now }
+{
+    words
+        .iter()
+        .filter(|word| is_handle_to(number, **word))
+        .count()
+}
+
+/// How many fields and elements are handles to an object.
+#[tactic(auto, using(crate::proofs::Counts::more_fields))]
+fn fields_to(entries: &BTreeMap<u64, Object>, number: u64) -> Result<usize, AllocError>
+    ensures { IfOk result (λ count. count ≡ fields_to number (map entry_seen entries.now.entries)) }
+{
+    let mut count: usize = 0;
+    for (_, object) in entries {
+        // No memory holds so many words that the count is too great.
+        count = count
+            .checked_add(handles_to(number, object.words()))
+            .ok_or(AllocError)?;
+    }
+    Ok(count)
 }
 
 /// Whether a number is among these.
@@ -119,6 +155,13 @@ impl Objects {
             Some(object) => object.words(),
             None => &[],
         }
+    }
+
+    /// How many fields and elements are handles to an object. An `Err` means that they are too many to count.
+    pub fn fields_to(&self, number: u64) -> Result<usize, AllocError>
+        ensures counted { IfOk result (λ count. count ≡ fields_to number self.now) }
+    {
+        fields_to(&self.entries, number)
     }
 
     /// Gives an object other words, where one lives by the number.
