@@ -14,14 +14,13 @@ use Rattle.ash_typed.specs.Modules.{Class, Module}
 use Rattle.ash_typed.specs.Signatures as signatures
 use Rattle.ash_typed.specs.Signatures.{type_declared}
 use Rattle.ash_phrases.specs.Classes.{Program}
-use Rattle.ash_wellformed.proofs.Values.{none_in}
 use Rattle.ash_wellformed.specs.WellFormed as formed
 use Rattle.ash_wellformed.specs.WellFormed.{Shape, OfKind, shape_of, shape_at, AreValues, IsScript, IsObject, AreObjects, IsOffered, AreOffered}
 use Rattle.ash_admission.specs.Places.{class_at}
 use Rattle.ash_admission.specs.Values.{are_values}
 use Rattle.ash_admission.specs.Contents.{program_of_name, known_in, is_script, are_elements, is_object, are_objects}
 use Rattle.ash_admission.specs.Admission.{OffersNothing}
-use Rattle.ash_admission.proofs.Tests.{le_says, le_yes}
+use Rattle.ash_admission.proofs.Tests.{le_says, le_yes, none_in}
 use Rattle.ash_admission.proofs.PlaceLaws.{class_there, class_found}
 use Rattle.ash_admission.proofs.ValueLaws.{values_say, values_yes}
 use Rattle.ash_admission.proofs.ElementLaws.{has_the_name, known_is, array_says, array_yes}
@@ -81,14 +80,13 @@ module _ (ps : List Program) (all : Objects (List ℕ)) where
 
 found_from : (P : Plain (List ℕ) → Bool) (number : ℕ) (entries : Objects (List ℕ)) (o : Plain (List ℕ)) → list_all (λ (e : ℕ × Plain (List ℕ)). P e.1) entries ≡ true → object_at number entries ≡ Some o → P o ≡ true
 found_from P number [] o h e = absurd (cc)
-found_from P number (x ∷ entries) o h e = by (nat_eq number x.0) e
+found_from P number (x ∷ entries) o h e =
+    let both = and_both (P x.1) (list_all (λ (e : ℕ × Plain (List ℕ)). P e.1) entries) h in
+    by (nat_eq number x.0) both.0 e (found_from P number entries o both.1)
   where
-    both : (P x.1 ≡ true) × (list_all (λ (e : ℕ × Plain (List ℕ)). P e.1) entries ≡ true)
-    both = and_both (P x.1) (list_all (λ (e : ℕ × Plain (List ℕ)). P e.1) entries) h
-
-    by : (b : Bool) → (if b then Some x.1 else object_at number entries) ≡ Some o → P o ≡ true
-    by true e = subst (λ (y : Plain (List ℕ)). P y ≡ true) (same_Some x.1 o e) both.0
-    by false e = found_from P number entries o both.1 e
+    by : (b : Bool) → P x.1 ≡ true → (if b then Some x.1 else object_at number entries) ≡ Some o → (object_at number entries ≡ Some o → P o ≡ true) → P o ≡ true
+    by true first e later = subst (λ (y : Plain (List ℕ)). P y ≡ true) (same_Some x.1 o e) first
+    by false first e later = later e
 
 some_object : (o : Option (Plain (List ℕ))) (x : Plain (List ℕ)) → o ≡ Some x → IsSome o
 some_object o x e = ap is_some e

@@ -112,7 +112,7 @@ module _ (all : Objects (List ℕ)) (place : ℕ) (ws : List Word) where
 
   -- the elements that handles are
 
-  record AreHandles (p : Program) : Type 0 where
+  pub record AreHandles (p : Program) : Type 0 where
     pub element : typed_element.Element
     pub known : (ps : List Program) → known_in ps p.name ≡ Some p.tree → IsKnownFor (known_in ps) p element
     pub named : IsNamed p.tree element

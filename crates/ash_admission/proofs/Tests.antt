@@ -1,6 +1,6 @@
 -- Tests of numbers and lists, and what they say.
 use Rattle.std.proofs.Common.{◌≡◌, ◌<◌, ◌≤◌, ◌+◌, ℕ, zero, suc, Bool, true, false, List, [], ◌∷◌, length, refl, ap, ◌∙◌, nat_lt, nat_le, arith}
-use Rattle.std.specs.Prelude.{Option, Some, None, slice_get, is_some, ◌&&◌}
+use Rattle.std.specs.Prelude.{Option, Some, None, Contains, slice_get, is_some}
 use Rattle.std.proofs.lemmas.Bool.Decides.{nat_tests}
 use Rattle.ash_host.proofs.Membership.{and_both, both_and}
 use Rattle.ash_host.proofs.RecordLaws.{bytes_decide}
@@ -37,3 +37,6 @@ within_some (x ∷ xs) (suc i) h = within_some xs i (omega arith)
 
 pub got_within : {A : Type 0} (xs : List A) (i : ℕ) (x : A) → slice_get xs i ≡ Some x → i < length xs
 got_within xs i x e = some_within xs i (ap is_some e)
+
+pub none_in : {A : Type 0} (x : A) → Contains [] x → ⊥
+none_in x c = let h : c.0 < 0 = c.1 in omega arith

@@ -64,8 +64,8 @@ module _ (all : Objects (List ℕ)) (fits : Shape → Bool) (Fits : Shape → Ty
   reference_says says _ h = absurd (cc)
 
   pub reference_yes : ((s : Shape) → Fits s → fits s ≡ true) → {w : Word} → IsReference all Fits w → is_reference all fits w ≡ true
-  reference_yes yes formed.to_nothing = refl
-  reference_yes yes (formed.to_object {number} {shape} at f) = ap (λ (o : Option Shape). option_map_or fits o false) at ∙ yes shape f
+  reference_yes passes formed.to_nothing = refl
+  reference_yes passes (formed.to_object {number} {shape} at f) = ap (λ (o : Option Shape). option_map_or fits o false) at ∙ passes shape f
 
 module _ (p : Program) (all : Objects (List ℕ)) where
   -- a value
@@ -92,11 +92,11 @@ module _ (p : Program) (all : Objects (List ℕ)) where
   values_say [] [] h = formed.no_values
   values_say [] (w ∷ ws) h = absurd (cc)
   values_say (of ∷ types) [] h = absurd (cc)
-  values_say (of ∷ types) (w ∷ ws) h = by (is_value p all of w) refl h
+  values_say (of ∷ types) (w ∷ ws) h = by (is_value p all of w) refl h (values_say types ws)
     where
-      by : (b : Bool) → is_value p all of w ≡ b → is_end (option_and_then (after_values p all types) (if b then Some ws else None)) ≡ true → AreValues p all (of ∷ types) (w ∷ ws)
-      by true v h = formed.and_value (value_says of w v) (values_say types ws h)
-      by false v h = absurd (cc)
+      by : (b : Bool) → is_value p all of w ≡ b → is_end (option_and_then (after_values p all types) (if b then Some ws else None)) ≡ true → (are_values p all types ws ≡ true → AreValues p all types ws) → AreValues p all (of ∷ types) (w ∷ ws)
+      by true v h later = formed.and_value (value_says of w v) (later h)
+      by false v h later = absurd (cc)
 
   pub values_yes : {types : List VarType} {ws : List Word} → AreValues p all types ws → are_values p all types ws ≡ true
   values_yes formed.no_values = refl
@@ -105,11 +105,11 @@ module _ (p : Program) (all : Objects (List ℕ)) where
   -- first these, then others
   pub after_both : (types more : List VarType) (ws : List Word) → after_values p all (types ++ more) ws ≡ option_and_then (after_values p all more) (after_values p all types ws)
   after_both [] more ws = refl
-  after_both (of ∷ types) more ws = by (after_value p all of ws)
+  after_both (of ∷ types) more ws = by (after_value p all of ws) (after_both types more)
     where
-      by : (o : Option (List Word)) → option_and_then (after_values p all (types ++ more)) o ≡ option_and_then (after_values p all more) (option_and_then (after_values p all types) o)
-      by None = refl
-      by (Some rest) = after_both types more rest
+      by : (o : Option (List Word)) → ((rest : List Word) → after_values p all (types ++ more) rest ≡ option_and_then (after_values p all more) (after_values p all types rest)) → option_and_then (after_values p all (types ++ more)) o ≡ option_and_then (after_values p all more) (option_and_then (after_values p all types) o)
+      by None later = refl
+      by (Some rest) later = later rest
 
   -- values of one type
 
@@ -121,5 +121,5 @@ module _ (p : Program) (all : Objects (List ℕ)) where
         formed.and_is (says w both.0) (all_say says ws both.1)
 
     pub all_yes : ((w : Word) → IsValue p all of w → test w ≡ true) → {ws : List Word} → AllAre p all of ws → list_all test ws ≡ true
-    all_yes yes formed.none_are = refl
-    all_yes yes (formed.and_is {word} {ws} v vs) = both_and (test word) (list_all test ws) (yes word v) (all_yes yes vs)
+    all_yes passes formed.none_are = refl
+    all_yes passes (formed.and_is {word} {ws} v vs) = both_and (test word) (list_all test ws) (passes word v) (all_yes passes vs)

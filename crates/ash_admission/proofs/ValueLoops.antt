@@ -1,7 +1,8 @@
 -- What is left of the words after one more variable, and after one more declaration.
-use Rattle.std.proofs.Common.{◌≡◌, ◌<◌, ◌≤◌, ◌+◌, ℕ, Bool, true, false, List, [], ◌∷◌, ◌++◌, length, drop, get_or, map, refl, sym, ap, ◌∙◌}
+use Rattle.std.proofs.Common.{◌≡◌, ◌<◌, ◌≤◌, ◌+◌, ℕ, Bool, true, false, List, [], ◌∷◌, ◌++◌, length, drop, get_or, map, refl, sym, ap, ◌∙◌, ◌==◌, arith}
 use Rattle.std.specs.Prelude.{Option, Some, None}
 use Rattle.std.specs.Option.{option_and_then}
+use Rattle.std.proofs.lemmas.Bool.Decides.{nat_tests}
 use Rattle.ash_host.specs.declared.word.Word.{Word}
 use Rattle.ash_host.specs.Objects.{Objects}
 use Rattle.ash_typed.specs.declared.tree.statements.Initialization as initialization
@@ -44,3 +45,8 @@ module _ (p : Program) (all : Objects (List ℕ)) where
 
   pub declarations_end : (ds : List variables.Variables) (i : ℕ) (rest : List Word) (whole : Bool) → length ds ≤ i → are_values p all (types_of_globals (map variables_of (drop i ds))) rest ≡ whole → is_end (Some rest) ≡ whole
   declarations_end ds i rest whole over inv = ap (λ (l : List variables.Variables). are l rest) (sym (past ds i over)) ∙ inv
+
+-- the test for what is left
+pub none_left : (ws : List Word) (b : Bool) → b ≡ (length ws == 0) → b ≡ is_end (Some ws)
+none_left [] b e = e
+none_left (w ∷ ws) b e = let some : (length (w ∷ ws) == 0) ≡ false = grind (arith, nat_tests) in e ∙ some

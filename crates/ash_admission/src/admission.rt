@@ -21,8 +21,8 @@ use ash_plain_steps::state::LoadedModule;
 fn are_loaded(modules: &[LoadedModule], objects: &Objects) -> bool
     ensures { result ≡ list_all (is_loaded objects.now) modules.now }
 {
-    for module in modules {
-        if !is_loaded(module, objects) {
+    for loaded in modules {
+        if !is_loaded(loaded, objects) {
             return false;
         }
     }

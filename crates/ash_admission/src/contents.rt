@@ -20,20 +20,20 @@ fn module_of_name<'a>(modules: &'a [LoadedModule], name: &str) -> Option<&'a Loa
     ensures { option_map (λ m. program_of m.now) result
         ≡ program_of_name name.now (map program_of modules.now) }
 {
-    for module in modules {
-        if module.name.as_str() == name {
-            return Some(module);
+    for loaded in modules {
+        if loaded.name.as_str() == name {
+            return Some(loaded);
         }
     }
     None
 }
 
 /// Whether words are the fields of an object of the class at a place of the module's source.
-fn is_script(module: &LoadedModule, objects: &Objects, place: usize, fields: &[Word]) -> bool
-    ensures { result ≡ is_script objects.now place fields.now (program_of module.now) }
+fn is_script(loaded: &LoadedModule, objects: &Objects, place: usize, fields: &[Word]) -> bool
+    ensures { result ≡ is_script objects.now place fields.now (program_of loaded.now) }
 {
-    match class_at(&module.tree, place) {
-        Some(class) => are_values(module, objects, &class.fields, fields),
+    match class_at(&loaded.tree, place) {
+        Some(class) => are_values(loaded, objects, &class.fields, fields),
         None => false,
     }
 }
@@ -55,7 +55,7 @@ fn are_elements(
         Element::Int64s => are_integers(IntType::Int64, words),
         Element::Uint64s => are_integers(IntType::Uint64, words),
         Element::Handles { owner, place } => match module_of_name(modules, owner.as_str()) {
-            Some(module) => are_handles(module, objects, *place, words),
+            Some(loaded) => are_handles(loaded, objects, *place, words),
             None => false,
         },
         Element::Hosts(kind) => are_of_kind(objects, *kind, words),
@@ -73,7 +73,7 @@ fn is_object(modules: &[LoadedModule], objects: &Objects, object: &Object) -> bo
             place,
             fields,
         } => match module_of_name(modules, owner.as_str()) {
-            Some(module) => is_script(module, objects, *place, fields),
+            Some(loaded) => is_script(loaded, objects, *place, fields),
             None => false,
         },
         Object::Array { of, elements } => {

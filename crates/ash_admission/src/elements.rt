@@ -66,7 +66,7 @@ pub(crate) fn are_of_kind(objects: &Objects, kind: u16, words: &[Word]) -> bool
     true
 }
 
-/// Whether a word is null, or a handle of a living object of the class at a place of the source of a module of this name.
+/// Whether a word is null, or a handle of a living object of the class at a place of a module's source.
 fn is_reference_of_place(objects: &Objects, name: &str, place: usize, word: Word) -> bool
     ensures { result ≡ is_reference objects.now (is_of_place name.now place) word }
 {
@@ -92,25 +92,25 @@ fn are_of_place(objects: &Objects, name: &str, place: usize, words: &[Word]) -> 
 }
 
 /// Whether words are handles of objects of the class at a place of the module's source.
-fn are_of_class(module: &LoadedModule, objects: &Objects, place: usize, words: &[Word]) -> bool
-    ensures { result ≡ are_of_class objects.now place words.now (program_of module.now) }
+fn are_of_class(loaded: &LoadedModule, objects: &Objects, place: usize, words: &[Word]) -> bool
+    ensures { result ≡ are_of_class objects.now place words.now (program_of loaded.now) }
 {
-    class_at(&module.tree, place).is_some()
-        && are_of_place(objects, module.name.as_str(), place, words)
+    class_at(&loaded.tree, place).is_some()
+        && are_of_place(objects, loaded.name.as_str(), place, words)
 }
 
 /// Whether words are handles of objects of a type of the module.
 fn are_references(
-    module: &LoadedModule,
+    loaded: &LoadedModule,
     objects: &Objects,
     of: ObjectType,
     words: &[Word],
 ) -> bool
     ensures { result
-        ≡ list_all (is_reference objects.now (is_of (program_of module.now) of)) words.now }
+        ≡ list_all (is_reference objects.now (is_of (program_of loaded.now) of)) words.now }
 {
     for word in words {
-        if !is_reference(module, objects, of, *word) {
+        if !is_reference(loaded, objects, of, *word) {
             return false;
         }
     }
@@ -119,19 +119,19 @@ fn are_references(
 
 /// Whether words are handles of objects of an interface at a place of the module's source.
 fn are_of_interface(
-    module: &LoadedModule,
+    loaded: &LoadedModule,
     interfaces: &[Interface],
     objects: &Objects,
     place: usize,
     words: &[Word],
 ) -> bool
     ensures { result
-        ≡ any_interface objects.now place words.now (program_of module.now) 0
+        ≡ any_interface objects.now place words.now (program_of loaded.now) 0
         (map interface_of interfaces.now) }
 {
     for (interface, source) in interfaces.iter().enumerate() {
         if is_sum(place, interface, source.classes_before)
-            && are_references(module, objects, ObjectType::Interface(interface), words)
+            && are_references(loaded, objects, ObjectType::Interface(interface), words)
         {
             return true;
         }
@@ -141,13 +141,13 @@ fn are_of_interface(
 
 /// Whether words are handles of objects of the class or of the interface at a place of the module's source.
 pub(crate) fn are_handles(
-    module: &LoadedModule,
+    loaded: &LoadedModule,
     objects: &Objects,
     place: usize,
     words: &[Word],
 ) -> bool
-    ensures { result ≡ are_handles objects.now place words.now (program_of module.now) }
+    ensures { result ≡ are_handles objects.now place words.now (program_of loaded.now) }
 {
-    are_of_class(module, objects, place, words)
-        || are_of_interface(module, &module.tree.interfaces, objects, place, words)
+    are_of_class(loaded, objects, place, words)
+        || are_of_interface(loaded, &loaded.tree.interfaces, objects, place, words)
 }

@@ -36,8 +36,8 @@ pub(crate) fn is_of_kind(kind: u16, object: &Object) -> bool
 }
 
 /// Whether what an array says of its elements is a type of elements of a module.
-fn is_element(module: &LoadedModule, of: TypedElement, element: &Element) -> bool
-    ensures { result ≡ is_element (program_of module.now) of (element_seen element.now) }
+fn is_element(loaded: &LoadedModule, of: TypedElement, element: &Element) -> bool
+    ensures { result ≡ is_element (program_of loaded.now) of (element_seen element.now) }
 {
     match (of, element) {
         (TypedElement::Bool, Element::Bools) => true,
@@ -46,11 +46,11 @@ fn is_element(module: &LoadedModule, of: TypedElement, element: &Element) -> boo
         (TypedElement::Integer(IntType::Int64), Element::Int64s) => true,
         (TypedElement::Integer(IntType::Uint64), Element::Uint64s) => true,
         (TypedElement::Class(class), Element::Handles { owner, place }) => {
-            owner.as_str() == module.name.as_str() && is_class_at(&module.tree, class, *place)
+            owner.as_str() == loaded.name.as_str() && is_class_at(&loaded.tree, class, *place)
         }
         (TypedElement::Interface(interface), Element::Handles { owner, place }) => {
-            owner.as_str() == module.name.as_str()
-                && is_interface_at(&module.tree, interface, *place)
+            owner.as_str() == loaded.name.as_str()
+                && is_interface_at(&loaded.tree, interface, *place)
         }
         (TypedElement::Host(kind), Element::Hosts(other)) => *other == kind,
         _ => false,
@@ -58,19 +58,19 @@ fn is_element(module: &LoadedModule, of: TypedElement, element: &Element) -> boo
 }
 
 /// Whether an object is of a type of a module.
-pub(crate) fn is_of(module: &LoadedModule, of: ObjectType, object: &Object) -> bool
-    ensures { result ≡ is_of (program_of module.now) of (shape_of (object_seen object.now)) }
+pub(crate) fn is_of(loaded: &LoadedModule, of: ObjectType, object: &Object) -> bool
+    ensures { result ≡ is_of (program_of loaded.now) of (shape_of (object_seen object.now)) }
 {
     match (of, object) {
         (ObjectType::Class(class), Object::Script { owner, place, .. }) => {
-            owner.as_str() == module.name.as_str() && is_class_at(&module.tree, class, *place)
+            owner.as_str() == loaded.name.as_str() && is_class_at(&loaded.tree, class, *place)
         }
         (ObjectType::Interface(interface), Object::Script { owner, place, .. }) => {
-            owner.as_str() == module.name.as_str() && implements(&module.tree, interface, *place)
+            owner.as_str() == loaded.name.as_str() && implements(&loaded.tree, interface, *place)
         }
         (ObjectType::Host(kind), Object::Host { kind: other, .. }) => *other == kind,
         (ObjectType::Array(of), Object::Array { of: element, .. }) => {
-            is_element(module, of, element)
+            is_element(loaded, of, element)
         }
         _ => false,
     }

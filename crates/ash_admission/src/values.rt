@@ -37,17 +37,17 @@ pub(crate) fn is_integer(of: IntType, word: Word) -> bool
 
 /// Whether a word is null, or a handle of a living object of a type of a module.
 pub(crate) fn is_reference(
-    module: &LoadedModule,
+    loaded: &LoadedModule,
     objects: &Objects,
     of: ObjectType,
     word: Word,
 ) -> bool
-    ensures { result ≡ is_reference objects.now (is_of (program_of module.now) of) word }
+    ensures { result ≡ is_reference objects.now (is_of (program_of loaded.now) of) word }
 {
     match word {
         Word::Null => true,
         Word::Object(number) => match objects.get(number) {
-            Some(object) => is_of(module, of, object),
+            Some(object) => is_of(loaded, of, object),
             None => false,
         },
         _ => false,
@@ -55,29 +55,29 @@ pub(crate) fn is_reference(
 }
 
 /// Whether a word is a value of a type of a module.
-fn is_value(module: &LoadedModule, objects: &Objects, of: VarType, word: Word) -> bool
-    ensures { result ≡ is_value (program_of module.now) objects.now of word }
+fn is_value(loaded: &LoadedModule, objects: &Objects, of: VarType, word: Word) -> bool
+    ensures { result ≡ is_value (program_of loaded.now) objects.now of word }
 {
     match of {
         VarType::Bool => is_truth(word),
         VarType::Integer(of) => is_integer(of, word),
-        VarType::Object(of) | VarType::Handle(of) => is_reference(module, objects, of, word),
+        VarType::Object(of) | VarType::Handle(of) => is_reference(loaded, objects, of, word),
     }
 }
 
 /// The words after one of a type; none where the first word is of another, or there is none.
 fn after_value<'a>(
-    module: &LoadedModule,
+    loaded: &LoadedModule,
     objects: &Objects,
     of: VarType,
     words: &'a [Word],
 ) -> Option<&'a [Word]>
     ensures { option_map (λ rest. rest.now) result
-        ≡ after_value (program_of module.now) objects.now of words.now }
+        ≡ after_value (program_of loaded.now) objects.now of words.now }
 {
     match words {
         [word, rest @ ..] => {
-            if is_value(module, objects, of, *word) {
+            if is_value(loaded, objects, of, *word) {
                 Some(rest)
             } else {
                 None
@@ -89,18 +89,18 @@ fn after_value<'a>(
 
 /// The words after those of variables; none where the first words are not of their types, or are too few.
 fn after_values<'a>(
-    module: &LoadedModule,
+    loaded: &LoadedModule,
     objects: &Objects,
     variables: &[Initialization],
     words: &'a [Word],
 ) -> Option<&'a [Word]>
     ensures { option_map (λ rest. rest.now) result
-        ≡ after_values (program_of module.now) objects.now
+        ≡ after_values (program_of loaded.now) objects.now
         (map type_declared (map value_of variables.now)) words.now }
 {
     let mut rest = words;
     for variable in variables {
-        match after_value(module, objects, variable.of, rest) {
+        match after_value(loaded, objects, variable.of, rest) {
             Some(more) => rest = more,
             None => return None,
         }
@@ -110,16 +110,16 @@ fn after_values<'a>(
 
 /// Whether words are values of the types of variables.
 pub(crate) fn are_values(
-    module: &LoadedModule,
+    loaded: &LoadedModule,
     objects: &Objects,
     variables: &[Initialization],
     words: &[Word],
 ) -> bool
     ensures { result
-        ≡ are_values (program_of module.now) objects.now
+        ≡ are_values (program_of loaded.now) objects.now
         (map type_declared (map value_of variables.now)) words.now }
 {
-    match after_values(module, objects, variables, words) {
+    match after_values(loaded, objects, variables, words) {
         Some([]) => true,
         _ => false,
     }
@@ -127,18 +127,18 @@ pub(crate) fn are_values(
 
 /// Whether words are values of the types of all that is declared.
 fn are_of_globals(
-    module: &LoadedModule,
+    loaded: &LoadedModule,
     objects: &Objects,
     declarations: &[Variables],
     words: &[Word],
 ) -> bool
     ensures { result
-        ≡ are_values (program_of module.now) objects.now
+        ≡ are_values (program_of loaded.now) objects.now
         (types_of_globals (map variables_of declarations.now)) words.now }
 {
     let mut rest = words;
     for declaration in declarations {
-        match after_values(module, objects, &declaration.initializations, rest) {
+        match after_values(loaded, objects, &declaration.initializations, rest) {
             Some(more) => rest = more,
             None => return false,
         }
@@ -147,8 +147,8 @@ fn are_of_globals(
 }
 
 /// Whether what the globals of a module hold is of their types.
-pub(crate) fn is_loaded(module: &LoadedModule, objects: &Objects) -> bool
-    ensures { result ≡ is_loaded objects.now module.now }
+pub(crate) fn is_loaded(loaded: &LoadedModule, objects: &Objects) -> bool
+    ensures { result ≡ is_loaded objects.now loaded.now }
 {
-    are_of_globals(module, objects, &module.tree.globals, &module.globals)
+    are_of_globals(loaded, objects, &loaded.tree.globals, &loaded.globals)
 }

@@ -3,5 +3,5 @@ use Rattle.std.specs.List.{list_all}
 use Rattle.ash_admission.specs.Admission.{is_loaded}
 use Rattle.ash_admission.proofs.admission.are_loaded.Given as goal
 
-abbrev pub invariant-loop-module : goal.invariant-loop-module
-invariant-loop-module l = list_all (is_loaded l.objects) (drop l.module-index l.modules) ≡ list_all (is_loaded l.objects) l.modules
+abbrev pub invariant-loop-loaded : goal.invariant-loop-loaded
+invariant-loop-loaded l = list_all (is_loaded l.objects) (drop l.loaded-index l.modules) ≡ list_all (is_loaded l.objects) l.modules

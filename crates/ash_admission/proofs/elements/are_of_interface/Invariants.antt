@@ -6,4 +6,4 @@ use Rattle.ash_admission.proofs.elements.are_of_interface.Given as goal
 
 abbrev pub invariant-loop-interface : goal.invariant-loop-interface
 invariant-loop-interface l =
-    any_interface l.objects l.place l.words (program_of l.module) l.interface (map interface_of (drop l.interface l.interfaces)) ≡ any_interface l.objects l.place l.words (program_of l.module) 0 (map interface_of l.interfaces)
+    any_interface l.objects l.place l.words (program_of l.loaded) l.interface (map interface_of (drop l.interface l.interfaces)) ≡ any_interface l.objects l.place l.words (program_of l.loaded) 0 (map interface_of l.interfaces)

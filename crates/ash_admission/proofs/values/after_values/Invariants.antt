@@ -7,4 +7,4 @@ use Rattle.ash_admission.proofs.values.after_values.Given as goal
 
 abbrev pub invariant-loop-variable : goal.invariant-loop-variable
 invariant-loop-variable l =
-    after_values (program_of l.module) l.objects (map type_declared (map value_of (drop l.variable-index l.variables))) l.rest ≡ after_values (program_of l.module) l.objects (map type_declared (map value_of l.variables)) l.fn.words
+    after_values (program_of l.loaded) l.objects (map type_declared (map value_of (drop l.variable-index l.variables))) l.rest ≡ after_values (program_of l.loaded) l.objects (map type_declared (map value_of l.variables)) l.fn.words

@@ -7,4 +7,4 @@ use Rattle.ash_admission.proofs.values.are_of_globals.Given as goal
 
 abbrev pub invariant-loop-declaration : goal.invariant-loop-declaration
 invariant-loop-declaration l =
-    are_values (program_of l.module) l.objects (types_of_globals (map variables_of (drop l.declaration-index l.declarations))) l.rest ≡ are_values (program_of l.module) l.objects (types_of_globals (map variables_of l.declarations)) l.fn.words
+    are_values (program_of l.loaded) l.objects (types_of_globals (map variables_of (drop l.declaration-index l.declarations))) l.rest ≡ are_values (program_of l.loaded) l.objects (types_of_globals (map variables_of l.declarations)) l.fn.words
