@@ -3,6 +3,7 @@ pub mod Requests
 pub mod Tasks
 pub mod Steps
 pub mod Premises
+pub mod SourceViews
 pub mod Laws
 pub mod Examples
 pub mod RunExamples

@@ -6,10 +6,10 @@ use Rattle.ash_phrases.specs.Ends.{End}
 use Rattle.ash_steps.specs.declared.argument.Argument.{Argument}
 
 pub data Request : Type 0 where
-  Load : (name source : List ℕ) → Request
+  Load : (module_name source : List ℕ) → Request
   Call : (module_name function : List ℕ) (arguments : List Argument) → Request
-  Discard : (name : List ℕ) → Request
-  Global : (module_name name : List ℕ) → Request
+  Discard : (module_name : List ℕ) → Request
+  Get : (module_name name : List ℕ) → Request
   Object : (number : ℕ) → Request
   Seq : Request
   Snapshot : Request

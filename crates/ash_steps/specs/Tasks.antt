@@ -19,7 +19,7 @@ use Rattle.ash_phrases.specs.Classes.{places_of_classes, dotted}
 use Rattle.ash_steps.specs.declared.argument.Argument.{Argument}
 use Rattle.ash_steps.specs.declared.argument.Argument.TheVariants as arguments
 use Rattle.ash_steps.specs.States.{LoadedModule, State, Embedding, find_module, globals_of}
-use Rattle.ash_steps.specs.Requests.{Request, Load, Call, Discard, Global, Object, Seq, Snapshot, Refusal, SequenceSpent, BadName, ModuleTaken, TooManyModules, BadSource, NoModule, NoFunction, NotCallable, BadArguments, NoGlobal, NoObject, ObjectContents, Fields, HostState, Elements, Shown}
+use Rattle.ash_steps.specs.Requests.{Request, Load, Call, Discard, Get, Object, Seq, Snapshot, Refusal, SequenceSpent, BadName, ModuleTaken, TooManyModules, BadSource, NoModule, NoFunction, NotCallable, BadArguments, NoGlobal, NoObject, ObjectContents, Fields, HostState, Elements, Shown}
 
 -- names of modules: a letter or `_`, then letters, digits and `_`, at most 64 bytes
 
@@ -190,7 +190,7 @@ module _ {Fault : Type 0} (embedding : Embedding Fault) where
   task_of (Load name source) state = numbered state (loading name source state)
   task_of (Call name function args) state = numbered state (calling name function args state)
   task_of (Discard name) state = numbered state (discarding name state)
-  task_of (Global name global) state = reading name global state
+  task_of (Get name global) state = reading name global state
   task_of (Object number) state = showing number state
   task_of Seq state = Ok Count
   task_of Snapshot state = Ok Rewrite

@@ -13,7 +13,7 @@ ghost use Rattle.ash_phrases.specs.ObjectExamples as phrase_objects;
 ghost use Rattle.ash_phrases.specs.ReleaseExamples.{value_read};
 ghost use Rattle.ash_phrases.specs.PointExamples as points;
 ghost use Rattle.ash_steps.specs.declared.argument.Argument.{Argument};
-ghost use Rattle.ash_steps.specs.Requests.{Load, Call, Discard, Global, Object, Seq, Snapshot};
+ghost use Rattle.ash_steps.specs.Requests.{Load, Call, Discard, Get, Object, Seq, Snapshot};
 ghost use Rattle.ash_steps.specs.Requests.{Answered, Value, ShownAs, Number, Done, Refused};
 ghost use Rattle.ash_steps.specs.Requests.{BadName, BadSource, ModuleTaken, NoModule, NoFunction, NotCallable};
 ghost use Rattle.ash_steps.specs.Requests.{BadArguments, NoGlobal, NoObject, TooManyModules, SequenceSpent};
@@ -27,7 +27,7 @@ ghost use Rattle.ash_steps.specs.ObjectRuns.{class_shown, array_shown, numbers_s
 /// What a few runs over requests reply.
 pub fn worked_runs()
     ensures loaded_and_called { Replies
-        (Load m (4 ∷ []) ∷ Call m (codes "f") (Argument.Number (pos 5) ∷ []) ∷ Global m (codes "n")
+        (Load m (4 ∷ []) ∷ Call m (codes "f") (Argument.Number (pos 5) ∷ []) ∷ Get m (codes "n")
         ∷ Call m (codes "f") [] ∷ Call m (codes "f") (Argument.Number (pos (2 ^ 31)) ∷ []) ∷ Seq
         ∷ []) 0 []
         (Answered (Finished None) 1 [] ∷ Answered (Finished (Some (Word.Int (pos 7)))) 2 []
@@ -37,7 +37,7 @@ pub fn worked_runs()
         (Answered (Finished None) 1 (Drew 1 ∷ []) ∷ ShownAs (counter_shown 1 1 7)
         ∷ Answered (Finished None) 2 (Dropped 1 ∷ []) ∷ Refused NoObject ∷ []) }
     ensures held_by_another_module { Replies
-        (Load m (1 ∷ []) ∷ Load k (2 ∷ []) ∷ Call k (codes "f") [] ∷ Global m (codes "g") ∷ []) 1
+        (Load m (1 ∷ []) ∷ Load k (2 ∷ []) ∷ Call k (codes "f") [] ∷ Get m (codes "g") ∷ []) 1
         (started 1 7 ∷ [])
         (Answered (Finished None) 1 (Drew 1 ∷ []) ∷ Answered (Finished None) 2 []
         ∷ Answered (Finished (Some (Word.Int (pos 21)))) 3 [] ∷ Value (Word.Object 1) ∷ []) }
@@ -80,7 +80,7 @@ pub fn worked_integer_runs()
         (Load m (0 ∷ []) ∷ Call m (codes "p") [] ∷ []) 0 []
         (Answered (Finished None) 1 [] ∷ Answered (Finished (Some (Word.Bool false))) 2 [] ∷ []) }
     ensures effects_stay { RepliesOf (integers.failing_late ∷ [])
-        (Load m (0 ∷ []) ∷ Call m f (Argument.Number (pos 0) ∷ []) ∷ Global m (codes "n")
+        (Load m (0 ∷ []) ∷ Call m f (Argument.Number (pos 0) ∷ []) ∷ Get m (codes "n")
         ∷ Call m (codes "t") [] ∷ [])
         0 (tallied_by 4 0 4 ∷ totalled 4 ∷ [])
         (Answered (Finished None) 1 []
@@ -101,7 +101,7 @@ pub fn worked_integer_runs()
         ∷ Call m f (Argument.Number (pos 1) ∷ Argument.Number (pos 2) ∷ [])
         ∷ Call m f (Argument.Number (pos (2 ^ 31)) ∷ []) ∷ Call (codes "z") f []
         ∷ Discard (codes "z")
-        ∷ Global m (codes "q") ∷ Object 9 ∷ Load m (0 ∷ []) ∷ Load (codes "9x") (0 ∷ []) ∷ Seq
+        ∷ Get m (codes "q") ∷ Object 9 ∷ Load m (0 ∷ []) ∷ Load (codes "9x") (0 ∷ []) ∷ Seq
         ∷ Snapshot ∷ []) 0 []
         (Answered (Finished None) 1 [] ∷ Refused NoFunction ∷ Refused BadArguments
         ∷ Refused BadArguments
@@ -113,7 +113,7 @@ pub fn worked_integer_runs()
 /// What small modules reply that compute in the greatest number, in several integer types, and by shifts.
 pub fn worked_number_runs()
     ensures greatest_number { RepliesOf (integers.greatest ∷ [])
-        (Load m (0 ∷ []) ∷ Global m (codes "x") ∷ []) 0 []
+        (Load m (0 ∷ []) ∷ Get m (codes "x") ∷ []) 0 []
         (Answered (Finished None) 1 [] ∷ Value (Word.Uint64 (2 ^ 64 - 1)) ∷ []) }
     ensures signs_that_meet { RepliesOf (integers.signs ∷ [])
         (Load m (0 ∷ []) ∷ Call m f [] ∷ Call m (codes "g") [] ∷ Call m (codes "h") [] ∷ []) 0 []
@@ -149,7 +149,7 @@ pub fn worked_object_runs()
         (Answered (Finished None) 1 [] ∷ Answered (Finished None) 2 (Drew 1 ∷ Dropped 1 ∷ [])
         ∷ Answered (Threw Exception.PoolEmpty f 1) 3 [] ∷ []) }
     ensures through_null { RepliesOf (phrases.through_null.tree ∷ [])
-        (Load m (0 ∷ []) ∷ Call m f [] ∷ Global m (codes "g") ∷ []) 0 []
+        (Load m (0 ∷ []) ∷ Call m f [] ∷ Get m (codes "g") ∷ []) 0 []
         (Answered (Finished None) 1 [] ∷ Answered (Threw Exception.NullPointerAccess f 1) 2 []
         ∷ Value Word.Null ∷ []) }
     ensures shown_with_snapshot { RepliesOf (with_counter ∷ [])
@@ -157,7 +157,7 @@ pub fn worked_object_runs()
         (Answered (Finished None) 1 (Drew 1 ∷ []) ∷ ShownAs (counter_shown 1 1 7) ∷ Done
         ∷ ShownAs (counter_shown 1 1 7) ∷ Answered (Finished None) 2 (Dropped 1 ∷ []) ∷ []) }
     ensures counts { RepliesOf (phrase_objects.constructed.tree ∷ [])
-        (Load m (0 ∷ []) ∷ Call m f [] ∷ Global m (codes "g") ∷ Object 1 ∷ Object 2 ∷ []) 0 []
+        (Load m (0 ∷ []) ∷ Call m f [] ∷ Get m (codes "g") ∷ Object 1 ∷ Object 2 ∷ []) 0 []
         (Answered (Finished None) 1 [] ∷ Answered (Finished (Some (Word.Int (pos 7)))) 2 []
         ∷ Value (Word.Object 1)
         ∷ ShownAs (class_shown 1 (codes "m.P") 1
@@ -166,8 +166,8 @@ pub fn worked_object_runs()
         ∷ ShownAs (class_shown 2 (codes "m.Q") 2 ((codes "w", Word.Int (pos 1)) ∷ [])) ∷ []) }
     ensures two_modules { RepliesOf (adding ∷ [])
         (Load m (0 ∷ []) ∷ Load k (0 ∷ []) ∷ Call m f (Argument.Number (pos 5) ∷ [])
-        ∷ Global k (codes "n")
-        ∷ Discard m ∷ Global m (codes "n") ∷ []) 0 []
+        ∷ Get k (codes "n")
+        ∷ Discard m ∷ Get m (codes "n") ∷ []) 0 []
         (Answered (Finished None) 1 [] ∷ Answered (Finished None) 2 []
         ∷ Answered (Finished (Some (Word.Int (pos 7)))) 3 [] ∷ Value (Word.Int (pos 2))
         ∷ Answered (Finished None) 4 [] ∷ Refused NoModule ∷ []) }
@@ -222,7 +222,7 @@ pub fn worked_limit_runs()
         (Refused TooManyModules ∷ Refused ModuleTaken ∷ Answered (Finished None) 1 []
         ∷ Answered (Finished None) 2 [] ∷ []) }
     ensures last_answer { RepliesFrom (spent begin) (integers.nothing ∷ []) 20
-        (Load m (0 ∷ []) ∷ Call m f [] ∷ Discard m ∷ Global m (codes "q") ∷ Seq ∷ []) 0 []
+        (Load m (0 ∷ []) ∷ Call m f [] ∷ Discard m ∷ Get m (codes "q") ∷ Seq ∷ []) 0 []
         (Refused SequenceSpent ∷ Refused SequenceSpent ∷ Refused SequenceSpent ∷ Refused NoModule
         ∷ Number (2 ^ 64 - 1) ∷ []) }
     ensures longest_array { RepliesOf (objects.resizing ∷ [])

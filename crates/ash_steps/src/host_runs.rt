@@ -11,7 +11,7 @@ ghost use Rattle.ash_phrases.specs.ExampleParts.{started, added, f};
 ghost use Rattle.ash_phrases.specs.ObjectExamples as phrase_objects;
 ghost use Rattle.ash_phrases.specs.ObjectExamples.{answered};
 ghost use Rattle.ash_phrases.specs.ReleaseExamples.{value_read};
-ghost use Rattle.ash_steps.specs.Requests.{Load, Call, Discard, Global, Object, Seq};
+ghost use Rattle.ash_steps.specs.Requests.{Load, Call, Discard, Get, Object, Seq};
 ghost use Rattle.ash_steps.specs.Requests.{Answered, Value, ShownAs, Number, Refused, NoModule, NoObject};
 ghost use Rattle.ash_steps.specs.Examples.{m, with_counter, counter_shown};
 ghost use Rattle.ash_steps.specs.RunExamples.{RepliesOf, RepliesFrom, begin};
@@ -21,7 +21,7 @@ ghost use Rattle.ash_steps.specs.ObjectRuns as objects;
 /// What requests reply whose modules have host objects: what a load, a call or a discard drops, and in which order.
 pub fn worked_host_runs()
     ensures failed_load { RepliesOf (hosts.failing_load ∷ [])
-        (Load m (0 ∷ []) ∷ Object 1 ∷ Object 2 ∷ Global m (codes "g") ∷ Seq ∷ []) 2
+        (Load m (0 ∷ []) ∷ Object 1 ∷ Object 2 ∷ Get m (codes "g") ∷ Seq ∷ []) 2
         (started 1 1 ∷ started 2 2 ∷ value_read 2 2 ∷ [])
         (Answered (Threw Exception.DivideByZero (codes "(init)") 1) 1
         (Drew 1 ∷ Drew 2 ∷ Dropped 2 ∷ Dropped 1 ∷ [])
@@ -42,7 +42,7 @@ pub fn worked_host_runs()
         ∷ Answered (Finished None) 2 (Dropped 1 ∷ Dropped 2 ∷ []) ∷ Refused NoObject
         ∷ Refused NoObject ∷ []) }
     ensures aborted_call { RepliesFrom begin (hosts.written_twice ∷ []) 2
-        (Load m (0 ∷ []) ∷ Call m f [] ∷ Global m (codes "n") ∷ []) 0 []
+        (Load m (0 ∷ []) ∷ Call m f [] ∷ Get m (codes "n") ∷ []) 0 []
         (Answered (Finished None) 1 [] ∷ Answered (Aborted f 1) 2 [] ∷ Value (Word.Int (pos 1))
         ∷ []) }
     ensures numbers_rise { RepliesOf (objects.drawing ∷ [])

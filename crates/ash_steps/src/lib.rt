@@ -7,16 +7,18 @@
 //! trees, and leaves open how a source is read: its definitions take what the embedding program has registered, with
 //! the function that gives the typed tree of a source, or its first fault. They are in `specs/`, in reading order:
 //! `States`, `Requests`, `Tasks` (the refusals of each request, in order), `Steps` (what is done, and runs over
-//! requests), `Premises` (what statements may take as given), `Laws`, and `Examples` with those beside it.
+//! requests), `Premises` (what statements may take as given), `SourceViews` (what is read of sources), `Laws`, and
+//! `Examples` with those beside it.
 //!
-//! In reading order: `argument` (what a call is handed), `laws` (of steps), `examples` and `host_runs` (runs that are
-//! computed).
+//! In reading order: `argument` (what a call is handed), `sources` (the trait of programs that read sources), `laws` (of
+//! steps), `examples` and `host_runs` (runs that are computed).
 #![tactic(auto)]
 
 mod argument;
 mod examples;
 mod host_runs;
 pub mod laws;
+pub mod sources;
 
 pub use argument::Argument;
 pub use examples::{

@@ -8,7 +8,7 @@ use Rattle.ash_host.specs.Objects.{object_at}
 use Rattle.ash_typed.specs.Modules.{Function, Module}
 use Rattle.ash_steps.specs.declared.argument.Argument.{Argument}
 use Rattle.ash_steps.specs.States.{LoadedModule, State, Embedding, find_module}
-use Rattle.ash_steps.specs.Requests.{Request, Load, Call, Discard, Global, Object, Seq, Snapshot, Refusal, NoGlobal, NoObject}
+use Rattle.ash_steps.specs.Requests.{Request, Load, Call, Discard, Get, Object, Seq, Snapshot, Refusal, NoGlobal, NoObject}
 use Rattle.ash_steps.specs.Requests as requests
 use Rattle.ash_steps.specs.Tasks as tasks
 use Rattle.ash_steps.specs.Tasks.{is_module_name, max_modules, max_seq, arguments_of, Task, Initialize, Invoke, Remove, Read, Show, Count, Rewrite, TaskResult, word_named, described, shown, require, require_some, tree_in, initialize, call_in, tree_of, task_of}
@@ -89,7 +89,7 @@ module _ {Fault : Type 0} where
         let (left, e1) = required (nat_lt s.seq max_seq) _ _ t e in
         let (m, found, e2) = required_some (find_module name s) _ _ t e1 in
         subst (IsTask embedding s) (same_task (Remove name) t e2) (removes (less _ _ left))
-    task_is (Global name global) t e =
+    task_is (Get name global) t e =
         let (m, found, e1) = required_some (find_module name s) _ _ t e in
         let (word, at, e2) = required_some (option_and_then (λ tree. word_named global tree m.globals) (tree_of embedding m)) NoGlobal (λ word. Ok (Read word)) t e1 in
         subst (IsTask embedding s) (same_task (Read word) t e2) reads

@@ -1,8 +1,8 @@
 //! What the embedding program has registered, as far as requests see it.
 
-ghost use Rattle.std.specs.Prelude.{◌≡◌, IfOk, string_bytes};
+ghost use Rattle.std.specs.Prelude.{◌≡◌, IfOk, OnErr, string_bytes};
 ghost use Rattle.ash_steps.specs.States.{Embedding};
-ghost use Rattle.ash_plain_steps.specs.RequestViews.{read_seen};
+ghost use Rattle.ash_steps.specs.SourceViews.{read_seen, TakesMemoryToRead};
 
 use ash_typed::Module;
 use std::alloc::{AllocError, Global};
@@ -18,13 +18,19 @@ pub trait Sources {
     /// What a fault represents.
     ghost fault_seen: { Self.Fault → FaultSeen };
 
+    /// The faults that take memory to find.
+    ghost TakesMemory: { FaultSeen → Type 0 };
+
     /// What is registered.
     ghost embedding: { Self → Embedding FaultSeen };
 
-    /// The typed tree of a source, or the first fault for which it has none. An `Err` means that memory was refused.
+    /// The typed tree of a source, or the first fault for which it has none. An `Err` means that memory was refused,
+    /// which comes of no source whose fault takes no memory to find.
     fn read(&self, alloc: Global, source: &[u8]) -> Result<Result<Module, Self::Fault>, AllocError>
         ensures read { IfOk result (λ found. read_seen fault_seen found
-            ≡ (embedding self.now).read source.now) };
+            ≡ (embedding self.now).read source.now) }
+        ensures memory { OnErr result
+            (TakesMemoryToRead TakesMemory ((embedding self.now).read source.now)) };
 
     /// The name of the type of a kind. An `Err` means that memory was refused.
     fn name_of_kind(&self, alloc: Global, kind: u16) -> Result<String, AllocError>
