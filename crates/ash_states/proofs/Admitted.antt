@@ -28,7 +28,7 @@ step_admitted budget request old one h stepped =
     let kept = steps_keep (embedding_for old.registered) (offered_to old.registered) budget request old.state no_hosts one (read_sound (admitting_unregistered old.registered)) h.formed no_hosts_are stepped in
     record {
       formed = kept.0;
-      no_services = steps_leave_none old.state no_hosts ((h.formed).numbered) h.no_services (embedding_for old.registered) budget request one stepped;
+      no_services = steps_leave_none SourceFault old.state no_hosts ((h.formed).numbered) h.no_services (embedding_for old.registered) budget request one stepped;
     }
 
 -- the step that a host takes is one of the definitions

@@ -42,7 +42,7 @@ module _ (s : HostState) (h : IsAdmitted s) where
   -- what spells the snapshot is the image of the state
   pub image_is : (bytes : List ℕ) → Fits Two (snapshot_for s) → bytes ≡ image_of (snapshot_for s) → IsImageIn Two bytes s
   image_is bytes fits is =
-      (snapshot_for s, (((fits, is), rules (embedding_for s.registered) (offered_to s.registered) (read_sound (admitting_unregistered s.registered)) s.state h.formed s.registered), depicted))
+      (snapshot_for s, ((fits, is), rules (embedding_for s.registered) (offered_to s.registered) (read_sound (admitting_unregistered s.registered)) s.state h.formed s.registered), depicted)
 
 -- the kinds of the snapshot are those of the state
 

@@ -39,22 +39,22 @@ integer_fits (uint f) = f
 integer_fits (int64 f) = f
 integer_fits (uint64 f) = f
 
-module _ {p : Program} {all : Objects (List ℕ)} (small : (n : ℕ) → Lives all n → n < 2 ^ 64) where
+module _ {all : Objects (List ℕ)} (small : (n : ℕ) → Lives all n → n < 2 ^ 64) where
   reference_fits : {Fits : Shape → Type 0} {w : Word} → IsReference all Fits w → FitsWord w
   reference_fits to_nothing = tt
   reference_fits (to_object {number} {shape} at fits) = small number (shape_lives number all shape at)
 
-  value_fits : {of : VarType} {w : Word} → IsValue p all of w → FitsWord w
+  value_fits : {p : Program} {of : VarType} {w : Word} → IsValue p all of w → FitsWord w
   value_fits is_truth = tt
   value_fits (is_integer i) = integer_fits i
   value_fits (is_object r) = reference_fits r
   value_fits (is_handle r) = reference_fits r
 
-  pub values_fit : {types : List VarType} {ws : List Word} → AreValues p all types ws → AllByRecursion FitsWord ws
+  pub values_fit : {p : Program} {types : List VarType} {ws : List Word} → AreValues p all types ws → AllByRecursion FitsWord ws
   values_fit no_values = tt
   values_fit (and_value v vs) = (value_fits v, values_fit vs)
 
-  pub all_fit : {of : VarType} {ws : List Word} → AllAre p all of ws → AllByRecursion FitsWord ws
+  pub all_fit : {p : Program} {of : VarType} {ws : List Word} → AllAre p all of ws → AllByRecursion FitsWord ws
   all_fit none_are = tt
   all_fit (and_is v vs) = (value_fits v, all_fit vs)
 

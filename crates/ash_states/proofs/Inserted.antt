@@ -13,14 +13,14 @@ use Rattle.ash_state_image.proofs.OrderLaws.{tail_rises}
 use Rattle.ash_states.specs.Restoring.{with_all}
 use Rattle.ash_states.proofs.Lists.{all_more}
 
+above : (x y : ℕ) → y < x → nat_cmp x y ≡ Greater
+above x y h = grind (arith, nat_tests)
+
 module _ {M : Type 0} where
 
   -- all numbers are below one
   abbrev AllBelow : ℕ → Objects M → Type 0
   AllBelow n os = AllByRecursion (λ (e : ℕ × Plain M). e.0 < n) os
-
-  above : (x y : ℕ) → y < x → nat_cmp x y ≡ Greater
-  above x y h = grind (arith, nat_tests)
 
   last_put : (n : ℕ) (o : Plain M) (os : Objects M) → AllBelow n os → with_at n o os ≡ os ++ (n, o) ∷ []
   last_put n o [] h = refl

@@ -61,7 +61,7 @@ along_none {b = b} (Then {middle} t x) none = step_none middle b x (along_none t
 outcome_none : (first : Activity) (outcome : Outcome) → EffectsStay first outcome → HasNone first.world → HasNone outcome.world
 outcome_none first outcome stays none = of_same (stays.released).others (along_none stays.trace none)
 
-module _ {F : Type 0} (old : State) (hosts : Hosts) (numbered : AreNumbered old.last old.objects) (none : old.services ≡ []) where
+module _ (F : Type 0) (old : State) (hosts : Hosts) (numbered : AreNumbered old.last old.objects) (none : old.services ≡ []) where
   abbrev StepHasNone : Step F → Type 0
   StepHasNone one = (one.state).services ≡ []
 

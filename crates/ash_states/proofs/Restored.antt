@@ -59,13 +59,13 @@ module _ (registered : List Registration) (snapshot : Snapshot) where
   pub mistyped : (Typed (state_of snapshot).modules (state_of snapshot).objects → ⊥) → IsRefused registered snapshot
   mistyped not s at is none h =
       let there = admitted_at s at is h in
-      not ((there.formed).loaded, ((there.formed).living, (there.formed).offered))
+      not ((there.formed).loaded, (there.formed).living, (there.formed).offered)
 
   -- a state that is one of a host's
 
   pub restored : IsShaped snapshot → snapshot.services ≡ [] → (s : PlainState) → (state_seen s).services ≡ [] → ReadsModules embedding snapshot.modules (Some s.modules.items) → s.objects ≡ (state_of snapshot).objects → s.last ≡ snapshot.last → s.seq ≡ snapshot.seq → Typed (state_of snapshot).modules (state_of snapshot).objects → RestoresState registered snapshot (Some s)
   restored (version, fits, keeps) none s empty read objects last seq typed =
-      (same, (none, record { admitted = admitted; consistent = consistent }))
+      (same, none, record { admitted = admitted; consistent = consistent })
     where
       no_services : (state_of snapshot).services ≡ []
       no_services = ap (map (λ (service : ℕ × List ℕ). service.1)) none
@@ -75,7 +75,7 @@ module _ (registered : List Registration) (snapshot : Snapshot) where
 
       well : IsAdmitted (record { registered = registered; state = state_of snapshot })
       well = record {
-        formed = formed embedding (offered_to registered) version snapshot fits keeps none typed.0 (typed.1).0 (typed.1).1;
+        formed = formed embedding (offered_to registered) version snapshot fits keeps none typed.0 typed.1 typed.2;
         no_services = no_services;
       }
 

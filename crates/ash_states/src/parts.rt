@@ -25,7 +25,6 @@ fn place_of(modules: &[LoadedModule], name: &str) -> Option<usize>
 }
 
 /// The index of the module of a name.
-#[tactic(auto, using(crate::proofs::Placed::index_is))]
 fn index_of(modules: &[LoadedModule], name: &str) -> usize
     ensures { result ≡ index_in (modules_seen modules.now) name.now }
 {
