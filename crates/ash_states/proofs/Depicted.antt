@@ -1,6 +1,8 @@
 -- Each state that a host may be in has an image.
-use Rattle.std.proofs.Common.{◌≡◌, ◌≤◌, ℕ, List, [], ◌∷◌, map, refl, arith}
+use Rattle.std.proofs.Common.{◌≡◌, ◌≤◌, ℕ, List, [], ◌∷◌, map, refl, sym, ap, ◌∙◌, subst, arith}
 use Rattle.std.specs.Prelude.{Ok, length}
+use Rattle.std.specs.List.{AllByRecursion}
+use Rattle.std.specs.Str.{IsUtf8}
 use Rattle.ash_host.specs.Objects.{Objects, Bools, Ints, Uints, Int64s, Uint64s, Handles, Hosts, Plain, Script, Array, Host}
 use Rattle.ash_registry.specs.Text.{text_of}
 use Rattle.ash_typed.specs.Modules.{Module}
@@ -8,14 +10,19 @@ use Rattle.ash_meaning.specs.Sources.{admitting_unregistered}
 use Rattle.ash_meaning.proofs.SourceLaws.{read_sound, admitted_exact}
 use Rattle.ash_meaning.proofs.TypedSourceLaws.{typed_rules}
 use Rattle.ash_state_image.specs.declared.version.Version.TheVariants.{Two}
-use Rattle.ash_state_image.specs.Snapshots.{Snapshot}
+use Rattle.ash_state_image.specs.declared.parts.ModuleParts.{ModuleParts}
+use Rattle.ash_state_image.specs.declared.parts.ObjectParts.{ObjectParts}
+use Rattle.ash_state_image.specs.Snapshots.{Loaded, Snapshot}
+use Rattle.ash_state_image.specs.Views.{modules_in, object_in, objects_in}
 use Rattle.ash_state_image.specs.Image.{Fits, FitsText, image_of}
 use Rattle.ash_state_image.specs.Rules.{IsImage}
 use Rattle.ash_states.specs.States.{HostState, IsAdmitted, embedding_for, offered_to}
 use Rattle.ash_states.specs.Images.{IsDepicted, IsImageIn}
-use Rattle.ash_states.specs.Indexes.{index_in, plain_indexed, entry_indexed, snapshot_for, HasKind, HaveKinds, HaveImages}
+use Rattle.ash_states.specs.Indexes.{index_in, plain_indexed, entry_indexed, snapshot_for, IsPlainIndexed, HasKind, HaveKinds, HaveImages}
+use Rattle.ash_states.specs.Writing.{AreListed}
+use Rattle.ash_states.proofs.Lists.{all_more, all_map}
 use Rattle.ash_states.proofs.Fitting.{modules_fit, objects_fit}
-use Rattle.ash_states.proofs.Kept.{rules, same_state}
+use Rattle.ash_states.proofs.Kept.{IsWritten, each_written, rules, same_state}
 
 module _ (s : HostState) (h : IsAdmitted s) where
   short : (source : List ℕ) (tree : Module) → (embedding_for s.registered).read source ≡ Ok tree → length source ≤ 65536
@@ -64,3 +71,38 @@ kinds_indexed index (e ∷ os) ks = (kind_indexed index e.1 ks.0, kinds_indexed 
 pub has_image : HaveImages
 has_image s h text kinds =
     (image_of (snapshot_for s), image_is s h (image_of (snapshot_for s)) (snapshot_fits s h text (kinds_indexed (index_in (s.state).modules) (s.state).objects kinds)) refl)
+
+-- what the code lists and writes
+
+snapshot_same : (a b : Snapshot) → a.registered ≡ b.registered → a.seq ≡ b.seq → a.last ≡ b.last → a.services ≡ b.services → a.modules ≡ b.modules → a.objects ≡ b.objects → a ≡ b
+snapshot_same a b registered seq last services modules objects =
+    ap (λ (x : List ℕ). let t : Snapshot = record { registered = x; seq = a.seq; last = a.last; services = a.services; modules = a.modules; objects = a.objects } in t) registered
+    ∙ ap (λ (x : ℕ). let t : Snapshot = record { registered = b.registered; seq = x; last = a.last; services = a.services; modules = a.modules; objects = a.objects } in t) seq
+    ∙ ap (λ (x : ℕ). let t : Snapshot = record { registered = b.registered; seq = b.seq; last = x; services = a.services; modules = a.modules; objects = a.objects } in t) last
+    ∙ ap (λ (x : List (ℕ × List ℕ)). let t : Snapshot = record { registered = b.registered; seq = b.seq; last = b.last; services = x; modules = a.modules; objects = a.objects } in t) services
+    ∙ ap (λ (x : List Loaded). let t : Snapshot = record { registered = b.registered; seq = b.seq; last = b.last; services = b.services; modules = x; objects = a.objects } in t) modules
+    ∙ ap (λ (x : Objects ℕ). let t : Snapshot = record { registered = b.registered; seq = b.seq; last = b.last; services = b.services; modules = b.modules; objects = x } in t) objects
+
+pub all_indexed : (s : HostState) → IsAdmitted s → AllByRecursion (λ (e : ℕ × Plain (List ℕ)). IsPlainIndexed (s.state).modules e.1) (s.state).objects
+all_indexed s h =
+    all_more (IsWritten (s.state).modules) (λ (e : ℕ × Plain (List ℕ)). IsPlainIndexed (s.state).modules e.1) (λ e w. (w.place).indexed) (s.state).objects
+    (each_written (embedding_for s.registered) (offered_to s.registered) (read_sound (admitting_unregistered s.registered)) s.state h.formed)
+
+-- a snapshot of the parts that the code lists
+abbrev pub listed_snapshot : HostState → List ℕ → List ModuleParts → List ObjectParts → Snapshot
+listed_snapshot s text modules objects = record { registered = text; seq = (s.state).seq; last = (s.state).last; services = []; modules = modules_in modules; objects = objects_in objects }
+
+-- has a spelling, where the text of what is registered has one
+pub parts_fit : (s : HostState) → IsAdmitted s → (modules : List ModuleParts) (objects : List ObjectParts) → AreListed s modules objects → (text : List ℕ) → text ≡ text_of s.registered → IsUtf8 text → length text ≤ 1048576 → Fits Two (listed_snapshot s text modules objects)
+parts_fit s h modules objects listed text is utf8 short_text =
+    subst (Fits Two) (sym same) (snapshot_fits s h (subst FitsText is (record { utf8 = utf8; short = short_text })) kinds)
+  where
+    same : listed_snapshot s text modules objects ≡ snapshot_for s
+    same = snapshot_same (listed_snapshot s text modules objects) (snapshot_for s) is refl refl refl listed.same_modules listed.same_objects
+
+    kinds : HaveKinds (snapshot_for s).objects
+    kinds = subst (λ (os : Objects ℕ). HaveKinds os) listed.same_objects (all_map object_in (λ (e : ℕ × Plain ℕ). HasKind e.1) objects listed.kinds)
+
+-- what is written of the parts is the image of the state
+pub image_by_parts : (s : HostState) → IsAdmitted s → (snapshot : Snapshot) → snapshot ≡ snapshot_for s → Fits Two snapshot → (bytes : List ℕ) → bytes ≡ image_of snapshot → IsImageIn Two bytes s
+image_by_parts s h snapshot same fits bytes is = image_is s h bytes (subst (Fits Two) same fits) (is ∙ ap image_of same)

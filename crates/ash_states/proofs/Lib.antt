@@ -13,3 +13,4 @@ pub mod Depicted
 pub mod OneImage
 pub mod Taken
 pub mod Placed
+pub mod Typed

@@ -8,6 +8,7 @@ use Rattle.ash_steps.specs.States.{LoadedModule, State, Embedding}
 use Rattle.ash_meaning.specs.SourceFaults.{SourceFault}
 use Rattle.ash_wellformed.specs.WellFormed.{AreObjects, AreOffered}
 use Rattle.ash_wellformed_states.specs.WellFormedStates.{known_of, IsLoaded}
+use Rattle.ash_plain_steps.specs.declared.state.LoadedModule as code_module
 use Rattle.ash_plain_steps.specs.declared.state.PlainState.{PlainState}
 use Rattle.ash_plain_steps.specs.StateViews.{modules_seen, state_seen}
 use Rattle.ash_plain_steps.specs.Consistency.{AreConsistent}
@@ -31,12 +32,13 @@ state_same a b modules objects services last seq =
     ∙ ap (λ (x : ℕ). let t : State = record { modules = b.modules; objects = b.objects; services = b.services; last = x; seq = a.seq } in t) last
     ∙ ap (λ (x : ℕ). let t : State = record { modules = b.modules; objects = b.objects; services = b.services; last = b.last; seq = x } in t) seq
 
+-- what is stored is of the types that the sources say
+abbrev pub Typed : List Registration → List LoadedModule → Objects (List ℕ) → Type 0
+Typed registered ms objects = AllByRecursion (IsLoaded (embedding_for registered) objects) ms × AreObjects (known_of (embedding_for registered) ms) objects × AreOffered (offered_to registered) objects
+
 module _ (registered : List Registration) (snapshot : Snapshot) where
   abbrev embedding : Embedding SourceFault
   embedding = embedding_for registered
-
-  abbrev Typed : List LoadedModule → Objects (List ℕ) → Type 0
-  Typed ms objects = AllByRecursion (IsLoaded embedding objects) ms × AreObjects (known_of embedding ms) objects × AreOffered (offered_to registered) objects
 
   -- a state that is no host's
 
@@ -48,6 +50,10 @@ module _ (registered : List Registration) (snapshot : Snapshot) where
   has_tree : (objects : Objects (List ℕ)) (m : Loaded) → IsLoaded embedding objects (loaded_of m) → HasTree embedding m
   has_tree objects m l = (l.tree, l.is)
 
+  -- there is a service
+  pub served : (snapshot.services ≡ [] → ⊥) → IsRefused registered snapshot
+  served not s at is none h = not none
+
   -- a source has no typed tree
   pub unread : ReadsModules embedding snapshot.modules None → IsRefused registered snapshot
   unread not s at is none h =
@@ -56,16 +62,33 @@ module _ (registered : List Registration) (snapshot : Snapshot) where
       (all_unmap loaded_of (IsLoaded embedding (state_of snapshot).objects) snapshot.modules ((there.formed).loaded)))
 
   -- something that is stored is not of its type
-  pub mistyped : (Typed (state_of snapshot).modules (state_of snapshot).objects → ⊥) → IsRefused registered snapshot
+  pub mistyped : (Typed registered (state_of snapshot).modules (state_of snapshot).objects → ⊥) → IsRefused registered snapshot
   mistyped not s at is none h =
       let there = admitted_at s at is h in
       not ((there.formed).loaded, (there.formed).living, (there.formed).offered)
 
   -- a state that is one of a host's
 
-  pub restored : IsShaped snapshot → snapshot.services ≡ [] → (s : PlainState) → (state_seen s).services ≡ [] → ReadsModules embedding snapshot.modules (Some s.modules.items) → s.objects ≡ (state_of snapshot).objects → s.last ≡ snapshot.last → s.seq ≡ snapshot.seq → Typed (state_of snapshot).modules (state_of snapshot).objects → RestoresState registered snapshot (Some s)
+  -- the modules that are read ascend as those that were stored
+  pub read_consistent : IsShaped snapshot → (ms : List code_module.LoadedModule) → ReadsModules embedding snapshot.modules (Some ms) → AreConsistent embedding ms
+  read_consistent (version, fits, keeps) ms read = record {
+    ascending = subst (λ (all : List LoadedModule). code.Ascend all) (sym read.0) (code_ascend (loaded_modules_of snapshot.modules) (ascend_of snapshot.modules (fits.modules).order));
+    read = read.1;
+  }
+
+  -- what is not of its type as it is read is not so as it was stored
+  pub mistyped_read : (ms : List LoadedModule) (objects : Objects (List ℕ)) → ms ≡ (state_of snapshot).modules → objects ≡ (state_of snapshot).objects → (Typed registered ms objects → ⊥) → IsRefused registered snapshot
+  mistyped_read ms objects same_modules same_objects not =
+      mistyped (λ typed. not (subst (λ (all : List LoadedModule). Typed registered all objects) (sym same_modules) (subst (Typed registered (state_of snapshot).modules) (sym same_objects) typed)))
+
+  -- and what is of its type as it is read
+  pub typed_read : (ms : List LoadedModule) (objects : Objects (List ℕ)) → ms ≡ (state_of snapshot).modules → objects ≡ (state_of snapshot).objects → Typed registered ms objects → Typed registered (state_of snapshot).modules (state_of snapshot).objects
+  typed_read ms objects same_modules same_objects typed =
+      subst (λ (all : List LoadedModule). Typed registered all (state_of snapshot).objects) same_modules (subst (Typed registered ms) same_objects typed)
+
+  pub restored : IsShaped snapshot → snapshot.services ≡ [] → (s : PlainState) → (state_seen s).services ≡ [] → ReadsModules embedding snapshot.modules (Some s.modules.items) → s.objects ≡ (state_of snapshot).objects → s.last ≡ snapshot.last → s.seq ≡ snapshot.seq → Typed registered (state_of snapshot).modules (state_of snapshot).objects → RestoresState registered snapshot (Some s)
   restored (version, fits, keeps) none s empty read objects last seq typed =
-      (same, none, record { admitted = admitted; consistent = consistent })
+      (same, none, record { admitted = admitted; consistent = read_consistent (version, fits, keeps) s.modules.items read })
     where
       no_services : (state_of snapshot).services ≡ []
       no_services = ap (map (λ (service : ℕ × List ℕ). service.1)) none
@@ -81,9 +104,3 @@ module _ (registered : List Registration) (snapshot : Snapshot) where
 
       admitted : IsAdmitted (held_with registered s)
       admitted = subst (λ (t : State). IsAdmitted (record { registered = registered; state = t })) (sym same) well
-
-      consistent : AreConsistent embedding s.modules.items
-      consistent = record {
-        ascending = subst (λ (ms : List LoadedModule). code.Ascend ms) (sym read.0) (code_ascend (loaded_modules_of snapshot.modules) (ascend_of snapshot.modules (fits.modules).order));
-        read = read.1;
-      }

@@ -1,12 +1,18 @@
 -- The parts of a state that the code writes.
-use Rattle.std.specs.Prelude.{◌≡◌, map}
-use Rattle.ash_state_image.specs.Views.{modules_in, objects_in}
-use Rattle.ash_states.specs.declared.writing.Lists.{Lists}
+use Rattle.std.specs.Prelude.{◌≡◌, List}
+use Rattle.std.specs.List.{AllByRecursion}
+use Rattle.ash_state_image.specs.declared.parts.ModuleParts.{ModuleParts}
+use Rattle.ash_state_image.specs.declared.parts.ObjectParts.{ObjectParts}
+use Rattle.ash_state_image.specs.Views.{modules_in, object_in, objects_in}
 use Rattle.ash_states.specs.States.{HostState}
-use Rattle.ash_states.specs.Indexes.{snapshot_for, HaveKinds}
+use Rattle.ash_states.specs.Indexes.{snapshot_for, HasKind}
 
--- the modules and the objects are those of the snapshot of a state, and the kinds of host objects are in two bytes
-pub record AreListed (s : HostState) (lists : Lists) : Type 0 where
-  pub modules : modules_in lists.modules.items ≡ (snapshot_for s).modules
-  pub objects : objects_in lists.objects.items ≡ (snapshot_for s).objects
-  pub kinds : HaveKinds (objects_in lists.objects.items)
+-- the kinds of host objects are in two bytes
+abbrev pub HavePartKinds : List ObjectParts → Type 0
+HavePartKinds parts = AllByRecursion (λ (p : ObjectParts). HasKind (object_in p).1) parts
+
+-- the modules and the objects are those of the snapshot of a state
+pub record AreListed (s : HostState) (modules : List ModuleParts) (objects : List ObjectParts) : Type 0 where
+  pub same_modules : modules_in modules ≡ (snapshot_for s).modules
+  pub same_objects : objects_in objects ≡ (snapshot_for s).objects
+  pub kinds : HavePartKinds objects

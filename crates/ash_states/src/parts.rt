@@ -8,7 +8,8 @@ ghost use Rattle.ash_plain_steps.specs.StateViews.{loaded_seen, modules_seen};
 ghost use Rattle.ash_state_image.specs.ObjectViews.{element_of, plain_in};
 ghost use Rattle.ash_state_image.specs.Views.{modules_in, objects_in};
 ghost use Rattle.ash_states.specs.Indexes.{index_in, element_indexed, plain_indexed, entry_indexed, stored_modules_of};
-ghost use Rattle.ash_states.specs.Indexes.{IsElementIndexed, IsPlainIndexed, HasElementKind, HasKind, HaveKinds};
+ghost use Rattle.ash_states.specs.Indexes.{IsElementIndexed, IsPlainIndexed, HasElementKind, HasKind};
+ghost use Rattle.ash_states.specs.Writing.{HavePartKinds};
 
 use ash_plain::objects::Objects;
 use ash_plain_data::object::{Element, Object};
@@ -89,7 +90,7 @@ pub(crate) fn object_parts<'a>(
         objects.now }
     ensures indexed { IfOk result (λ parts. objects_in parts.items
         ≡ map (entry_indexed (index_in (modules_seen modules.now))) objects.now) }
-    ensures kinds { IfOk result (λ parts. HaveKinds (objects_in parts.items)) }
+    ensures kinds { IfOk result (λ parts. HavePartKinds parts.items) }
 {
     let mut parts = Vec::with_capacity(alloc, objects.len())?;
     for (number, object) in objects.iter() {

@@ -17,29 +17,16 @@ use ash_state_image::image::{write_body, write_image};
 use ash_state_image::parts::{ModuleParts, ObjectParts, StateParts};
 use std::alloc::AllocError;
 
-/// The modules and the objects of a state by their parts.
-struct Lists<'a> {
-    modules: Vec<ModuleParts<'a>>,
-    objects: Vec<ObjectParts<'a>>,
-}
-
-fn lists_of(registry: &Registry, state: &PlainState) -> Result<Lists<'_>, AllocError>
-    requires held { IsHeld (registered registry.now) state.now }
-    ensures listed { IfOk result (AreListed (held_with (registered registry.now) state.now)) }
-{
-    let modules = module_parts(state.alloc, &state.modules)?;
-    let objects = object_parts(state.alloc, &state.modules, &state.objects)?;
-    Ok(Lists { modules, objects })
-}
-
 /// The parts of a state.
 fn state_parts<'a>(
     registry: &'a Registry,
     state: &'a PlainState,
-    lists: &'a Lists<'a>,
+    modules: &'a [ModuleParts<'a>],
+    objects: &'a [ObjectParts<'a>],
 ) -> StateParts<'a>
     requires held { IsHeld (registered registry.now) state.now }
-    requires listed { AreListed (held_with (registered registry.now) state.now) lists.now }
+    requires listed { AreListed (held_with (registered registry.now) state.now)
+        modules.now objects.now }
     ensures same { snapshot_in result ≡ snapshot_for (held_with (registered registry.now) state.now) }
     ensures fits { Fits Two (snapshot_in result) }
 {
@@ -48,9 +35,43 @@ fn state_parts<'a>(
         seq: state.seq,
         last: state.last,
         services: &[],
-        modules: &lists.modules,
-        objects: &lists.objects,
+        modules,
+        objects,
     }
+}
+
+/// The image of a state, in version 2, by the parts of its modules and its objects.
+fn image_by(
+    registry: &Registry,
+    state: &PlainState,
+    modules: &[ModuleParts<'_>],
+    objects: &[ObjectParts<'_>],
+) -> Result<Vec<u8>, AllocError>
+    requires held { IsHeld (registered registry.now) state.now }
+    requires listed { AreListed (held_with (registered registry.now) state.now)
+        modules.now objects.now }
+    ensures image { IfOk result (λ image. IsImageIn Two image.items
+        (held_with (registered registry.now) state.now)) }
+    ensures short { IfOk result (λ image. length image.items < 2 ^ 32) }
+{
+    write_image(state.alloc, state_parts(registry, state, modules, objects))
+}
+
+/// The body of a record that has the image of a state, by the parts of its modules and its objects.
+fn body_by(
+    registry: &Registry,
+    state: &PlainState,
+    modules: &[ModuleParts<'_>],
+    objects: &[ObjectParts<'_>],
+) -> Result<Vec<u8>, AllocError>
+    requires held { IsHeld (registered registry.now) state.now }
+    requires listed { AreListed (held_with (registered registry.now) state.now)
+        modules.now objects.now }
+    ensures body { IfOk result (λ body. IsBodyOf body.items
+        (held_with (registered registry.now) state.now)) }
+    ensures short { IfOk result (λ body. length body.items < 2 ^ 32) }
+{
+    write_body(state.alloc, state_parts(registry, state, modules, objects))
 }
 
 /// The image of a state, in version 2.
@@ -60,8 +81,9 @@ pub(crate) fn image_of(registry: &Registry, state: &PlainState) -> Result<Vec<u8
         (held_with (registered registry.now) state.now)) }
     ensures short { IfOk result (λ image. length image.items < 2 ^ 32) }
 {
-    let lists = lists_of(registry, state)?;
-    write_image(state.alloc, state_parts(registry, state, &lists))
+    let modules = module_parts(state.alloc, &state.modules)?;
+    let objects = object_parts(state.alloc, &state.modules, &state.objects)?;
+    image_by(registry, state, &modules, &objects)
 }
 
 /// The body of a record that has the image of a state.
@@ -71,6 +93,7 @@ pub(crate) fn body_of(registry: &Registry, state: &PlainState) -> Result<Vec<u8>
         (held_with (registered registry.now) state.now)) }
     ensures short { IfOk result (λ body. length body.items < 2 ^ 32) }
 {
-    let lists = lists_of(registry, state)?;
-    write_body(state.alloc, state_parts(registry, state, &lists))
+    let modules = module_parts(state.alloc, &state.modules)?;
+    let objects = object_parts(state.alloc, &state.modules, &state.objects)?;
+    body_by(registry, state, &modules, &objects)
 }

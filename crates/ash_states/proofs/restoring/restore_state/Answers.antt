@@ -1,0 +1,84 @@
+use Rattle.std.proofs.Common.{rules, ◌≡◌, ◌↔◌, true, false, List, [], ◌∷◌, map, length, refl, ◌∙◌, ap, subst, arith}
+use Rattle.std.proofs.lemmas.Grind.{common_steps}
+use Rattle.std.specs.Prelude.{option_map}
+use Rattle.std.specs.Vec.{vec_items}
+use Rattle.ash_host.specs.Objects.{Objects}
+use Rattle.ash_registry.specs.Registrations.{Registration}
+use Rattle.ash_registry.specs.Registered.{registered}
+use Rattle.ash_typed.specs.Signatures.{Host}
+use Rattle.ash_steps.specs.States.{LoadedModule}
+use Rattle.ash_plain_steps.specs.declared.state.LoadedModule as code_module
+use Rattle.ash_plain_steps.specs.declared.state.PlainState.{PlainState}
+use Rattle.ash_plain_steps.specs.StateViews.{modules_seen, state_seen}
+use Rattle.ash_meaning.specs.Sources.{SourceRules, embedding_of}
+use Rattle.ash_admission.specs.Admission.{OffersNothing, IsWellTyped}
+use Rattle.ash_state_image.specs.Snapshots.{Snapshot}
+use Rattle.ash_state_image.specs.ObjectViews.{service_of}
+use Rattle.ash_state_image.specs.Views.{services_of, modules_of, objects_of, snapshot_of}
+use Rattle.ash_states.specs.States.{embedding_for}
+use Rattle.ash_states.specs.Images.{name_at, entry_named, state_of}
+use Rattle.ash_states.specs.Restoring.{ReadsModules}
+use Rattle.ash_states.proofs.Restored.{Typed, unread, read_consistent, mistyped_read, typed_read, restored}
+use Rattle.ash_states.proofs.Typed.{typed_if}
+use Rattle.ash_states.proofs.restoring.restore_state.Goals as goal
+
+none_seen : {A B : Type 0} (f : A → B) (xs : List A) → length xs ≡ 0 → map f xs ≡ []
+none_seen f [] h = refl
+none_seen f (x ∷ xs) h = absurd (omega arith)
+
+pub returns-in_default : goal.returns-in_default
+returns-in_default c =
+    let registrations : List Registration = registered c.args.registry.now in
+    let read : ReadsModules (embedding_for registrations) (modules_of c.args.stored.modules.items) (option_map vec_items c.in_ok-modules.field-0) =
+    subst (λ (rules : SourceRules). ReadsModules (embedding_of rules) (modules_of c.args.stored.modules.items) (option_map vec_items c.in_ok-modules.field-0))
+    c.sources_for-sources.ensures c.in_ok-modules.ensures.exact in
+    let none = rw c.in_default.is at read in
+    record { exact = unread registrations (snapshot_of c.args.stored) none }
+
+pub returns-then-not-is_well_typed : goal.returns-then-not-is_well_typed
+returns-then-not-is_well_typed c =
+    let registrations : List Registration = registered c.args.registry.now in
+    let snapshot : Snapshot = snapshot_of c.args.stored in
+    let ms : List code_module.LoadedModule = c.in-Some.modules.items in
+    let read : ReadsModules (embedding_for registrations) (modules_of c.args.stored.modules.items) (option_map vec_items c.in_ok-modules.field-0) =
+    subst (λ (rules : SourceRules). ReadsModules (embedding_of rules) (modules_of c.args.stored.modules.items) (option_map vec_items c.in_ok-modules.field-0))
+    c.sources_for-sources.ensures c.in_ok-modules.ensures.exact in
+    let some = rw c.in-Some.is at read in
+    let objects : c.in_ok-objects.objects ≡ (state_of snapshot).objects =
+    c.in_ok-objects.ensures.named
+    ∙ ap (λ (all : List code_module.LoadedModule). map (entry_named (name_at (modules_seen all))) (objects_of c.args.stored.objects.items)) c.deref.ensures.value
+    ∙ ap (λ (all : List LoadedModule). map (entry_named (name_at all)) (objects_of c.args.stored.objects.items)) some.0 in
+    let test = typed_if registrations ms c.in_ok-objects.objects c.is_well_typed.result
+    (read_consistent registrations snapshot c.requires.shaped ms some)
+    (subst (λ (all : List code_module.LoadedModule). (host : Host) → OffersNothing host → ((c.is_well_typed.result ≡ true) ↔ IsWellTyped host all c.in_ok-objects.objects)) c.deref-2.ensures.value c.is_well_typed.ensures.exact) in
+    let fails : c.is_well_typed.result ≡ false = search rules in
+    record {
+      exact = mistyped_read registrations snapshot (modules_seen ms) c.in_ok-objects.objects some.0 objects
+          (λ typed. let holds : c.is_well_typed.result ≡ true = test.1 typed in cc);
+    }
+
+pub returns : goal.returns
+returns c =
+    let registrations : List Registration = registered c.args.registry.now in
+    let snapshot : Snapshot = snapshot_of c.args.stored in
+    let ms : List code_module.LoadedModule = c.in-Some.modules.items in
+    let read : ReadsModules (embedding_for registrations) (modules_of c.args.stored.modules.items) (option_map vec_items c.in_ok-modules.field-0) =
+    subst (λ (rules : SourceRules). ReadsModules (embedding_of rules) (modules_of c.args.stored.modules.items) (option_map vec_items c.in_ok-modules.field-0))
+    c.sources_for-sources.ensures c.in_ok-modules.ensures.exact in
+    let some = rw c.in-Some.is at read in
+    let objects : c.in_ok-objects.objects ≡ (state_of snapshot).objects =
+    c.in_ok-objects.ensures.named
+    ∙ ap (λ (all : List code_module.LoadedModule). map (entry_named (name_at (modules_seen all))) (objects_of c.args.stored.objects.items)) c.deref.ensures.value
+    ∙ ap (λ (all : List LoadedModule). map (entry_named (name_at all)) (objects_of c.args.stored.objects.items)) some.0 in
+    let test = typed_if registrations ms c.in_ok-objects.objects c.is_well_typed.result
+    (read_consistent registrations snapshot c.requires.shaped ms some)
+    (subst (λ (all : List code_module.LoadedModule). (host : Host) → OffersNothing host → ((c.is_well_typed.result ≡ true) ↔ IsWellTyped host all c.in_ok-objects.objects)) c.deref-2.ensures.value c.is_well_typed.ensures.exact) in
+    let holds : c.is_well_typed.result ≡ true = search rules in
+    let count : length c.args.stored.services.items ≡ 0 = grind (arith, common_steps) in
+    let none : services_of c.args.stored.services.items ≡ [] = none_seen service_of c.args.stored.services.items count in
+    let s : PlainState = record { alloc = c.args.alloc; modules = c.in-Some.modules; objects = c.in_ok-objects.objects; services = c.new.result; last = c.args.stored.last; seq = c.args.stored.seq } in
+    let empty : (state_seen s).services ≡ [] = search rules in
+    record {
+      exact = restored registrations snapshot c.requires.shaped none s empty some objects refl refl
+          (typed_read registrations snapshot (modules_seen ms) c.in_ok-objects.objects some.0 objects (test.0 holds));
+    }

@@ -1,0 +1,21 @@
+use Rattle.std.proofs.Common.{refl}
+use Rattle.std.proofs.lemmas.Result.{IfOk-weaker}
+use Rattle.ash_registry.specs.Registered.{registered}
+use Rattle.ash_state_image.specs.declared.version.Version.TheVariants.{Two}
+use Rattle.ash_state_image.specs.Image.{image_of}
+use Rattle.ash_state_image.specs.Views.{snapshot_in}
+use Rattle.ash_states.specs.States.{HostState}
+use Rattle.ash_states.specs.Holding.{held_with}
+use Rattle.ash_states.proofs.Depicted.{image_by_parts}
+use Rattle.ash_states.proofs.writing.body_by.Goals as goal
+
+pub returns-clause-body : goal.returns-clause-body
+returns-clause-body c =
+    let s : HostState = held_with (registered c.args.registry.now) c.args.state.now in
+    IfOk-weaker c.write_body.result _ _
+    (λ body written. (
+      image_of (snapshot_in c.state_parts.result),
+      written,
+      Two,
+      image_by_parts s c.requires.held.admitted _ c.state_parts.ensures.same c.state_parts.ensures.fits (image_of (snapshot_in c.state_parts.result)) refl,
+    )) c.write_body.ensures.written

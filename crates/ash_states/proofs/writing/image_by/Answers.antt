@@ -1,0 +1,12 @@
+use Rattle.std.proofs.lemmas.Result.{IfOk-weaker}
+use Rattle.ash_registry.specs.Registered.{registered}
+use Rattle.ash_states.specs.States.{HostState}
+use Rattle.ash_states.specs.Holding.{held_with}
+use Rattle.ash_states.proofs.Depicted.{image_by_parts}
+use Rattle.ash_states.proofs.writing.image_by.Goals as goal
+
+pub returns-clause-image : goal.returns-clause-image
+returns-clause-image c =
+    let s : HostState = held_with (registered c.args.registry.now) c.args.state.now in
+    IfOk-weaker c.write_image.result _ _
+    (λ image written. image_by_parts s c.requires.held.admitted _ c.state_parts.ensures.same c.state_parts.ensures.fits image.items written) c.write_image.ensures.written
