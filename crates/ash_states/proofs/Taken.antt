@@ -22,6 +22,7 @@ use Rattle.ash_plain_steps.specs.StepViews.{IsChange, IsStep}
 use Rattle.ash_meaning.specs.declared.fault.SourceFault as code_fault
 use Rattle.ash_meaning.specs.SourceFaults.{SourceFault, fault_of}
 use Rattle.ash_meaning.specs.SourceFaults as faults
+use Rattle.ash_meaning.specs.Sources.{SourceRules, embedding_of, admitting_unregistered}
 use Rattle.ash_states.specs.States.{HostState, IsAdmitted, empty, embedding_for}
 use Rattle.ash_states.specs.Steps.{no_hosts, task_of, outcome_of, step, RanOut, Steps, Handled}
 use Rattle.ash_states.specs.Holding.{held_with, IsHeld, IsStepOf}
@@ -66,7 +67,7 @@ module _ (registered : List Registration) (budget : ℕ) (request : Request) (ol
   at_none (Err errors.NoStep) is stepped consistent = no_step_changes budget (tasks.task_of (embedding_for registered) request (state_seen old)) (state_seen old) no_hosts is
   at_none (Err errors.NoMemory) is stepped consistent = is
 
-  pub step_is : (hosts : Hosts) (result : Result CodeStep StepError)
+  step_is : (hosts : Hosts) (result : Result CodeStep StepError)
       → hosts ≡ no_hosts
       → IsStep fault_of faults.TakesMemoryToFind (embedding_for registered) budget request (state_seen old) hosts result
       → IfOk result (λ one. steps.Steps (embedding_for registered) budget request (state_seen old) hosts (step_seen fault_of one))
@@ -77,6 +78,19 @@ module _ (registered : List Registration) (budget : ℕ) (request : Request) (ol
       (subst (λ (h : Hosts). IsStep fault_of faults.TakesMemoryToFind (embedding_for registered) budget request (state_seen old) h result) none is)
       (subst (λ (h : Hosts). IfOk result (λ one. steps.Steps (embedding_for registered) budget request (state_seen old) h (step_seen fault_of one))) none stepped)
       consistent
+
+  -- as the sources are read by what is registered
+  pub step_by : (by : SourceRules) → by ≡ admitting_unregistered registered → (hosts : Hosts) (result : Result CodeStep StepError)
+      → hosts ≡ no_hosts
+      → IsStep fault_of faults.TakesMemoryToFind (embedding_of by) budget request (state_seen old) hosts result
+      → IfOk result (λ one. steps.Steps (embedding_of by) budget request (state_seen old) hosts (step_seen fault_of one))
+      → IfOk result (λ one. AreConsistent (embedding_of by) one.state.modules.items)
+      → IsStepOf registered budget request old result
+  step_by by same hosts result none is stepped consistent =
+      step_is hosts result none
+      (subst (λ (x : SourceRules). IsStep fault_of faults.TakesMemoryToFind (embedding_of x) budget request (state_seen old) hosts result) same is)
+      (subst (λ (x : SourceRules). IfOk result (λ one. steps.Steps (embedding_of x) budget request (state_seen old) hosts (step_seen fault_of one))) same stepped)
+      (subst (λ (x : SourceRules). IfOk result (λ one. AreConsistent (embedding_of x) one.state.modules.items)) same consistent)
 
 -- the state before any request
 pub first_held : (registered : List Registration) (s : PlainState) → state_seen s ≡ states.empty [] → s.modules.items ≡ [] → IsHeld registered s

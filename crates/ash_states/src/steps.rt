@@ -22,7 +22,8 @@ pub(crate) fn first_state(alloc: Global) -> PlainState
     ensures empty { state_seen result ≡ empty [] }
     ensures held { (registrations : List Registration) → IsHeld registrations result }
 {
-    PlainState::new(alloc, Vec::new(alloc))
+    let services = Vec::new(alloc);
+    PlainState::new(alloc, services)
 }
 
 /// The step of one request, with so many ticks, where there are no host objects.
@@ -40,5 +41,6 @@ pub(crate) fn step_of(
         pool: Vec::new(state.alloc),
         answers: VecDeque::new(state.alloc),
     };
-    plain_step(&sources_for(registry), budget, request, state, hosts)
+    let sources = sources_for(registry);
+    plain_step(&sources, budget, request, state, hosts)
 }
