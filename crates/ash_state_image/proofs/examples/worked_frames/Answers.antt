@@ -8,7 +8,7 @@ use Rattle.ash_state_image.specs.ObjectBytes.{script_at, array_at, plain_case, p
 use Rattle.ash_state_image.specs.ImageReading.{name_at, source_at, globals_at, module_at, modules_at, services_at, body_at}
 use Rattle.ash_state_image.specs.ImageReading.{object_at, objects_at}
 use Rattle.ash_state_image.specs.ImageReading.{version_at, image_at}
-use Rattle.std.specs.Str.{is_utf8}
+use Rattle.std.specs.Str.{is_utf8, chars}
 use Rattle.ash_state_image.specs.Examples.{nothing_rest, of_each_rest, registered, without_text}
 use Rattle.ash_state_image.proofs.ExampleLaws.{all_reached, read_rest, ascii_fits, damaged_at_once, damaged_by_test, damaged_by_text}
 use Rattle.ash_state_image.proofs.examples.worked_frames.Goals as goal
@@ -26,7 +26,7 @@ unfolding version_at image_at
 returns-clause-another_version c = damaged_at_once (without_text 3 nothing_rest) refl
 
 pub returns-clause-text_of_no_text : goal.returns-clause-text_of_no_text
-unfolding is_utf8
+unfolding is_utf8 chars
 returns-clause-text_of_no_text c = damaged_by_text Two (255 ∷ []) nothing_rest (omega arith) refl
 
 pub returns-clause-left_over : goal.returns-clause-left_over
