@@ -27,8 +27,9 @@ ghost use Rattle.ash_state_image.specs.declared.version.Version.{Version};
 ghost use Rattle.ash_state_image.specs.declared.version.Version.TheVariants.{One, Two};
 ghost use Rattle.ash_state_image.specs.declared.fields.ReadError.TheVariants.{Damaged};
 
-use crate::fields::{ReadError, prefix, u16_at, u32_at, u64_at};
-use crate::fields::{write_u8, write_u16, write_u32, write_u64};
+use crate::fields::{
+    ReadError, prefix, u16_at, u32_at, u64_at, write_u8, write_u16, write_u32, write_u64,
+};
 use crate::lengths::image_length;
 use crate::limits::MAX_TEXT_BYTES;
 use crate::modules::{modules_of, write_modules};

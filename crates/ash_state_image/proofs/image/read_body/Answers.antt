@@ -8,8 +8,11 @@ returns-in_default-clause-only c = λ version s h. absurd (no_body c.args.bytes.
 
 pub returns-then-tag-ne-IMAGE_TAG-clause-only : goal.returns-then-tag-ne-IMAGE_TAG-clause-only
 returns-then-tag-ne-IMAGE_TAG-clause-only c = λ version s h.
-    absurd (omega (arith, c.if-tag-ne-IMAGE_TAG.true,
-    body_tag c.args.bytes.now c.in-Some.image.now c.in-Some.tag.now version s c.in-Some.ensures.cases.0 h))
+    absurd (omega (
+      arith,
+      c.if-tag-ne-IMAGE_TAG.true,
+      body_tag c.args.bytes.now c.in-Some.image.now c.in-Some.tag.now version s c.in-Some.ensures.cases.0 h,
+    ))
 
 pub returns-clause-found : goal.returns-clause-found
 returns-clause-found c =
