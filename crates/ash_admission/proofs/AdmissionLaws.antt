@@ -1,6 +1,6 @@
 -- The test of what is stored, and what the sources are read as.
-use Rattle.std.proofs.Common.{◌≡◌, ℕ, Bool, true, false, List, [], ◌∷◌, refl, sym, ap, subst, ◌∙◌, map, if◌then◌else◌}
-use Rattle.std.specs.Prelude.{Option, Some, None, Result, Ok, Err, option_map, find, ◌&&◌, ◌↔◌}
+use Rattle.std.proofs.Common.{◌≡◌, ℕ, Bool, true, false, List, [], ◌∷◌, refl, sym, subst, ◌∙◌, map, if◌then◌else◌}
+use Rattle.std.specs.Prelude.{Some, Result, Ok, option_map, find, ◌↔◌}
 use Rattle.std.specs.List.{AllByRecursion, list_all}
 use Rattle.std.specs.Option.{option_and_then}
 use Rattle.std.specs.Str.{bytes_eq}
@@ -11,8 +11,8 @@ use Rattle.ash_host.proofs.Membership.{and_both, both_and}
 use Rattle.ash_typed.specs.Modules.{Module, module_of}
 use Rattle.ash_typed.specs.Signatures.{Host, types_of_globals}
 use Rattle.ash_phrases.specs.Classes.{Program}
-use Rattle.ash_wellformed.specs.WellFormed.{Known, AreValues, AreObjects, AreOffered}
-use Rattle.ash_steps.specs.States.{Embedding, LoadedModule as Loaded, has_name}
+use Rattle.ash_wellformed.specs.WellFormed.{Known, AreValues, AreObjects}
+use Rattle.ash_steps.specs.States.{Embedding, has_name}
 use Rattle.ash_steps.specs.Tasks.{tree_of}
 use Rattle.ash_plain_steps.specs.declared.state.LoadedModule.{LoadedModule}
 use Rattle.ash_plain_steps.specs.StateViews.{loaded_seen, modules_seen}
@@ -86,5 +86,5 @@ module _ {Fault : Type 0} (embedding : Embedding Fault) where
     pub as_read : (host : Host) (ms : List LoadedModule) → AreConsistent embedding ms → IsWellTyped host ms all ↔ IsWellTypedAsRead embedding host (modules_seen ms) all
     as_read host ms h = (
       λ w. (loaded_from ms h.read w.0, subst (λ (k : Known). AreObjects k all) (known_as_read ms h) w.1, w.2),
-      λ w. (loaded_to ms h.read w.0, subst (λ (k : Known). AreObjects k all) (sym (known_as_read ms h)) w.1, w.2)
+      λ w. (loaded_to ms h.read w.0, subst (λ (k : Known). AreObjects k all) (sym (known_as_read ms h)) w.1, w.2),
     )

@@ -1,7 +1,7 @@
 -- The tests of objects decide what objects are, where the host constructs none.
-use Rattle.std.proofs.Common.{◌≡◌, ◌≤◌, ℕ, Bool, true, false, List, [], ◌∷◌, length, refl, sym, ap, subst, ◌∙◌, nat_eq, nat_le, map}
-use Rattle.std.specs.Prelude.{Option, Some, None, Contains, slice_get, option_map, IsSome, is_some, if◌then◌else◌, ◌&&◌}
-use Rattle.std.specs.List.{list_all, AllByRecursion}
+use Rattle.std.proofs.Common.{◌≡◌, ℕ, Bool, true, false, List, [], ◌∷◌, length, refl, ap, subst, ◌∙◌, nat_eq, nat_le, map}
+use Rattle.std.specs.Prelude.{Option, Some, None, Contains, option_map, IsSome, is_some, if◌then◌else◌}
+use Rattle.std.specs.List.{list_all}
 use Rattle.std.specs.Option.{option_map_or}
 use Rattle.std.proofs.lemmas.Option.{same_Some}
 use Rattle.ash_host.specs.declared.word.Word.{Word}
@@ -10,7 +10,7 @@ use Rattle.ash_host.specs.Limits.{max_elements}
 use Rattle.ash_host.proofs.Membership.{and_both, both_and}
 use Rattle.ash_host.proofs.Order.{object_here, object_later, none_after, in_order_after}
 use Rattle.ash_tree.specs.declared.tree.types.Primitive.{Primitive}
-use Rattle.ash_typed.specs.Modules.{Class, Module}
+use Rattle.ash_typed.specs.Modules.{Class}
 use Rattle.ash_typed.specs.Signatures as signatures
 use Rattle.ash_typed.specs.Signatures.{type_declared}
 use Rattle.ash_phrases.specs.Classes.{Program}
@@ -115,7 +115,7 @@ module _ (ps : List Program) (all : Objects (List ℕ)) (host : signatures.Host)
   pub objects_say : are_objects ps all ≡ true → AreObjects (known_in ps) all × AreOffered host all
   objects_say h = (
     record { each = λ number o at. object_says ps all o (found_from (is_object ps all) number all o h at) },
-    record { each = λ number kind at. absurd (none_of_kind number kind (object_at number all) refl h at) }
+    record { each = λ number kind at. absurd (none_of_kind number kind (object_at number all) refl h at) },
   )
 
   pub objects_yes : IsInOrder all → AreObjects (known_in ps) all → AreOffered host all → are_objects ps all ≡ true

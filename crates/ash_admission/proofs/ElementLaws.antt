@@ -1,6 +1,6 @@
 -- The tests of arrays decide what arrays are.
-use Rattle.std.proofs.Common.{◌≡◌, ◌<◌, ◌≤◌, ◌+◌, ◌⊎◌, inl, inr, ℕ, zero, suc, Bool, true, false, List, [], ◌∷◌, length, refl, sym, ap, subst, ◌∙◌, nat_eq, if◌then◌else◌, arith}
-use Rattle.std.specs.Prelude.{Option, Some, None, slice_get, is_some, find, option_map, ◌&&◌, ◌||◌}
+use Rattle.std.proofs.Common.{◌≡◌, ◌≤◌, ◌+◌, inl, inr, ℕ, zero, suc, Bool, true, false, List, [], ◌∷◌, length, refl, sym, ap, subst, ◌∙◌, nat_eq, if◌then◌else◌, arith}
+use Rattle.std.specs.Prelude.{Option, Some, None, slice_get, is_some, option_map, ◌&&◌}
 use Rattle.std.specs.List.{list_all}
 use Rattle.std.specs.Option.{option_map_or}
 use Rattle.std.specs.Str.{bytes_eq}
@@ -25,10 +25,10 @@ use Rattle.ash_wellformed.specs.WellFormed.{Shape, OfKind, IsOfClass, IsOf, IsNa
 use Rattle.ash_admission.specs.Places.{class_at, is_of_place, is_of_kind, is_of}
 use Rattle.ash_admission.specs.Values.{is_truth, is_integer, is_reference}
 use Rattle.ash_admission.specs.Contents.{program_of_name, known_in, are_of_class, any_interface, are_handles, are_elements}
-use Rattle.ash_admission.proofs.Tests.{same_text, some_within, within_some, got_within}
+use Rattle.ash_admission.proofs.Tests.{same_text, within_some, got_within}
 use Rattle.ash_admission.proofs.PlaceLaws.{class_there, class_found}
 use Rattle.ash_admission.proofs.ShapeLaws.{place_says, place_yes, kind_says, kind_yes, of_says, of_yes}
-use Rattle.ash_admission.proofs.ValueLaws.{integer_says, integer_yes, reference_says, reference_yes, truth_says, value_yes, all_say, all_yes}
+use Rattle.ash_admission.proofs.ValueLaws.{integer_says, reference_says, reference_yes, truth_says, value_yes, all_say, all_yes}
 
 -- the module of a name
 

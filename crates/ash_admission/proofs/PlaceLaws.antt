@@ -1,6 +1,6 @@
 -- The class at a place of the source.
 use Rattle.std.proofs.Common.{◌≡◌, ◌+◌, ℕ, zero, suc, Bool, true, false, List, [], ◌∷◌, refl, sym, ap, ◌∙◌, nat_eq, if◌then◌else◌, arith}
-use Rattle.std.specs.Prelude.{Option, Some, None, slice_get}
+use Rattle.std.specs.Prelude.{Some, slice_get}
 use Rattle.std.proofs.lemmas.Bool.{eqb-true, eq-eqb}
 use Rattle.ash_typed.specs.Modules.{Class, Module}
 use Rattle.ash_phrases.specs.Classes.{place_of_class}

@@ -1,6 +1,6 @@
 -- The tests of shapes decide what shapes are of.
-use Rattle.std.proofs.Common.{◌≡◌, ◌<◌, ◌+◌, ℕ, Bool, true, false, List, length, refl, sym, ap, subst, ◌∙◌, nat_eq, map, arith}
-use Rattle.std.specs.Prelude.{Option, Some, None, Contains, slice_get, is_some, ◌&&◌}
+use Rattle.std.proofs.Common.{◌≡◌, ◌<◌, ◌+◌, ℕ, true, false, List, length, refl, sym, ap, subst, ◌∙◌, nat_eq, map}
+use Rattle.std.specs.Prelude.{Option, Some, None, slice_get, is_some, ◌&&◌}
 use Rattle.std.specs.Option.{option_map_or}
 use Rattle.std.specs.Str.{bytes_eq}
 use Rattle.std.proofs.lemmas.Bool.{eqb-true, eq-eqb}
@@ -14,7 +14,7 @@ use Rattle.ash_typed.specs.declared.types.ObjectType.TheVariants as objects
 use Rattle.ash_typed.specs.Modules.{Interface, Class, Module}
 use Rattle.ash_typed.specs.Signatures as signatures
 use Rattle.ash_phrases.specs.Classes.{Program, place_of_class, place_of_interface, element_of}
-use Rattle.ash_wellformed.specs.WellFormed.{Shape, OfClass, OfElements, OfKind, IsOfClass, Implements, IsNamed, IsArrayOf, IsOf}
+use Rattle.ash_wellformed.specs.WellFormed.{Shape, OfClass, OfElements, OfKind, IsOfClass, Implements, IsNamed, IsOf}
 use Rattle.ash_admission.specs.Places.{class_at, is_class_at, is_interface_at, lists, implements, is_of_place, is_of_kind, is_element, is_of}
 use Rattle.ash_admission.proofs.Tests.{same_text, text_itself, some_within, within_some, got_within}
 use Rattle.ash_admission.proofs.PlaceLaws.{class_there, class_found}

@@ -1,8 +1,7 @@
 -- Tests of numbers and lists, and what they say.
-use Rattle.std.proofs.Common.{◌≡◌, ◌<◌, ◌≤◌, ◌+◌, ℕ, zero, suc, Bool, true, false, List, [], ◌∷◌, length, refl, ap, ◌∙◌, nat_lt, nat_le, arith}
-use Rattle.std.specs.Prelude.{Option, Some, None, Contains, slice_get, is_some}
+use Rattle.std.proofs.Common.{◌≡◌, ◌<◌, ◌≤◌, ℕ, zero, suc, true, List, [], ◌∷◌, length, refl, ap, nat_lt, nat_le, arith}
+use Rattle.std.specs.Prelude.{Some, Contains, slice_get, is_some}
 use Rattle.std.proofs.lemmas.Bool.Decides.{nat_tests}
-use Rattle.ash_host.proofs.Membership.{and_both, both_and}
 use Rattle.ash_host.proofs.RecordLaws.{bytes_decide}
 use Rattle.std.specs.Str.{bytes_eq}
 

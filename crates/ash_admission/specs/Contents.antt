@@ -8,7 +8,7 @@ use Rattle.ash_host.specs.Objects.{Element, Bools, Ints, Uints, Int64s, Uint64s,
 use Rattle.ash_host.specs.Limits.{max_elements}
 use Rattle.ash_integers.specs.declared.int_type.IntType.TheVariants as ints
 use Rattle.ash_typed.specs.declared.types.ObjectType.TheVariants as objects
-use Rattle.ash_typed.specs.Modules.{Interface, Class, Module}
+use Rattle.ash_typed.specs.Modules.{Interface, Class}
 use Rattle.ash_typed.specs.Signatures.{type_declared}
 use Rattle.ash_phrases.specs.Classes.{Program}
 use Rattle.ash_wellformed.specs.WellFormed.{Known}

@@ -39,12 +39,7 @@ fn is_script(loaded: &LoadedModule, objects: &Objects, place: usize, fields: &[W
 }
 
 /// Whether words are of what an array says of its elements.
-fn are_elements(
-    modules: &[LoadedModule],
-    objects: &Objects,
-    of: &Element,
-    words: &[Word],
-) -> bool
+fn are_elements(modules: &[LoadedModule], objects: &Objects, of: &Element, words: &[Word]) -> bool
     ensures { result
         ≡ are_elements (map program_of modules.now) objects.now (element_seen of.now) words.now }
 {

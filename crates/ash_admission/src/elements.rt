@@ -100,12 +100,7 @@ fn are_of_class(loaded: &LoadedModule, objects: &Objects, place: usize, words: &
 }
 
 /// Whether words are handles of objects of a type of the module.
-fn are_references(
-    loaded: &LoadedModule,
-    objects: &Objects,
-    of: ObjectType,
-    words: &[Word],
-) -> bool
+fn are_references(loaded: &LoadedModule, objects: &Objects, of: ObjectType, words: &[Word]) -> bool
     ensures { result
         ≡ list_all (is_reference objects.now (is_of (program_of loaded.now) of)) words.now }
 {

@@ -1,4 +1,3 @@
-use Rattle.std.proofs.Common.{◌≡◌}
 use Rattle.ash_admission.specs.Admission.{program_of}
 use Rattle.ash_admission.proofs.ValueLoops.{variable_more, variables_end}
 use Rattle.ash_admission.proofs.values.after_values.Goals as goal

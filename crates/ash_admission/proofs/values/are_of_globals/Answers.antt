@@ -1,4 +1,4 @@
-use Rattle.std.proofs.Common.{◌≡◌, ◌∙◌}
+use Rattle.std.proofs.Common.{◌∙◌}
 use Rattle.ash_admission.specs.Admission.{program_of}
 use Rattle.ash_admission.proofs.ValueLoops.{declaration_more, declarations_end, none_left}
 use Rattle.ash_admission.proofs.values.are_of_globals.Goals as goal
