@@ -119,11 +119,7 @@ impl ReadSources for Sources<'_> {
     ghost TakesMemory = { TakesMemoryToFind };
 
     #[tactic(auto, using(crate::proofs::SourceLaws::memory_refused))]
-    fn read(
-        &self,
-        alloc: Global,
-        source: &[u8],
-    ) -> Result<Result<Tree, SourceFault>, AllocError> {
+    fn read(&self, alloc: Global, source: &[u8]) -> Result<Result<Tree, SourceFault>, AllocError> {
         match self.read_tree(alloc, source) {
             Ok(tree) => Ok(Ok(tree)),
             Err(SourceError::Fault(fault)) => Ok(Err(fault)),
