@@ -1,15 +1,17 @@
 -- Entries of objects, as the code has them and as the definitions see them.
-use Rattle.std.proofs.Common.{◌≡◌, ℕ, Bool, true, false, cond, not, List, [], ◌∷◌, ◌++◌, refl, sym, ap, ◌∙◌, nat_eq, arith, Option, Some, None, map}
+use Rattle.std.proofs.Common.{◌≡◌, ℕ, Bool, true, false, cond, not, List, [], ◌∷◌, ◌++◌, refl, sym, ap, subst, ◌∙◌, nat_eq, arith, Option, Some, None, map}
 use Rattle.std.specs.Prelude.{filter, ◌&&◌}
 use Rattle.std.specs.Borrow.{Bor}
 use Rattle.std.specs.Option.{option_map, option_copied}
-use Rattle.std.specs.Map.{lookup}
+use Rattle.std.specs.List.Sorted.{IsStrictlySortedBy}
+use Rattle.std.specs.Map.{lookup, keys_of}
 use Rattle.std.specs.Ordering.{nat_cmp, match_ordering}
 use Rattle.std.specs.declared.cmp.Ordering.{Ordering}
 use Rattle.std.proofs.Common.{Less, Equal, Greater}
 use Rattle.std.specs.BTreeMap.{is_at, insert_entry}
 use Rattle.std.proofs.lemmas.Bool.Decides.{nat_tests}
-use Rattle.ash_host.specs.Objects.{Plain, Objects, object_at, with_at}
+use Rattle.std.proofs.lemmas.Map.Keys.{IsStrictlyIncreasing-from_sorted}
+use Rattle.ash_host.specs.Objects.{Plain, Objects, IsInOrder, object_at, with_at}
 use Rattle.ash_plain_data.specs.declared.object.Object as object
 use Rattle.ash_plain_data.specs.ObjectViews.{object_seen, entry_seen}
 
@@ -52,3 +54,11 @@ seen_filter p (e ∷ es) =
     kept : (b : Bool) → map entry_seen (cond b (e ∷ filter (λ (x : ℕ × object.Object). p x.0) es) (filter (λ (x : ℕ × object.Object). p x.0) es)) ≡ cond b (entry_seen e ∷ map entry_seen (filter (λ (x : ℕ × object.Object). p x.0) es)) (map entry_seen (filter (λ (x : ℕ × object.Object). p x.0) es))
     kept true = refl
     kept false = refl
+
+seen_numbers : (es : List (ℕ × object.Object)) → keys_of (map entry_seen es) ≡ keys_of es
+seen_numbers [] = refl
+seen_numbers (e ∷ es) = ap (λ (ns : List ℕ). e.0 ∷ ns) (seen_numbers es)
+
+-- entries whose keys ascend are in order
+pub seen_in_order : (es : List (ℕ × object.Object)) → IsStrictlySortedBy nat_cmp (keys_of es) → IsInOrder (map entry_seen es)
+seen_in_order es h = IsStrictlyIncreasing-from_sorted (keys_of (map entry_seen es)) (subst (IsStrictlySortedBy nat_cmp) (sym (seen_numbers es)) h)

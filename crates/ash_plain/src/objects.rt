@@ -18,6 +18,8 @@ use std::alloc::{AllocError, Global};
 use std::collections::BTreeMap;
 use std::marker::Model;
 
+mod iteration;
+
 /// The objects that live, by their numbers.
 #[derive(Drop)]
 pub struct Objects {

@@ -1,26 +1,26 @@
 -- What the examples are read as. What follows the text is computed; that a text is UTF-8 is not, and is shown apart.
-use Rattle.std.proofs.Common.{◌≡◌, ℕ, zero, suc, ◌<◌, Bool, true, false, cond, ltb, eqb, List, [], ◌∷◌, ◌++◌, length, get_or, Option, Some, None}
-use Rattle.std.proofs.Common.{sym, ap, subst, ◌∙◌, inl, inr, nat_eq, arith}
-use Rattle.std.specs.Prelude.{Contains}
+use Rattle.std.proofs.Common.{◌≡◌, ℕ, zero, suc, ◌<◌, ◌^◌, ◌&&◌, Bool, true, false, cond, ltb, leb, eqb, List, [], ◌∷◌, ◌++◌, length, get_or}
+use Rattle.std.proofs.Common.{Option, Some, None, refl, sym, ap, ◌∙◌, arith}
 use Rattle.std.specs.List.{list_all}
-use Rattle.std.proofs.lemmas.Bool.{ltb-true, eqb-true}
+use Rattle.std.proofs.lemmas.Bool.{ltb-true, leb-true}
 use Rattle.std.proofs.lemmas.Str.{IsUtf8-from_ascii}
-use Rattle.ash_host.specs.Objects.{Plain, Objects, numbers, references, Lives}
-use Rattle.ash_host.specs.Reach.{ReachableIn, Root, Field, is_among}
-use Rattle.ash_host.proofs.Membership.{or_cases, is_among_yes, is_among_says, is_among-numbers}
+use Rattle.ash_host.specs.Objects.{Plain, numbers}
+use Rattle.ash_host.specs.Reach.{is_reachable}
+use Rattle.ash_host.proofs.Membership.{and_both, both_and}
+use Rattle.ash_host.proofs.ObjectLaws.{reach_is_decided}
 use Rattle.ash_state_image.specs.declared.version.Version.{Version}
 use Rattle.ash_state_image.specs.Fields.{number, text, ◌>>=◌, pair_at, number_at, whole}
 use Rattle.ash_state_image.specs.Snapshots.{Loaded, Snapshot}
-use Rattle.ash_state_image.specs.Image.{FitsText, version_number}
-use Rattle.ash_state_image.specs.ImageReading.{modules_at, services_at, objects_at, snapshot_at, image_at}
+use Rattle.ash_state_image.specs.Image.{FitsText, max_text_bytes, version_number}
+use Rattle.ash_state_image.specs.ImageReading.{is_text, registered_at, modules_at, services_at, objects_at, snapshot_at, image_at}
 use Rattle.ash_state_image.specs.Rules.{IsImage, AreReached, held_by, is_whole}
-use Rattle.ash_state_image.specs.Examples.{IsDamaged}
+use Rattle.ash_state_image.specs.Examples.{IsSomeImage, IsDamaged}
 use Rattle.ash_state_image.proofs.Numbers.{IsBytes}
 use Rattle.ash_state_image.proofs.NameLaws.{both}
-use Rattle.ash_state_image.proofs.FieldLaws.{some_is}
+use Rattle.ash_state_image.proofs.FieldLaws.{text_field}
 use Rattle.ash_state_image.proofs.ImageLaws.{is_spelled, is_read, version_again, registered_field}
 use Rattle.ash_state_image.proofs.OrderLaws.{increasing}
-use Rattle.ash_state_image.proofs.RuleLaws.{rules_say, rules_kept}
+use Rattle.ash_state_image.proofs.RuleLaws.{rules_say, rules_kept, passes_at, all_pass, alive_is, is_alive}
 
 -- ---- bytes and texts
 
@@ -33,18 +33,37 @@ bytes_are [] e i = omega arith
 bytes_are (b ∷ more) e zero = ltb-true b 256 (both (ltb b 256) (are_bytes more) e).0
 bytes_are (b ∷ more) e (suc i) = bytes_are more (both (ltb b 256) (are_bytes more) e).1 i
 
-no_code : (i : ℕ) → get_or [] i 0 < 128
-no_code i = omega arith
+-- each is below 128
+abbrev pub are_ascii : List ℕ → Bool
+are_ascii codes = list_all (λ c. ltb c 128) codes
 
-pub no_text_fits : FitsText []
-no_text_fits = record { utf8 = IsUtf8-from_ascii [] no_code; short = omega arith }
+ascii_are : (codes : List ℕ) → are_ascii codes ≡ true → (i : ℕ) → get_or codes i 0 < 128
+ascii_are [] e i = omega arith
+ascii_are (c ∷ more) e zero = ltb-true c 128 (both (ltb c 128) (are_ascii more) e).0
+ascii_are (c ∷ more) e (suc i) = ascii_are more (both (ltb c 128) (are_ascii more) e).1 i
 
-one_code : (i : ℕ) → get_or (116 ∷ []) i 0 < 128
-one_code zero = omega arith
-one_code (suc i) = no_code i
+pub ascii_fits : (t : List ℕ) → are_ascii t ≡ true → leb (length t) max_text_bytes ≡ true → FitsText t
+ascii_fits t ascii short = record { utf8 = IsUtf8-from_ascii t (ascii_are t ascii); short = leb-true _ _ short }
 
-pub text_fits : FitsText (116 ∷ [])
-text_fits = record { utf8 = IsUtf8-from_ascii (116 ∷ []) one_code; short = omega arith }
+-- ---- what keeps the rules
+
+unfoldable pub all_reached : Snapshot → Bool
+all_reached s = list_all (is_reachable (held_by s.modules) s.objects) (numbers s.objects)
+
+reached_says : (s : Snapshot) → all_reached s ≡ true → AreReached s
+unfolding all_reached
+reached_says s e n lives =
+    (reach_is_decided ℕ (held_by s.modules) s.objects n).0
+    (passes_at (is_reachable (held_by s.modules) s.objects) (numbers s.objects) n e (is_alive s.objects n lives))
+
+reached_yes : (s : Snapshot) → AreReached s → all_reached s ≡ true
+unfolding all_reached
+reached_yes s reached =
+    all_pass (is_reachable (held_by s.modules) s.objects) (numbers s.objects)
+    (λ n among. (reach_is_decided ℕ (held_by s.modules) s.objects n).1 (reached n (alive_is s.objects n among)))
+
+abbrev pub keeps : Snapshot → Bool
+keeps s = is_whole s && all_reached s
 
 -- ---- what follows the text
 
@@ -92,17 +111,33 @@ read_is v t rest fits =
     ∙ ap (λ (o : Option (List ℕ × List ℕ)). ((o >>= pair_with v >>= as_snapshot) >>= with_version v) >>= at_end)
     (registered_field.again t rest fits)
 
-pub image_by_reading : (v : Version) (t rest : List ℕ) (s : Snapshot) → FitsText t
-    → are_bytes (image_bytes v t rest) ≡ true → read_rest v t rest ≡ Some (v, s) → is_whole s ≡ true → AreReached s
-    → IsImage (image_bytes v t rest) v s
-image_by_reading v t rest s fits ok e whole reached =
-    let spelled = is_spelled (image_bytes v t rest) (v, s) (bytes_are (image_bytes v t rest) ok) (read_is v t rest fits ∙ e) in (
+-- whether something is read, and it keeps the rules
+abbrev pub read_keeps : Option (Version × Snapshot) → Bool
+read_keeps None = false
+read_keeps (Some x) = keeps x.1
+
+pub image_by_test : (v : Version) (t rest : List ℕ) (x : Version × Snapshot) → FitsText t
+    → are_bytes (image_bytes v t rest) ≡ true → read_rest v t rest ≡ Some x → keeps x.1 ≡ true
+    → IsImage (image_bytes v t rest) x.0 x.1
+image_by_test v t rest x fits ok e test =
+    let spelled = is_spelled (image_bytes v t rest) x (bytes_are (image_bytes v t rest) ok) (read_is v t rest fits ∙ e) in
+    let both = and_both (is_whole x.1) (all_reached x.1) test in (
       spelled,
       record {
-        whole = rules_say s (increasing (numbers s.objects) spelled.0.objects.order) whole;
-        reached = reached;
+        whole = rules_say x.1 (increasing (numbers x.1.objects) spelled.0.objects.order) both.0;
+        reached = reached_says x.1 both.1;
       },
     )
+
+some_image : (v : Version) (t rest : List ℕ) → FitsText t → are_bytes (image_bytes v t rest) ≡ true
+    → (read : Option (Version × Snapshot)) → read_rest v t rest ≡ read → read_keeps read ≡ true
+    → IsSomeImage (image_bytes v t rest)
+some_image v t rest fits ok None e test = absurd cc
+some_image v t rest fits ok (Some x) e test = (x.0, x.1, image_by_test v t rest x fits ok e test)
+
+pub some_image_by_test : (v : Version) (t rest : List ℕ) → FitsText t → are_bytes (image_bytes v t rest) ≡ true
+    → read_keeps (read_rest v t rest) ≡ true → IsSomeImage (image_bytes v t rest)
+some_image_by_test v t rest fits ok test = some_image v t rest fits ok (read_rest v t rest) refl test
 
 none_some : {A : Type 0} (x : A) → None ≡ Some x → ⊥
 none_some x e = absurd cc
@@ -110,67 +145,26 @@ none_some x e = absurd cc
 pub damaged_at_once : (bytes : List ℕ) → whole image_at bytes ≡ None → IsDamaged bytes
 damaged_at_once bytes e version s h = none_some (version, s) (sym e ∙ is_read bytes version s h.0)
 
-pub damaged_by_reading : (v : Version) (t rest : List ℕ) → FitsText t → read_rest v t rest ≡ None
-    → IsDamaged (image_bytes v t rest)
-damaged_by_reading v t rest fits e = damaged_at_once (image_bytes v t rest) (read_is v t rest fits ∙ e)
-
--- what is read is not of another state
-same_read : (v : Version) (t rest : List ℕ) (s u : Snapshot) (w : Version) → FitsText t → read_rest v t rest ≡ Some (v, s)
-    → IsImage (image_bytes v t rest) w u → s ≡ u
-same_read v t rest s u w fits e h =
-    ap (λ (x : Version × Snapshot). x.1)
-    (some_is (v, s) (w, u) (sym (read_is v t rest fits ∙ e) ∙ is_read (image_bytes v t rest) w u h.0))
-
 never : (b : Bool) → b ≡ false → b ≡ true → ⊥
 never b breaks holds = absurd cc
 
-pub damaged_by_rules : (v : Version) (t rest : List ℕ) (s : Snapshot) → FitsText t → read_rest v t rest ≡ Some (v, s)
-    → is_whole s ≡ false → IsDamaged (image_bytes v t rest)
-damaged_by_rules v t rest s fits e breaks w u h =
-    never (is_whole s) breaks
-    (subst (λ (x : Snapshot). is_whole x ≡ true) (sym (same_read v t rest s u w fits e h)) (rules_kept u h.1.whole))
+pub damaged_by_test : (v : Version) (t rest : List ℕ) → FitsText t → read_keeps (read_rest v t rest) ≡ false
+    → IsDamaged (image_bytes v t rest)
+damaged_by_test v t rest fits test w u h =
+    let is : read_rest v t rest ≡ Some (w, u) =
+    sym (read_is v t rest fits) ∙ is_read (image_bytes v t rest) w u h.0 in
+    let breaks : keeps u ≡ false = sym (ap read_keeps is) ∙ test in
+    never (keeps u) breaks (both_and (is_whole u) (all_reached u) (rules_kept u h.1.whole) (reached_yes u h.1.reached))
 
-pub damaged_by_reach : (v : Version) (t rest : List ℕ) (s : Snapshot) → FitsText t → read_rest v t rest ≡ Some (v, s)
-    → (AreReached s → ⊥) → IsDamaged (image_bytes v t rest)
-damaged_by_reach v t rest s fits e breaks w u h =
-    breaks (subst (λ (x : Snapshot). AreReached x) (sym (same_read v t rest s u w fits e h)) h.1.reached)
-
--- ---- what is reachable
-
-none_contained : (n : ℕ) → is_among [] n ≡ true → ⊥
-none_contained n h = absurd cc
-
--- where nothing is held, nothing is reachable
-nothing_reached : (objects : Objects ℕ) (n : ℕ) → ReachableIn (Contains []) objects n → ⊥
-nothing_reached objects n (Root held) = none_contained n (is_among_yes n [] held)
-nothing_reached objects n (Field {one} {other} before refer) = nothing_reached objects one before
-
-pub unheld : (s : Snapshot) (n : ℕ) → held_by s.modules ≡ [] → Lives s.objects n → AreReached s → ⊥
-unheld s n none lives reached =
-    nothing_reached s.objects n (subst (λ (held : List ℕ). ReachableIn (Contains held) s.objects n) none (reached n lives))
-
--- where no object lives, each can be reached
-pub none_to_reach : (s : Snapshot) → numbers s.objects ≡ [] → AreReached s
-none_to_reach s none n lives =
-    absurd (none_contained n (subst (λ (ns : List ℕ). is_among ns n ≡ true) none (is_among-numbers n s.objects ∙ lives)))
-
--- the first object is held, and refers to the second
-first_of : (s : Snapshot) → is_among (held_by s.modules) 1 ≡ true → ReachableIn (Contains (held_by s.modules)) s.objects 1
-first_of s held = Root (is_among_says 1 (held_by s.modules) held)
-
-next_of : (s : Snapshot) (n : ℕ) → is_among (held_by s.modules) 1 ≡ true → is_among (references s.objects 1) n ≡ true
-    → ReachableIn (Contains (held_by s.modules)) s.objects n
-next_of s n held refers = Field (first_of s held) (is_among_says n (references s.objects 1) refers)
-
--- where each object but the first is referred to by the first, which is held
-pub one_then_others : (s : Snapshot) (others : List ℕ) → is_among (held_by s.modules) 1 ≡ true
-    → numbers s.objects ≡ 1 ∷ others
-    → ((n : ℕ) → is_among others n ≡ true → is_among (references s.objects 1) n ≡ true)
-    → AreReached s
-one_then_others s others held are refers n lives =
-    elim (or_cases (nat_eq n 1) (is_among others n)
-    (subst (λ (ns : List ℕ). is_among ns n ≡ true) are (is_among-numbers n s.objects ∙ lives))) [
-      | inl here ↦ subst (λ (m : ℕ). ReachableIn (Contains (held_by s.modules)) s.objects m) (sym (eqb-true n 1 here))
-          (first_of s held)
-      | inr later ↦ next_of s n held (refers n later)
-    ]
+-- a text that is none is not read
+pub damaged_by_text : (v : Version) (t rest : List ℕ) → length t < 256 ^ 4 → is_text t ≡ false
+    → IsDamaged (image_bytes v t rest)
+unfolding image_at snapshot_at registered_at
+damaged_by_text v t rest short not_text =
+    let unread : registered_at (text 4 t ++ rest) ≡ None =
+    ap (λ (o : Option (List ℕ × List ℕ)). o >>= λ y. cond (is_text y.0) (Some y) None) ((text_field 4).again t rest short)
+    ∙ ap (λ (b : Bool). cond b (Some (t, rest)) None) not_text in
+    damaged_at_once (image_bytes v t rest)
+    (ap (λ (o : Option (Version × List ℕ)). (o >>= λ x. snapshot_at x.0 x.1 >>= with_version x.0) >>= at_end)
+    (version_again v (text 4 t ++ rest) tt)
+    ∙ ap (λ (o : Option (List ℕ × List ℕ)). ((o >>= pair_with v >>= as_snapshot) >>= with_version v) >>= at_end) unread)

@@ -1,10 +1,12 @@
 pub mod Appended
+pub mod BodyLaws
 pub mod ExampleLaws
 pub mod FieldLaws
 pub mod ImageLaws
 pub mod ItemLoop
-pub mod Lengths
+pub mod ImageLengths
 pub mod Listed
+pub mod MoveLaws
 pub mod NameLaws
 pub mod Numbers
 pub mod ObjectLaws

@@ -2,6 +2,7 @@
 use Rattle.std.proofs.Common.{◌≡◌, ℕ, ◌<◌, ◌≤◌, ◌&&◌, Bool, true, false, ltb, leb, List, [], ◌∷◌, length, refl, sym, ap, subst, ◌∙◌}
 use Rattle.std.proofs.Common.{inl, inr, nat_eq, arith}
 use Rattle.std.specs.Prelude.{Option, None, Some, IsSome, ◌↔◌}
+use Rattle.std.specs.Bool.{IsTrue}
 use Rattle.std.specs.List.{flat_map, list_all, AllByRecursion}
 use Rattle.std.specs.Option.{option_map_or}
 use Rattle.std.proofs.lemmas.Bool.{ltb-true, leb-true, lt-ltb, le-leb, eqb-true, eq-eqb}
@@ -16,13 +17,13 @@ use Rattle.ash_host.proofs.Order.{object_here, object_later, none_after, in_orde
 use Rattle.ash_state_image.specs.Snapshots.{Loaded, Snapshot}
 use Rattle.ash_state_image.proofs.FieldLaws.{some_is}
 use Rattle.ash_state_image.specs.Rules.{KeepsRules, AreReached}
-use Rattle.ash_state_image.specs.Rules.{held_by, IsPlaced, IsWhole, is_given, is_placed, module_lives, object_lives}
-use Rattle.ash_state_image.specs.Rules.{is_whole}
+use Rattle.ash_state_image.specs.Rules.{held_by, IsPlaced, IsWhole, is_given, is_placed, are_elements, module_lives}
+use Rattle.ash_state_image.specs.Rules.{object_lives, is_linked, is_whole}
 
 -- ---- lists
 
 -- each member passes a test that all pass
-passes_at : (p : ℕ → Bool) (ns : List ℕ) (n : ℕ) → list_all p ns ≡ true → is_among ns n ≡ true → p n ≡ true
+pub passes_at : (p : ℕ → Bool) (ns : List ℕ) (n : ℕ) → list_all p ns ≡ true → is_among ns n ≡ true → p n ≡ true
 passes_at p [] n all among = absurd cc
 passes_at p (m ∷ ns) n all among =
     let both = and_both (p m) (list_all p ns) all in
@@ -31,16 +32,16 @@ passes_at p (m ∷ ns) n all among =
       | inr later ↦ passes_at p ns n both.1 later
     ]
 
-all_pass : (p : ℕ → Bool) (ns : List ℕ) → ((n : ℕ) → is_among ns n ≡ true → p n ≡ true) → list_all p ns ≡ true
+pub all_pass : (p : ℕ → Bool) (ns : List ℕ) → ((n : ℕ) → is_among ns n ≡ true → p n ≡ true) → list_all p ns ≡ true
 all_pass p [] each = refl
 all_pass p (m ∷ ns) each =
     both_and (p m) (list_all p ns) (each m (or_first (nat_eq m m) (is_among ns m) (eq-eqb m m refl)))
     (all_pass p ns (λ n among. each n (or_second (nat_eq n m) (is_among ns n) among)))
 
-alive_is : (objects : Objects ℕ) (n : ℕ) → is_among (numbers objects) n ≡ true → Lives objects n
+pub alive_is : (objects : Objects ℕ) (n : ℕ) → is_among (numbers objects) n ≡ true → Lives objects n
 alive_is objects n among = sym (is_among-numbers n objects) ∙ among
 
-is_alive : (objects : Objects ℕ) (n : ℕ) → Lives objects n → is_among (numbers objects) n ≡ true
+pub is_alive : (objects : Objects ℕ) (n : ℕ) → Lives objects n → is_among (numbers objects) n ≡ true
 is_alive objects n lives = is_among-numbers n objects ∙ lives
 
 -- ---- numbers
@@ -108,6 +109,16 @@ all_placed count [] all = refl
 all_placed count (e ∷ objects) all =
     both_and (is_placed count e.1) (list_all (λ (o : ℕ × Plain ℕ). is_placed count o.1) objects)
     (placed_yes count e.1 all.0) (all_placed count objects all.1)
+
+-- ---- elements of arrays
+
+each_true : {A : Type 0} (p : A → Bool) (xs : List A) → list_all p xs ≡ true → AllByRecursion (λ (x : A). IsTrue (p x)) xs
+each_true p [] all = tt
+each_true p (x ∷ xs) all = let both = and_both (p x) (list_all p xs) all in (both.0, each_true p xs both.1)
+
+all_true : {A : Type 0} (p : A → Bool) (xs : List A) → AllByRecursion (λ (x : A). IsTrue (p x)) xs → list_all p xs ≡ true
+all_true p [] each = refl
+all_true p (x ∷ xs) each = both_and (p x) (list_all p xs) each.0 (all_true p xs each.1)
 
 -- ---- handles of globals
 
@@ -177,7 +188,8 @@ all_live_where alive (e ∷ objects) order each =
 
 pub rules_say : (s : Snapshot) → IsInOrder s.objects → is_whole s ≡ true → IsWhole s
 rules_say s order e =
-    let given = and_both (list_all (is_given s.last) s.objects) _ e in
+    let typed = and_both (list_all (λ (o : ℕ × Plain ℕ). are_elements o.1) s.objects) (is_linked s) e in
+    let given = and_both (list_all (is_given s.last) s.objects) _ typed.1 in
     let placed = and_both (list_all (λ (o : ℕ × Plain ℕ). is_placed (length s.modules) o.1) s.objects) _ given.1 in
     let live = and_both (list_all (module_lives (numbers s.objects)) s.modules) _ placed.1 in
     record {
@@ -186,6 +198,7 @@ rules_say s order e =
         given = λ n lives. given_at s.last s.objects n given.0 (is_alive s.objects n lives);
       };
       placed = all_placed_say (length s.modules) s.objects placed.0;
+      typed = each_true (λ (o : ℕ × Plain ℕ). are_elements o.1) s.objects typed.0;
       none_dangle = record {
         held = λ n held. alive_is s.objects n
             (passes_at (is_among (numbers s.objects)) (held_by s.modules) n
@@ -198,7 +211,9 @@ rules_say s order e =
 
 pub rules_kept : (s : Snapshot) → IsWhole s → is_whole s ≡ true
 rules_kept s h =
-    both_and (list_all (is_given s.last) s.objects) _
+    both_and (list_all (λ (o : ℕ × Plain ℕ). are_elements o.1) s.objects) (is_linked s)
+    (all_true (λ (o : ℕ × Plain ℕ). are_elements o.1) s.objects h.typed)
+    (both_and (list_all (is_given s.last) s.objects) _
     (all_given s.last s.objects (λ n among. h.numbered.given n (alive_is s.objects n among)))
     (both_and (list_all (λ (o : ℕ × Plain ℕ). is_placed (length s.modules) o.1) s.objects) _
     (all_placed (length s.modules) s.objects h.placed)
@@ -206,7 +221,7 @@ rules_kept s h =
     (sym (globals_live (numbers s.objects) s.modules) ∙ all_pass (is_among (numbers s.objects)) (held_by s.modules)
     (λ n among. is_alive s.objects n (h.none_dangle.held n (is_among_says n (held_by s.modules) among))))
     (all_live_where (numbers s.objects) s.objects h.numbered.in_order (λ one other among.
-    is_alive s.objects other (h.none_dangle.fields one other (is_among_says other (references s.objects one) among))))))
+    is_alive s.objects other (h.none_dangle.fields one other (is_among_says other (references s.objects one) among)))))))
 
 never : (b : Bool) → b ≡ false → b ≡ true → ⊥
 never b breaks holds = absurd cc

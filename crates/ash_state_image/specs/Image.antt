@@ -94,7 +94,7 @@ do_rise [] = true
 do_rise (n ∷ []) = true
 do_rise (n ∷ next ∷ more) = nat_lt n next && do_rise (next ∷ more)
 
--- limits
+-- limits of what an image has, where no crate below names them
 
 -- the most bytes of the text of what is registered
 abbrev pub max_text_bytes : ℕ

@@ -9,3 +9,4 @@ pub mod Views
 pub mod Rules
 pub mod Search
 pub mod Examples
+pub mod Damage

@@ -8,9 +8,7 @@ use Rattle.ash_host.specs.Objects.{Element, Bools, Ints, Uints, Int64s, Uint64s,
 use Rattle.ash_state_image.specs.Fields.{number, text, items, as_at, checked_at, pair_at, number_at, text_at, items_at, tagged_at}
 use Rattle.ash_state_image.specs.Words.{word, FitsWord, word_at}
 
--- limits
-
--- the most fields of an object
+-- the most fields of an object, as a class has at most so many members
 abbrev pub max_fields : ℕ
 max_fields = 32
 

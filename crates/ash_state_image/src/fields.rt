@@ -1,8 +1,8 @@
-// Numbers and texts as they are read from a prefix of bytes, and written at the end of a vector.
+// Numbers and texts as they are read from a prefix of bytes, which takes no memory, and written at the end of a vector.
 
-ghost use Rattle.std.specs.Prelude.{◌≡◌, ◌++◌, OnOk};
+ghost use Rattle.std.specs.Prelude.{◌≡◌, ◌++◌, OnOk, IsOkUnless};
 ghost use Rattle.ash_state_image.specs.Fields.{ReturnsField, number, prefix_at, number_at};
-ghost use Rattle.ash_state_image.specs.declared.fields.ReadError.TheVariants.{NoMemory};
+ghost use Rattle.ash_state_image.specs.declared.fields.ReadError.TheVariants.{NoMemory, Damaged};
 
 use byteorder::{ByteOrder, LittleEndian};
 use std::alloc::{AllocError, AllocFailed};
@@ -35,6 +35,7 @@ impl<T: Drop> From<AllocFailed<T>> for ReadError {
 /// So many bytes, and those after them.
 pub fn prefix(bytes: &[u8], count: usize) -> Result<(&[u8], &[u8]), ReadError>
     ensures read { ReturnsField (λ x. (x.0.now, x.1.now)) result (prefix_at count bytes.now) }
+    ensures no_memory { IsOkUnless result Damaged }
 {
     if bytes.len() < count {
         return Err(ReadError::Damaged);
@@ -44,6 +45,7 @@ pub fn prefix(bytes: &[u8], count: usize) -> Result<(&[u8], &[u8]), ReadError>
 
 pub fn u8_at(bytes: &[u8]) -> Result<(u8, &[u8]), ReadError>
     ensures read { ReturnsField (λ x. (x.0, x.1.now)) result (number_at 1 bytes.now) }
+    ensures no_memory { IsOkUnless result Damaged }
 {
     let (prefix, rest) = prefix(bytes, 1)?;
     Ok((prefix[0], rest))
@@ -51,6 +53,7 @@ pub fn u8_at(bytes: &[u8]) -> Result<(u8, &[u8]), ReadError>
 
 pub fn u16_at(bytes: &[u8]) -> Result<(u16, &[u8]), ReadError>
     ensures read { ReturnsField (λ x. (x.0, x.1.now)) result (number_at 2 bytes.now) }
+    ensures no_memory { IsOkUnless result Damaged }
 {
     let (prefix, rest) = prefix(bytes, 2)?;
     Ok((LittleEndian::read_u16(prefix), rest))
@@ -58,6 +61,7 @@ pub fn u16_at(bytes: &[u8]) -> Result<(u16, &[u8]), ReadError>
 
 pub fn u32_at(bytes: &[u8]) -> Result<(u32, &[u8]), ReadError>
     ensures read { ReturnsField (λ x. (x.0, x.1.now)) result (number_at 4 bytes.now) }
+    ensures no_memory { IsOkUnless result Damaged }
 {
     let (prefix, rest) = prefix(bytes, 4)?;
     Ok((LittleEndian::read_u32(prefix), rest))
@@ -65,6 +69,7 @@ pub fn u32_at(bytes: &[u8]) -> Result<(u32, &[u8]), ReadError>
 
 pub fn u64_at(bytes: &[u8]) -> Result<(u64, &[u8]), ReadError>
     ensures read { ReturnsField (λ x. (x.0, x.1.now)) result (number_at 8 bytes.now) }
+    ensures no_memory { IsOkUnless result Damaged }
 {
     let (prefix, rest) = prefix(bytes, 8)?;
     Ok((LittleEndian::read_u64(prefix), rest))

@@ -9,19 +9,29 @@
 //     services              as in services.rt
 //     modules               as in modules.rt
 //     objects               as in numbered.rt and objects.rt
+//
+// The body of a record:
+//
+//     tag            u8     1, it leads from every state to that of the image
+//     image                 all of the bytes after the tag
 
-ghost use Rattle.std.specs.Prelude.{◌≡◌, ◌++◌, ◌≤◌, ◌<◌, ◌^◌, length, string_bytes, Some, None};
-ghost use Rattle.std.specs.Prelude.{if◌then◌else◌, OnOk, IfOk, IfSome, ℕ, List, option_map};
+ghost use Rattle.std.specs.Prelude.{◌≡◌, ◌++◌, ◌≤◌, ◌<◌, ◌^◌, ◌∷◌, length, drop, string_bytes, Some, None};
+ghost use Rattle.std.specs.Prelude.{if◌then◌else◌, OnOk, IfOk, IfSome, IsOk, IsOkUnless, ℕ, List, option_map};
 ghost use Rattle.ash_state_image.specs.Fields.{ReturnsField, text, whole};
 ghost use Rattle.ash_state_image.specs.Snapshots.{Snapshot};
-ghost use Rattle.ash_state_image.specs.Image.{Fits, Spells, image_of, max_text_bytes};
-ghost use Rattle.ash_state_image.specs.Rules.{IsImage};
+ghost use Rattle.ash_state_image.specs.Image.{Fits, Spells, image, image_of, image_v1_of, max_text_bytes};
+ghost use Rattle.ash_state_image.specs.Rules.{KeepsRules, IsShaped, IsImage, IsBody, image_tag};
 ghost use Rattle.ash_state_image.specs.ImageReading.{is_text, registered_at, snapshot_at, version_at, image_at};
 ghost use Rattle.ash_state_image.specs.Views.{snapshot_of, image_read, snapshot_in};
 ghost use Rattle.ash_state_image.specs.declared.version.Version.{Version};
-ghost use Rattle.ash_state_image.specs.declared.version.Version.TheVariants.{Two};
+ghost use Rattle.ash_state_image.specs.declared.version.Version.TheVariants.{One, Two};
+ghost use Rattle.ash_state_image.specs.declared.fields.ReadError.TheVariants.{Damaged};
 
-use crate::fields::{ReadError, prefix, u16_at, u32_at, u64_at, write_u16, write_u32, write_u64};
+use crate::fields::{
+    ReadError, prefix, u16_at, u32_at, u64_at, write_u8, write_u16, write_u32, write_u64,
+};
+use crate::lengths::image_length;
+use crate::limits::MAX_TEXT_BYTES;
 use crate::modules::{modules_of, write_modules};
 use crate::numbered::{objects_of, write_objects};
 use crate::parts::StateParts;
@@ -34,8 +44,8 @@ use std::alloc::{AllocError, Global};
 /// The version that is written.
 const VERSION: u16 = 2;
 
-/// The most bytes of the text of what is registered.
-const MAX_TEXT_BYTES: usize = 1_048_576;
+/// The tag of a record's body that is an image.
+const IMAGE_TAG: u8 = 1;
 
 /// The bytes as the text of what is registered.
 fn as_text(alloc: Global, bytes: &[u8]) -> Result<String, ReadError>
@@ -90,7 +100,8 @@ fn state_of(
 
 #[tactic(auto, unfolding(crate::specs::ImageReading::version_at))]
 fn version_of(bytes: &[u8]) -> Result<(Version, &[u8]), ReadError>
-    ensures { ReturnsField (λ x. (x.0, x.1.now)) result (version_at bytes.now) }
+    ensures read { ReturnsField (λ x. (x.0, x.1.now)) result (version_at bytes.now) }
+    ensures no_memory { IsOkUnless result Damaged }
 {
     let (number, rest) = u16_at(bytes)?;
     match number {
@@ -103,7 +114,9 @@ fn version_of(bytes: &[u8]) -> Result<(Version, &[u8]), ReadError>
 /// The state of which all of the bytes are the image.
 #[tactic(auto, unfolding(crate::specs::ImageReading::image_at))]
 fn whole_image(alloc: Global, bytes: &[u8]) -> Result<StoredImage, ReadError>
-    ensures { ReturnsField (λ i. image_read i) result (whole image_at bytes.now) }
+    ensures read { ReturnsField (λ i. image_read i) result (whole image_at bytes.now) }
+    // Where there is no version, no memory is taken.
+    ensures without_memory { version_at bytes.now ≡ None → IsOkUnless result Damaged }
 {
     let (version, rest) = version_of(bytes)?;
     let (state, rest) = state_of(alloc, version, rest)?;
@@ -115,11 +128,12 @@ fn whole_image(alloc: Global, bytes: &[u8]) -> Result<StoredImage, ReadError>
 }
 
 /// What all of the bytes spell, in either version, whatever the rules.
-fn read_shape(alloc: Global, bytes: &[u8]) -> Result<Option<StoredImage>, AllocError>
+fn read_spelling(alloc: Global, bytes: &[u8]) -> Result<Option<StoredImage>, AllocError>
     ensures found { IfOk result (λ found. IfSome found (λ i.
         Spells bytes.now i.version (snapshot_of i.state))) }
     ensures only { (version : Version) (s : Snapshot) → Spells bytes.now version s
         → IfOk result (λ found. option_map image_read found ≡ Some (version, s)) }
+    ensures without_memory { version_at bytes.now ≡ None → IsOk result }
 {
     match whole_image(alloc, bytes) {
         Ok(stored) => Ok(Some(stored)),
@@ -129,7 +143,7 @@ fn read_shape(alloc: Global, bytes: &[u8]) -> Result<Option<StoredImage>, AllocE
 }
 
 /// The state of which all of the bytes are the image, in either version. `None` where they are the image of none that
-/// keeps the rules.
+/// keeps the rules. What sources declare and what is registered is not asked.
 pub fn read_image(alloc: Global, bytes: &[u8]) -> Result<Option<StoredImage>, AllocError>
     // The bytes are the image of what is read.
     ensures found { IfOk result (λ found. IfSome found (λ i.
@@ -137,8 +151,10 @@ pub fn read_image(alloc: Global, bytes: &[u8]) -> Result<Option<StoredImage>, Al
     // What the bytes are the image of is read, unless memory is refused.
     ensures only { (version : Version) (s : Snapshot) → IsImage bytes.now version s
         → IfOk result (λ found. option_map image_read found ≡ Some (version, s)) }
+    // Where there is no version, memory is not refused.
+    ensures without_memory { version_at bytes.now ≡ None → IsOk result }
 {
-    let Some(stored) = read_shape(alloc, bytes)? else {
+    let Some(stored) = read_spelling(alloc, bytes)? else {
         return Ok(None);
     };
     if !keeps_rules(alloc, &stored.state)? {
@@ -147,10 +163,47 @@ pub fn read_image(alloc: Global, bytes: &[u8]) -> Result<Option<StoredImage>, Al
     Ok(Some(stored))
 }
 
+/// The state to which the body of a record leads, all of the bytes: that of an image, in either version. `None` where
+/// the bytes are no such body.
+pub fn read_body(alloc: Global, bytes: &[u8]) -> Result<Option<StoredImage>, AllocError>
+    // The bytes are the body of what is read.
+    ensures found { IfOk result (λ found. IfSome found (λ i.
+        IsBody bytes.now i.version (snapshot_of i.state))) }
+    // What the bytes are the body of is read, unless memory is refused.
+    ensures only { (version : Version) (s : Snapshot) → IsBody bytes.now version s
+        → IfOk result (λ found. option_map image_read found ≡ Some (version, s)) }
+    // Where there is no tag of an image, memory is not refused.
+    ensures without_memory { ((image : List ℕ) → bytes.now ≡ image_tag ∷ image → ⊥) → IsOk result }
+{
+    let Some((tag, image)) = bytes.split_first() else {
+        return Ok(None);
+    };
+    if *tag != IMAGE_TAG {
+        return Ok(None);
+    }
+    read_image(alloc, image)
+}
+
 /// Bytes are the image of one state, in one version, whoever reads them. This function does nothing when it runs.
 pub fn image_of_one_state()
     ensures one { (bytes : List ℕ) (v w : Version) (s t : Snapshot)
         → IsImage bytes v s → IsImage bytes w t → (v ≡ w) × (s ≡ t) }
+{}
+
+/// What is spelled is read, where the rules are kept. This function does nothing when it runs.
+pub fn images_are_read()
+    ensures again { (version : Version) (s : Snapshot) → Fits version s → KeepsRules s
+        → IsImage (image version s) version s }
+{}
+
+/// Version 1 moves to version 2: a state that has an image in version 1 has one in version 2, and the bytes of the two
+/// differ in the version alone. This function does nothing when it runs.
+pub fn version_one_moves()
+    ensures fits { (s : Snapshot) → Fits One s → Fits Two s }
+    ensures moves { (bytes : List ℕ) (s : Snapshot) → IsImage bytes One s
+        → IsImage (image_of s) Two s }
+    ensures shaped { (s : Snapshot) → IsShaped s → Fits Two s × KeepsRules s }
+    ensures same { (s : Snapshot) → image_of s ≡ 2 ∷ drop 1 (image_v1_of s) }
 {}
 
 /// A length, and the text of what is registered.
@@ -175,15 +228,37 @@ fn write_image_into(out: &mut Vec<u8>, state: StateParts<'_>) -> Result<(), Allo
     write_objects(out, state.objects)
 }
 
-/// The image of a state, in version 2.
+/// The image of a state, in version 2. Its memory is taken at once.
 pub fn write_image(alloc: Global, state: StateParts<'_>) -> Result<Vec<u8>, AllocError>
     // The state has an image.
     requires fits { Fits Two (snapshot_in state) }
     ensures written { IfOk result (λ image. image.items ≡ image_of (snapshot_in state.entry)) }
+    // Where the rules are kept, it is read again.
+    ensures read { KeepsRules (snapshot_in state.entry)
+        → IfOk result (λ image. IsImage image.items Two (snapshot_in state.entry)) }
     // It fits into a record.
     ensures short { IfOk result (λ image. length image.items < 2 ^ 28) }
 {
-    let mut image = Vec::new(alloc);
+    let mut image = Vec::with_capacity(alloc, image_length(state))?;
     write_image_into(&mut image, state)?;
     Ok(image)
+}
+
+/// The body of a record that leads from every state to this one: a tag, and the image in version 2. Its memory is taken
+/// at once.
+pub fn write_body(alloc: Global, state: StateParts<'_>) -> Result<Vec<u8>, AllocError>
+    // The state has an image.
+    requires fits { Fits Two (snapshot_in state) }
+    ensures written { IfOk result (λ body.
+        body.items ≡ image_tag ∷ image_of (snapshot_in state.entry)) }
+    // Where the rules are kept, it is read again.
+    ensures read { KeepsRules (snapshot_in state.entry)
+        → IfOk result (λ body. IsBody body.items Two (snapshot_in state.entry)) }
+    // It fits into a record.
+    ensures short { IfOk result (λ body. length body.items < 2 ^ 28) }
+{
+    let mut body = Vec::with_capacity(alloc, 1 + image_length(state))?;
+    write_u8(&mut body, IMAGE_TAG)?;
+    write_image_into(&mut body, state)?;
+    Ok(body)
 }

@@ -1,14 +1,19 @@
 //! The image of a whole state, as bytes both ways: modules, objects, services and numbers, with the text of what is
-//! registered. It uses the words and the plain objects of `ash_host`. It promises that what is written is read back as
-//! the same state, in the version that was written, and that every other string of bytes is found to be damaged.
+//! registered, and the body of a record with one. It uses the words and the plain objects of `ash_host`. It promises,
+//! unless memory is refused, that bytes are read as a state, in version 1 or 2, exactly where they are its image and
+//! the state keeps the rules of its shape, and that the one image in version 2 is written of a state that has one. What
+//! sources declare and what is registered is not asked.
 //!
 //! In reading order: `image`, and below it `modules`, `services`, `numbered`, `objects` and `words`, by the numbers and
-//! texts of `fields`. `rules` is what holds over more than one field, `stored` what is read, `parts` what is written.
+//! texts of `fields` and within `limits`. `rules` is what holds over more than one field, `reaching` what can be
+//! reached, `stored` what is read, `parts` what is written, with `lengths`. `examples` are images written by hand.
 #![tactic(auto)]
 
 pub mod examples;
 mod fields;
 pub mod image;
+mod lengths;
+mod limits;
 mod modules;
 mod names;
 mod numbered;

@@ -7,28 +7,21 @@
 //
 // Names ascend byte by byte, so no two modules have one name.
 
-ghost use Rattle.std.specs.Prelude.{◌≡◌, ◌++◌, string_bytes, Some, None, if◌then◌else◌, OnOk};
+ghost use Rattle.std.specs.Prelude.{◌≡◌, ◌++◌, string_bytes, Some, None, if◌then◌else◌, OnOk, IsOkUnless};
 ghost use Rattle.std.specs.List.{flat_map, AllByRecursion};
 ghost use Rattle.ash_state_image.specs.Fields.{ReturnsField, times_at, items};
 ghost use Rattle.ash_state_image.specs.Image.{is_module_name, loaded_module, FitsModule, FitModules};
 ghost use Rattle.ash_state_image.specs.ImageReading.{name_at, source_at, module_at, modules_at};
 ghost use Rattle.ash_state_image.specs.Views.{module_of, modules_of, module_in, modules_in};
+ghost use Rattle.ash_state_image.specs.declared.fields.ReadError.TheVariants.{Damaged};
 
 use crate::fields::{ReadError, prefix, u8_at, u16_at, u32_at, write_u8, write_u16, write_u32};
+use crate::limits::{MAX_GLOBALS, MAX_MODULES, MAX_SOURCE_BYTES};
 use crate::names::{are_ascending, is_module_name};
 use crate::parts::ModuleParts;
 use crate::stored::StoredModule;
 use crate::words::{words_of, write_words};
 use std::alloc::{AllocError, Global};
-
-/// The most bytes of a source.
-const MAX_SOURCE_BYTES: usize = 65_536;
-
-/// The most globals of a module.
-const MAX_GLOBALS: u16 = 256;
-
-/// The most modules.
-const MAX_MODULES: u8 = 16;
 
 /// The bytes as a module's name.
 fn as_name(alloc: Global, bytes: &[u8]) -> Result<String, ReadError>
@@ -57,7 +50,9 @@ fn name_of(alloc: Global, bytes: &[u8]) -> Result<(String, &[u8]), ReadError>
 /// The bytes of a source.
 #[tactic(auto, unfolding(crate::specs::ImageReading::source_at))]
 fn source_of(bytes: &[u8]) -> Result<(&[u8], &[u8]), ReadError>
-    ensures { ReturnsField (λ x. (x.0.now, x.1.now)) result (source_at bytes.now) }
+    ensures read { ReturnsField (λ x. (x.0.now, x.1.now)) result (source_at bytes.now) }
+    // It takes no memory.
+    ensures no_memory { IsOkUnless result Damaged }
 {
     let (length, rest) = u32_at(bytes)?;
     let (source, rest) = prefix(rest, length as usize)?;

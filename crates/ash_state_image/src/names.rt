@@ -6,10 +6,8 @@ ghost use Rattle.ash_state_image.specs.Image.{are_ascending, names_of};
 ghost use Rattle.ash_state_image.specs.Image.{is_name_start, is_name_part, is_name, is_module_name};
 ghost use Rattle.ash_state_image.specs.Views.{modules_of};
 
+use crate::limits::MAX_NAME_BYTES;
 use crate::stored::StoredModule;
-
-/// The most bytes of a module's name.
-const MAX_NAME_BYTES: usize = 64;
 
 /// A letter or `_`.
 fn is_name_start(byte: u8) -> bool

@@ -19,10 +19,8 @@ use crate::objects::{body_of, write_body};
 use crate::parts::ObjectParts;
 use crate::stored::{StoredBody, StoredObject};
 use crate::version::Version;
+use ash_host::MAX_OBJECTS;
 use std::alloc::{AllocError, Global};
-
-/// The most objects.
-const MAX_STORED_OBJECTS: u32 = 4096;
 
 /// Whether a version has such objects.
 fn has_version(version: Version, body: &StoredBody) -> bool
@@ -110,7 +108,7 @@ pub fn objects_of(
         (objects_at version bytes.now) }
 {
     let (count, rest) = u32_at(bytes)?;
-    if count > MAX_STORED_OBJECTS {
+    if count as usize > MAX_OBJECTS {
         return Err(ReadError::Damaged);
     }
     let (objects, rest) = counted_objects(alloc, version, count, rest)?;

@@ -15,32 +15,28 @@
 //                           its kind u16
 //         elements   u16    how many, 4,096 at most, and each a word
 
-ghost use Rattle.std.specs.Prelude.{◌≡◌, ◌++◌, OnOk};
+ghost use Rattle.std.specs.Prelude.{◌≡◌, ◌++◌, OnOk, IsOkUnless};
 ghost use Rattle.ash_state_image.specs.Fields.{ReturnsField};
 ghost use Rattle.ash_state_image.specs.ObjectBytes.{plain, element, script, host, array, FitsPlain};
 ghost use Rattle.ash_state_image.specs.ObjectBytes.{FitsScript, FitsHost, FitsArray};
 ghost use Rattle.ash_state_image.specs.ObjectBytes.{element_at, kind_and_state_at, script_at, array_at};
 ghost use Rattle.ash_state_image.specs.ObjectBytes.{plain_at};
 ghost use Rattle.ash_state_image.specs.ObjectViews.{element_of, script_of, service_of, array_of, plain_of, plain_in};
+ghost use Rattle.ash_state_image.specs.declared.fields.ReadError.TheVariants.{Damaged};
 
 use crate::fields::{ReadError, prefix, u8_at, u16_at, write_u8, write_u16};
+use crate::limits::MAX_FIELDS;
 use crate::parts::{ArrayParts, BodyParts, HostParts, ScriptParts};
 use crate::stored::{ElementType, StoredArray, StoredBody, StoredHost, StoredScript};
 use crate::words::{words_of, write_words};
+use ash_host::{MAX_ELEMENTS, MAX_STATE_BYTES};
 use std::alloc::{AllocError, Global};
-
-/// The most fields of an object.
-const MAX_FIELDS: u8 = 32;
-
-/// The most elements of an array.
-const MAX_ARRAY_ELEMENTS: u16 = 4096;
-
-/// The most bytes of the state of a host object.
-const MAX_STATE_BYTES: u16 = 1024;
 
 #[tactic(auto, unfolding(crate::specs::ObjectBytes::element_at, crate::specs::ObjectBytes::element_case))]
 fn element_of(bytes: &[u8]) -> Result<(ElementType, &[u8]), ReadError>
-    ensures { ReturnsField (λ x. (element_of x.0, x.1.now)) result (element_at bytes.now) }
+    ensures read { ReturnsField (λ x. (element_of x.0, x.1.now)) result (element_at bytes.now) }
+    // It takes no memory.
+    ensures no_memory { IsOkUnless result Damaged }
 {
     let (tag, rest) = u8_at(bytes)?;
     match tag {
@@ -90,7 +86,7 @@ pub fn host_of(alloc: Global, bytes: &[u8]) -> Result<(StoredHost, &[u8]), ReadE
     let (kind, rest) = u16_at(bytes)?;
     let (length, rest) = u16_at(rest)?;
     let (state, rest) = prefix(rest, length as usize)?;
-    if length > MAX_STATE_BYTES {
+    if state.len() > MAX_STATE_BYTES {
         return Err(ReadError::Damaged);
     }
     let state = Vec::from_slice(alloc, state)?;
@@ -103,7 +99,7 @@ fn array_of(alloc: Global, bytes: &[u8]) -> Result<(StoredArray, &[u8]), ReadErr
 {
     let (element, rest) = element_of(bytes)?;
     let (count, rest) = u16_at(rest)?;
-    if count > MAX_ARRAY_ELEMENTS {
+    if count as usize > MAX_ELEMENTS {
         return Err(ReadError::Damaged);
     }
     let (elements, rest) = words_of(alloc, count, rest)?;

@@ -1,13 +1,13 @@
-// What holds of a state over more than one field, whatever the sources are.
+// What holds of a state over more than one field, whatever the sources and the registrations are.
 
 ghost use Rattle.std.specs.Prelude.{◌≡◌, ◌↔◌, IfOk, IsTrue};
 ghost use Rattle.std.specs.List.{list_all};
 ghost use Rattle.ash_host.specs.Objects.{numbers, fields_of};
 ghost use Rattle.ash_host.specs.Reach.{is_among};
-ghost use Rattle.ash_state_image.specs.ObjectViews.{plain_of};
+ghost use Rattle.ash_state_image.specs.ObjectViews.{element_of, plain_of};
 ghost use Rattle.ash_state_image.specs.Image.{do_rise};
-ghost use Rattle.ash_state_image.specs.Rules.{is_given, is_placed, all_live, module_lives, object_lives};
-ghost use Rattle.ash_state_image.specs.Rules.{is_whole, KeepsRules};
+ghost use Rattle.ash_state_image.specs.Rules.{is_given, is_placed, is_element, are_elements, all_live};
+ghost use Rattle.ash_state_image.specs.Rules.{module_lives, object_lives, is_linked, is_whole, KeepsRules};
 ghost use Rattle.ash_state_image.specs.Views.{object_of, objects_of, modules_of, snapshot_of};
 
 use crate::reaching::are_reached;
@@ -52,6 +52,53 @@ fn are_placed(objects: &[StoredObject], modules: usize) -> bool
 {
     for object in objects {
         if !is_placed(&object.body, modules) {
+            return false;
+        }
+    }
+    true
+}
+
+/// Whether an array of such elements may hold a word, as far as the array says it.
+fn is_element(of: ElementType, word: Word) -> bool
+    ensures { result ≡ is_element (element_of of) word }
+{
+    match of {
+        ElementType::Bool => matches!(word, Word::Bool(_)),
+        ElementType::Int => matches!(word, Word::Int(_)),
+        ElementType::Uint => matches!(word, Word::Uint(_)),
+        ElementType::Int64 => matches!(word, Word::Int64(_)),
+        ElementType::Uint64 => matches!(word, Word::Uint64(_)),
+        ElementType::Class(_, _) | ElementType::Host(_) => true,
+    }
+}
+
+fn all_elements(of: ElementType, words: &[Word]) -> bool
+    ensures { result ≡ list_all (is_element (element_of of)) words.now }
+{
+    for word in words {
+        if !is_element(of, *word) {
+            return false;
+        }
+    }
+    true
+}
+
+/// Whether the elements of an array are of its type.
+fn are_elements(body: &StoredBody) -> bool
+    ensures { result ≡ are_elements (plain_of body.now) }
+{
+    match body {
+        StoredBody::Array(array) => all_elements(array.element, &array.elements),
+        StoredBody::Script(_) | StoredBody::Host(_) => true,
+    }
+}
+
+/// Whether the elements of each array are of its type.
+fn are_typed(objects: &[StoredObject]) -> bool
+    ensures { result ≡ list_all (λ e. are_elements e.1) (objects_of objects.now) }
+{
+    for object in objects {
+        if !are_elements(&object.body) {
             return false;
         }
     }
@@ -115,15 +162,24 @@ fn objects_live(objects: &[StoredObject], alive: &[u64]) -> bool
 }
 
 /// Whether numbers are given, classes are of modules that are there, and no handle dangles.
-fn is_whole(state: &StoredState, alive: &[u64]) -> bool
+fn is_linked(state: &StoredState, alive: &[u64]) -> bool
     requires rise { IsTrue (do_rise alive.now) }
     requires alive { alive.now ≡ numbers (objects_of state.now.objects.items) }
-    ensures { result ≡ is_whole (snapshot_of state.now) }
+    ensures { result ≡ is_linked (snapshot_of state.now) }
 {
     are_given(&state.objects, state.last)
         && are_placed(&state.objects, state.modules.len())
         && modules_live(&state.modules, alive)
         && objects_live(&state.objects, alive)
+}
+
+/// Whether the elements of each array are of its type, and numbers, modules and handles are right.
+fn is_whole(state: &StoredState, alive: &[u64]) -> bool
+    requires rise { IsTrue (do_rise alive.now) }
+    requires alive { alive.now ≡ numbers (objects_of state.now.objects.items) }
+    ensures { result ≡ is_whole (snapshot_of state.now) }
+{
+    are_typed(&state.objects) && is_linked(state, alive)
 }
 
 /// Whether a state keeps the rules that need no source.

@@ -13,13 +13,11 @@ ghost use Rattle.ash_state_image.specs.ImageReading.{services_at};
 ghost use Rattle.ash_state_image.specs.Views.{services_of, services_in};
 
 use crate::fields::{ReadError, u16_at, write_u16};
+use crate::limits::MAX_SERVICES;
 use crate::objects::{host_of, write_host};
 use crate::parts::HostParts;
 use crate::stored::StoredHost;
 use std::alloc::{AllocError, Global};
-
-/// The most services.
-const MAX_SERVICES: u16 = 16;
 
 /// So many services, one after the other.
 fn counted_services(

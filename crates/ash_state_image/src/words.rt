@@ -10,10 +10,11 @@
 //     5  null
 //     6  object      u64    its number
 
-ghost use Rattle.std.specs.Prelude.{◌≡◌, ◌++◌, OnOk};
+ghost use Rattle.std.specs.Prelude.{◌≡◌, ◌++◌, OnOk, IsOkUnless};
 ghost use Rattle.std.specs.List.{flat_map};
 ghost use Rattle.ash_state_image.specs.Fields.{ReturnsField, times_at, number};
 ghost use Rattle.ash_state_image.specs.Words.{word, word_at};
+ghost use Rattle.ash_state_image.specs.declared.fields.ReadError.TheVariants.{Damaged};
 
 use crate::fields::{ReadError, u8_at, u32_at, u64_at, write_u8, write_u32, write_u64};
 use ash_host::Word;
@@ -21,7 +22,9 @@ use std::alloc::{AllocError, Global};
 
 #[tactic(auto, unfolding(crate::specs::Words::word_at, crate::specs::Words::value_at))]
 fn word_of(bytes: &[u8]) -> Result<(Word, &[u8]), ReadError>
-    ensures { ReturnsField (λ x. (x.0, x.1.now)) result (word_at bytes.now) }
+    ensures read { ReturnsField (λ x. (x.0, x.1.now)) result (word_at bytes.now) }
+    // It takes no memory.
+    ensures no_memory { IsOkUnless result Damaged }
 {
     let (tag, rest) = u8_at(bytes)?;
     match tag {

@@ -1,8 +1,26 @@
-use Rattle.std.proofs.Common.{◌≡◌, ◌∙◌, true, false, sym, ap, arith}
+use Rattle.std.proofs.Common.{◌≡◌, ◌∙◌, ℕ, List, Option, Some, None, true, false, sym, ap, arith}
 use Rattle.std.specs.Prelude.{option_map}
-use Rattle.ash_state_image.specs.Views.{image_read}
+use Rattle.ash_state_image.specs.declared.version.Version.{Version}
+use Rattle.ash_state_image.specs.Snapshots.{Snapshot}
+use Rattle.ash_state_image.specs.Image.{Spells, state_bytes}
+use Rattle.ash_state_image.specs.ImageReading.{version_at}
+use Rattle.ash_state_image.specs.Views.{image_read, snapshot_of}
+use Rattle.ash_state_image.proofs.ImageLaws.{version_again}
 use Rattle.ash_state_image.proofs.RuleLaws.{only_kept}
 use Rattle.ash_state_image.proofs.image.read_image.Goals as goal
+
+none_some : (x : Version × List ℕ) → None ≡ Some x → ⊥
+none_some x e = absurd cc
+
+-- what is spelled has a version
+has_version : (bytes : List ℕ) (version : Version) (s : Snapshot) → Spells bytes version s → version_at bytes ≡ None → ⊥
+has_version bytes version s h none =
+    none_some (version, state_bytes s) (sym none ∙ (ap version_at h.1 ∙ version_again version (state_bytes s) tt))
+
+pub returns-in_err-keeps_rules-clause-without_memory : goal.returns-in_err-keeps_rules-clause-without_memory
+returns-in_err-keeps_rules-clause-without_memory c = λ none.
+    absurd (has_version c.args.bytes.now c.in-Some.stored.version (snapshot_of c.in-Some.stored.state)
+    (rw c.in-Some.is at c.in_ok-stored.ensures.found) none)
 
 pub returns-in_default-clause-only : goal.returns-in_default-clause-only
 returns-in_default-clause-only c = λ version s h.

@@ -9,14 +9,14 @@ returns-in_err-word c =
     let p = err_from_is_err_and c.from_residual.result c.from_residual.ensures.1 in
     record {
       read = rw (p.1, p.2) (ends word_at c.in_err-word.field-0.0 c.loop.words.items c.args.count c.loop.counter c.loop.rest.now
-          (times_at word_at c.args.count c.args.bytes.now) c.loop-test.true c.in_err-word.ensures c.loop.invariant);
+          (times_at word_at c.args.count c.args.bytes.now) c.loop-test.true c.in_err-word.ensures.read c.loop.invariant);
     }
 
 pub loop-preserved : goal.loop-preserved
 loop-preserved c =
     rw c.in_ok-push.ensures.items (goes_on word_at c.loop.words.items c.args.count c.loop.counter c.loop.rest.now
     c.in_ok-word.word c.in_ok-word.after.now (times_at word_at c.args.count c.args.bytes.now)
-    c.loop-test.true c.in_ok-word.ensures c.loop.invariant)
+    c.loop-test.true c.in_ok-word.ensures.read c.loop.invariant)
 
 pub returns : goal.returns
 returns c = record {

@@ -7,6 +7,7 @@ use Rattle.ash_host.specs.declared.word.Word.{Word}
 use Rattle.ash_host.specs.declared.word.Word.TheVariants as words
 use Rattle.ash_host.specs.Objects.{Element, Bools, Ints, Uints, Int64s, Uint64s, Handles, Hosts, Plain, Script, Array, Host}
 use Rattle.ash_state_image.specs.declared.version.Version.{Version}
+use Rattle.ash_state_image.specs.declared.version.Version.TheVariants as versions
 use Rattle.ash_state_image.specs.Fields.{number, text, items}
 use Rattle.ash_state_image.specs.Words.{word}
 use Rattle.ash_state_image.specs.ObjectBytes.{element, host, plain, FitsPlain, FitsHost}
@@ -142,7 +143,31 @@ lists_short version s h =
       h.objects.few,
     )
 
-pub image_short : (version : Version) (s : Snapshot) → Fits version s → length (image version s) < 2 ^ 28
+-- the length of an image by its parts
+pub image_length : (s : Snapshot) → length (image versions.Two s)
+    ≡ 29 + length s.registered + (length (flat_map service s.services)
+    + length (flat_map loaded_module s.modules) + length (flat_map object s.objects))
+unfolding lists
+image_length s =
+    omega (
+      arith,
+      length-append (number 2 (version_number versions.Two)) (state_bytes s),
+      number_length 2 (version_number versions.Two),
+      length-append (text 4 s.registered) (number 8 s.seq ++ (number 8 s.last ++ lists s)),
+      text_length 4 s.registered,
+      length-append (number 8 s.seq) (number 8 s.last ++ lists s),
+      number_length 8 s.seq,
+      length-append (number 8 s.last) (lists s),
+      number_length 8 s.last,
+      length-append (items 2 service s.services) (items 1 loaded_module s.modules ++ items 4 object s.objects),
+      length-append (items 1 loaded_module s.modules) (items 4 object s.objects),
+      items_length 2 service s.services,
+      items_length 1 loaded_module s.modules,
+      items_length 4 object s.objects,
+    )
+
+-- with a tag before it, too
+pub image_short : (version : Version) (s : Snapshot) → Fits version s → length (image version s) + 1 < 2 ^ 28
 unfolding lists
 image_short version s h =
     let after = lists_short version s h in

@@ -1,0 +1,7 @@
+use Rattle.std.proofs.Common.{◌≡◌, drop}
+use Rattle.std.specs.List.{list_all}
+use Rattle.ash_admission.specs.Values.{is_truth}
+use Rattle.ash_admission.proofs.elements.are_truths.Given as goal
+
+abbrev pub invariant-loop-word : goal.invariant-loop-word
+invariant-loop-word l = list_all is_truth (drop l.word-index l.words) ≡ list_all is_truth l.words

@@ -1,0 +1,92 @@
+//! Whether an object is well-formed among the living ones.
+
+ghost use Rattle.std.specs.Prelude.{◌≡◌, map, option_map};
+ghost use Rattle.ash_host.specs.Objects.{IsInOrder};
+ghost use Rattle.ash_plain_data.specs.ObjectViews.{element_seen, object_seen};
+ghost use Rattle.ash_admission.specs.Contents.{program_of_name, is_script, are_elements, is_object, are_objects};
+ghost use Rattle.ash_admission.specs.Admission.{program_of};
+
+use crate::elements::{are_handles, are_integers, are_of_kind, are_truths};
+use crate::places::class_at;
+use crate::values::are_values;
+use ash_host::{MAX_ELEMENTS, Word};
+use ash_plain::objects::Objects;
+use ash_plain_data::object::{Element, Object};
+use ash_plain_steps::state::LoadedModule;
+use ash_typed::IntType;
+
+/// The module of a name.
+fn module_of_name<'a>(modules: &'a [LoadedModule], name: &str) -> Option<&'a LoadedModule>
+    ensures { option_map (λ m. program_of m.now) result
+        ≡ program_of_name name.now (map program_of modules.now) }
+{
+    for loaded in modules {
+        if loaded.name.as_str() == name {
+            return Some(loaded);
+        }
+    }
+    None
+}
+
+/// Whether words are the fields of an object of the class at a place of the module's source.
+fn is_script(loaded: &LoadedModule, objects: &Objects, place: usize, fields: &[Word]) -> bool
+    ensures { result ≡ is_script objects.now place fields.now (program_of loaded.now) }
+{
+    match class_at(&loaded.tree, place) {
+        Some(class) => are_values(loaded, objects, &class.fields, fields),
+        None => false,
+    }
+}
+
+/// Whether words are of what an array says of its elements.
+fn are_elements(modules: &[LoadedModule], objects: &Objects, of: &Element, words: &[Word]) -> bool
+    ensures { result
+        ≡ are_elements (map program_of modules.now) objects.now (element_seen of.now) words.now }
+{
+    match of {
+        Element::Bools => are_truths(words),
+        Element::Ints => are_integers(IntType::Int, words),
+        Element::Uints => are_integers(IntType::Uint, words),
+        Element::Int64s => are_integers(IntType::Int64, words),
+        Element::Uint64s => are_integers(IntType::Uint64, words),
+        Element::Handles { owner, place } => match module_of_name(modules, owner.as_str()) {
+            Some(loaded) => are_handles(loaded, objects, *place, words),
+            None => false,
+        },
+        Element::Hosts(kind) => are_of_kind(objects, *kind, words),
+    }
+}
+
+/// Whether an object is well-formed among the living ones. A host object never is, since the host constructs none.
+fn is_object(modules: &[LoadedModule], objects: &Objects, object: &Object) -> bool
+    ensures { result
+        ≡ is_object (map program_of modules.now) objects.now (object_seen object.now) }
+{
+    match object {
+        Object::Script {
+            owner,
+            place,
+            fields,
+        } => match module_of_name(modules, owner.as_str()) {
+            Some(loaded) => is_script(loaded, objects, *place, fields),
+            None => false,
+        },
+        Object::Array { of, elements } => {
+            elements.len() <= MAX_ELEMENTS && are_elements(modules, objects, of, elements)
+        }
+        Object::Host { .. } => false,
+    }
+}
+
+/// Whether each object is well-formed among the living ones.
+pub(crate) fn are_objects(modules: &[LoadedModule], objects: &Objects) -> bool
+    ensures each { result ≡ are_objects (map program_of modules.now) objects.now }
+    ensures in_order { IsInOrder objects.now }
+{
+    for (_, object) in objects.iter() {
+        if !is_object(modules, objects, object) {
+            return false;
+        }
+    }
+    true
+}

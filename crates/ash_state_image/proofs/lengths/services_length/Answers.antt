@@ -1,0 +1,9 @@
+use Rattle.std.proofs.Common.{ℕ, List}
+use Rattle.ash_state_image.specs.ObjectBytes.{FitsHost}
+use Rattle.ash_state_image.specs.Views.{service_in}
+use Rattle.ash_state_image.proofs.Listed.{all_map_at}
+use Rattle.ash_state_image.proofs.lengths.services_length.Goals as goal
+
+pub host_length-total-requires : goal.host_length-total-requires
+host_length-total-requires c = all_map_at (λ (s : ℕ × List ℕ). FitsHost s.0 s.1) service_in c.args.services.now
+    c.loop-parts.parts-index _ c.requires.each c.loop-parts-test.true
