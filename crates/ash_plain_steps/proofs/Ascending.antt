@@ -10,7 +10,7 @@ use Rattle.std.specs.Cmp.Lexicographic.{nat_list_cmp_total}
 use Rattle.std.proofs.lemmas.Map.Text.{is_eq-slice_cmp}
 use Rattle.std.proofs.lemmas.Slice.Eq.{bytes_eq-Decides}
 use Rattle.ash_host.specs.declared.word.Word.{Word}
-use Rattle.ash_steps.specs.States.{LoadedModule as Loaded, compare_names, has_name, with_module, without_module, update_globals}
+use Rattle.ash_steps.specs.States.{LoadedModule, compare_names, has_name, with_module, without_module, update_globals}
 use Rattle.ash_plain_steps.specs.Consistency.{ComeAfter, Ascend}
 
 -- names
@@ -27,17 +27,17 @@ less_is Equal e = absurd (cc)
 less_is Greater e = absurd (cc)
 
 -- a module whose name comes after a name does not have it
-pub later_differs : (name : List ℕ) (loaded : Loaded) → compare_names name loaded.name ≡ Less
+pub later_differs : (name : List ℕ) (loaded : LoadedModule) → compare_names name loaded.name ≡ Less
     → has_name name loaded ≡ false
 later_differs name loaded e =
     let turned : compare_names loaded.name name ≡ Greater = total.antisymm loaded.name name ∙ ap ordering_reverse e in
     sym (is_eq-slice_cmp loaded.name name) ∙ ap is_eq turned
 
-pub same_name : (name : List ℕ) (loaded : Loaded) → has_name name loaded ≡ true → loaded.name ≡ name
+pub same_name : (name : List ℕ) (loaded : LoadedModule) → has_name name loaded ≡ true → loaded.name ≡ name
 same_name name loaded e = (bytes_eq-Decides loaded.name name).0 e
 
 -- a name that no module before it has or comes after comes after the module's own
-otherwise_after : (name : List ℕ) (loaded : Loaded) → is_lt (compare_names name loaded.name) ≡ false
+otherwise_after : (name : List ℕ) (loaded : LoadedModule) → is_lt (compare_names name loaded.name) ≡ false
     → has_name name loaded ≡ false → compare_names loaded.name name ≡ Less
 otherwise_after name loaded later differs = by (compare_names loaded.name name) refl
   where
@@ -53,14 +53,14 @@ otherwise_after name loaded later differs = by (compare_names loaded.name name) 
 
 -- ascending modules
 
-after_both : (a b : List ℕ) (ms : List Loaded) → compare_names a b ≡ Less
+after_both : (a b : List ℕ) (ms : List LoadedModule) → compare_names a b ≡ Less
     → ComeAfter b ms → ComeAfter a ms
 after_both a b [] e h = tt
 after_both a b (loaded ∷ more) e h = (before_trans a b loaded.name e h.0, after_both a b more e h.1)
 
 -- a module is inserted
 
-all_with : (P : Loaded → Type 0) (new : Loaded) (ms : List Loaded) → P new
+all_with : (P : LoadedModule → Type 0) (new : LoadedModule) (ms : List LoadedModule) → P new
     → AllByRecursion P ms → AllByRecursion P (with_module new ms)
 all_with P new [] p h = (p, tt)
 all_with P new (loaded ∷ more) p h =
@@ -70,7 +70,7 @@ all_with P new (loaded ∷ more) p h =
       | false ↦ (h.0, all_with P new more p h.1)
     ]
 
-absent_from : (name : List ℕ) (loaded : Loaded) (more : List Loaded)
+absent_from : (name : List ℕ) (loaded : LoadedModule) (more : List LoadedModule)
     → find (has_name name) (loaded ∷ more) ≡ None → (has_name name loaded ≡ false)
     × (find (has_name name) more ≡ None)
 absent_from name loaded more e = by (has_name name loaded) refl e
@@ -80,7 +80,7 @@ absent_from name loaded more e = by (has_name name loaded) refl e
     by true is none = absurd (cc)
     by false is none = (is, none)
 
-ascend_with_at : (b : Bool) (new loaded : Loaded) (more : List Loaded)
+ascend_with_at : (b : Bool) (new loaded : LoadedModule) (more : List LoadedModule)
     → is_lt (compare_names new.name loaded.name) ≡ b → has_name new.name loaded ≡ false → Ascend (loaded ∷ more)
     → Ascend (with_module new more) → Ascend (cond b (new ∷ loaded ∷ more) (loaded ∷ with_module new more))
 ascend_with_at true new loaded more is differs h rest =
@@ -88,10 +88,10 @@ ascend_with_at true new loaded more is differs h rest =
     ((first, after_both new.name loaded.name more first h.0), h)
 ascend_with_at false new loaded more is differs h rest =
     let later : compare_names loaded.name new.name ≡ Less = otherwise_after new.name loaded is differs in
-    (all_with (λ (s : Loaded). compare_names loaded.name s.name ≡ Less) new more later h.0, rest)
+    (all_with (λ (s : LoadedModule). compare_names loaded.name s.name ≡ Less) new more later h.0, rest)
 
 -- the modules with one more ascend, where none has its name
-pub ascend_with : (new : Loaded) (ms : List Loaded) → Ascend ms
+pub ascend_with : (new : LoadedModule) (ms : List LoadedModule) → Ascend ms
     → find (has_name new.name) ms ≡ None → Ascend (with_module new ms)
 ascend_with new [] h absent = (tt, tt)
 ascend_with new (loaded ∷ more) h absent =
@@ -101,7 +101,7 @@ ascend_with new (loaded ∷ more) h absent =
 
 -- a module is removed
 
-all_without : (P : Loaded → Type 0) (name : List ℕ) (ms : List Loaded)
+all_without : (P : LoadedModule → Type 0) (name : List ℕ) (ms : List LoadedModule)
     → AllByRecursion P ms → AllByRecursion P (without_module name ms)
 all_without P name [] h = tt
 all_without P name (loaded ∷ more) h =
@@ -112,14 +112,14 @@ all_without P name (loaded ∷ more) h =
     ]
 
 -- the modules without one ascend
-pub ascend_without : (name : List ℕ) (ms : List Loaded) → Ascend ms
+pub ascend_without : (name : List ℕ) (ms : List LoadedModule) → Ascend ms
     → Ascend (without_module name ms)
 ascend_without name [] h = tt
 ascend_without name (loaded ∷ more) h =
     elim (not (has_name name loaded)) as (λ b. Ascend
     (cond b (loaded ∷ without_module name more) (without_module name more))) [
       | true ↦ (
-        all_without (λ (s : Loaded). compare_names loaded.name s.name ≡ Less) name more h.0,
+        all_without (λ (s : LoadedModule). compare_names loaded.name s.name ≡ Less) name more h.0,
         ascend_without name more h.1,
       )
       | false ↦ ascend_without name more h.1
@@ -127,21 +127,21 @@ ascend_without name (loaded ∷ more) h =
 
 -- the globals of a module are changed
 
-after_update : (before name : List ℕ) (globals : List Word) (ms : List Loaded) → ComeAfter before ms → ComeAfter before (update_globals name globals ms)
+after_update : (before name : List ℕ) (globals : List Word) (ms : List LoadedModule) → ComeAfter before ms → ComeAfter before (update_globals name globals ms)
 after_update before name globals [] h = tt
 after_update before name globals (m ∷ more) h =
     (after_one (has_name name m) h.0, after_update before name globals more h.1)
   where
-    after_one : (b : Bool) → compare_names before m.name ≡ Less → compare_names before (cond b (let changed : Loaded = record m { globals = globals } in changed) m).name ≡ Less
+    after_one : (b : Bool) → compare_names before m.name ≡ Less → compare_names before (cond b (let changed : LoadedModule = record m { globals = globals } in changed) m).name ≡ Less
     after_one true e = e
     after_one false e = e
 
 -- the modules with other globals of one ascend
-pub ascend_update : (name : List ℕ) (globals : List Word) (ms : List Loaded) → Ascend ms → Ascend (update_globals name globals ms)
+pub ascend_update : (name : List ℕ) (globals : List Word) (ms : List LoadedModule) → Ascend ms → Ascend (update_globals name globals ms)
 ascend_update name globals [] h = tt
 ascend_update name globals (m ∷ more) h =
     (by (has_name name m) (after_update m.name name globals more h.0), ascend_update name globals more h.1)
   where
-    by : (b : Bool) → ComeAfter m.name (update_globals name globals more) → ComeAfter (cond b (let changed : Loaded = record m { globals = globals } in changed) m).name (update_globals name globals more)
+    by : (b : Bool) → ComeAfter m.name (update_globals name globals more) → ComeAfter (cond b (let changed : LoadedModule = record m { globals = globals } in changed) m).name (update_globals name globals more)
     by true e = e
     by false e = e

@@ -9,4 +9,5 @@ pub mod Found
 pub mod Changed
 pub mod Asked
 pub mod Given
+pub mod ShownObjects
 pub mod Ran

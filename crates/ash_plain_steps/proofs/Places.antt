@@ -12,7 +12,7 @@ use Rattle.std.proofs.lemmas.List.Quantifiers.{position-Some}
 use Rattle.std.proofs.lemmas.List.Sums.{prefix_len-le-length}
 use Rattle.std.proofs.lemmas.Map.Text.{is_eq-slice_cmp}
 use Rattle.ash_host.specs.declared.word.Word.{Word}
-use Rattle.ash_steps.specs.States.{LoadedModule as Loaded, compare_names, has_name, with_module, without_module, update_globals}
+use Rattle.ash_steps.specs.States.{LoadedModule, compare_names, has_name, with_module, without_module, update_globals}
 use Rattle.ash_plain_steps.specs.Consistency.{ComeAfter, Ascend}
 use Rattle.ash_plain_steps.proofs.Ascending.{later_differs, same_name}
 
@@ -45,7 +45,7 @@ all-remove P (item ∷ more) (suc place) h = (h.0, all-remove P more place h.1)
 
 -- a module is found
 
-first_at : {A : Type 0} (f : A → Loaded) (test : Loaded → Bool) (items : List A) (place : ℕ) (d : A) →
+first_at : {A : Type 0} (f : A → LoadedModule) (test : LoadedModule → Bool) (items : List A) (place : ℕ) (d : A) →
     place < length items → test (f (get_or items place d)) ≡ true
     → ((k : ℕ) → k < place → test (f (get_or items k d)) ≡ false) →
     find test (map f items) ≡ Some (f (get_or items place d))
@@ -58,27 +58,27 @@ first_at f test (item ∷ more) (suc place) d within here before =
     ∙ first_at f test more place d (omega arith) here (λ k below. before (suc k) (omega arith))
 
 -- what is found at a place
-pub found_at : {A : Type 0} (f : A → Loaded) (name : List ℕ) (items : List A) (place : ℕ) (d : A) →
+pub found_at : {A : Type 0} (f : A → LoadedModule) (name : List ℕ) (items : List A) (place : ℕ) (d : A) →
     position (λ (item : A). has_name name (f item)) items ≡ Some place
     → find (has_name name) (map f items) ≡ Some (f (get_or items place d))
 found_at {A} f name items place d e =
     let at = position-Some (λ (item : A). has_name name (f item)) items place d e in
     first_at f (has_name name) items place d at.0 at.1 at.2
 
-none_past : (here : Bool) (loaded : Loaded) (length place : ℕ) (later : Option Loaded)
+none_past : (here : Bool) (loaded : LoadedModule) (length place : ℕ) (later : Option LoadedModule)
     → suc length ≤ cond (not here) (1 + place) 0 → (length ≤ place → later ≡ None)
     → cond here (Some loaded) later ≡ None
 none_past true loaded length place later past rest = absurd (omega arith)
 none_past false loaded length place later past rest = rest (omega arith)
 
-none_at : {A : Type 0} (f : A → Loaded) (test : Loaded → Bool) (items : List A)
+none_at : {A : Type 0} (f : A → LoadedModule) (test : LoadedModule → Bool) (items : List A)
     → length items ≤ position_or_len (λ (item : A). test (f item)) items → find test (map f items) ≡ None
 none_at f test [] past = refl
 none_at {A} f test (item ∷ more) past = none_past (test (f item)) (f item) (length more)
     (position_or_len (λ (i : A). test (f i)) more) (find test (map f more)) past (none_at f test more)
 
 -- what is found nowhere
-pub found_nowhere : {A : Type 0} (f : A → Loaded) (name : List ℕ) (items : List A) →
+pub found_nowhere : {A : Type 0} (f : A → LoadedModule) (name : List ℕ) (items : List A) →
     position (λ (item : A). has_name name (f item)) items ≡ None → find (has_name name) (map f items) ≡ None
 found_nowhere {A} f name items e = none_at f (has_name name) items
     (by (nat_lt (position_or_len (λ (item : A). has_name name (f item)) items) (length items)) refl e)
@@ -92,58 +92,58 @@ found_nowhere {A} f name items e = none_at f (has_name name) items
 -- the module of a name, among modules that ascend
 
 -- no other module has the name
-earlier_differs : (name : List ℕ) (loaded : Loaded) (more : List Loaded) (place : ℕ) (d : Loaded)
+earlier_differs : (name : List ℕ) (loaded : LoadedModule) (more : List LoadedModule) (place : ℕ) (d : LoadedModule)
     → ComeAfter loaded.name more → place < length more → has_name name (get_or more place d) ≡ true
     → has_name name loaded ≡ false
 earlier_differs name loaded more place d after within here =
     let less : compare_names loaded.name (get_or more place d).name ≡ Less =
-    all-at (λ (s : Loaded). compare_names loaded.name s.name ≡ Less) more place d within after in
+    all-at (λ (s : LoadedModule). compare_names loaded.name s.name ≡ Less) more place d within after in
     let own : (get_or more place d).name ≡ name = same_name name (get_or more place d) here in
     let less_here : compare_names loaded.name name ≡ Less = ap (compare_names loaded.name) (sym own) ∙ less in
     sym (is_eq-slice_cmp loaded.name name) ∙ ap is_eq less_here
 
-after_named : (name : List ℕ) (loaded : Loaded) (more : List Loaded) → has_name name loaded ≡ true
+after_named : (name : List ℕ) (loaded : LoadedModule) (more : List LoadedModule) → has_name name loaded ≡ true
     → ComeAfter loaded.name more → ComeAfter name more
 after_named name loaded more here after = subst (λ (n : List ℕ). ComeAfter n more) (same_name name loaded here) after
 
-unchanged_after : (name : List ℕ) (globals : List Word) (ms : List Loaded)
+unchanged_after : (name : List ℕ) (globals : List Word) (ms : List LoadedModule)
     → ComeAfter name ms → update_globals name globals ms ≡ ms
 unchanged_after name globals [] after = refl
 unchanged_after name globals (loaded ∷ more) after =
     let differs : has_name name loaded ≡ false = later_differs name loaded after.0 in
-    let changed : Loaded = record loaded { globals = globals } in
+    let changed : LoadedModule = record loaded { globals = globals } in
     ap (λ (b : Bool). cond b changed loaded ∷ update_globals name globals more) differs
-    ∙ ap (λ (ss : List Loaded). loaded ∷ ss) (unchanged_after name globals more after.1)
+    ∙ ap (λ (ss : List LoadedModule). loaded ∷ ss) (unchanged_after name globals more after.1)
 
-consistent_after : (name : List ℕ) (ms : List Loaded) → ComeAfter name ms
+consistent_after : (name : List ℕ) (ms : List LoadedModule) → ComeAfter name ms
     → without_module name ms ≡ ms
 consistent_after name [] after = refl
 consistent_after name (loaded ∷ more) after =
     let differs : has_name name loaded ≡ false = later_differs name loaded after.0 in
     ap (λ (b : Bool). cond (not b) (loaded ∷ without_module name more) (without_module name more)) differs
-    ∙ ap (λ (ss : List Loaded). loaded ∷ ss) (consistent_after name more after.1)
+    ∙ ap (λ (ss : List LoadedModule). loaded ∷ ss) (consistent_after name more after.1)
 
 -- what a run leaves is stored in the place of what was found
-pub update_globals-set : (name : List ℕ) (globals : List Word) (ms : List Loaded) (place : ℕ)
-    (d : Loaded) → Ascend ms → place < length ms
+pub update_globals-set : (name : List ℕ) (globals : List Word) (ms : List LoadedModule) (place : ℕ)
+    (d : LoadedModule) → Ascend ms → place < length ms
     → has_name name (get_or ms place d) ≡ true →
     update_globals name globals ms ≡ set ms place
     (record (get_or ms place d) { globals = globals })
 update_globals-set name globals [] place d up within here = absurd (omega arith)
 update_globals-set name globals (loaded ∷ more) zero d up within here =
-    let changed : Loaded = record loaded { globals = globals } in
+    let changed : LoadedModule = record loaded { globals = globals } in
     ap (λ (b : Bool). cond b changed loaded ∷ update_globals name globals more) here
-    ∙ ap (λ (ss : List Loaded). changed ∷ ss)
+    ∙ ap (λ (ss : List LoadedModule). changed ∷ ss)
     (unchanged_after name globals more (after_named name loaded more here up.0))
 update_globals-set name globals (loaded ∷ more) (suc place) d up within here =
     let differs : has_name name loaded ≡ false = earlier_differs name loaded more place d up.0 (omega arith) here in
-    let changed : Loaded = record loaded { globals = globals } in
+    let changed : LoadedModule = record loaded { globals = globals } in
     ap (λ (b : Bool). cond b changed loaded ∷ update_globals name globals more) differs
-    ∙ ap (λ (ss : List Loaded). loaded ∷ ss)
+    ∙ ap (λ (ss : List LoadedModule). loaded ∷ ss)
     (update_globals-set name globals more place d up.1 (omega arith) here)
 
 -- what is removed is what was found
-pub without_module-remove : (name : List ℕ) (ms : List Loaded) (place : ℕ) (d : Loaded)
+pub without_module-remove : (name : List ℕ) (ms : List LoadedModule) (place : ℕ) (d : LoadedModule)
     → Ascend ms → place < length ms → has_name name (get_or ms place d) ≡ true →
     without_module name ms ≡ remove ms place
 without_module-remove name [] place d up within here = absurd (omega arith)
@@ -153,7 +153,7 @@ without_module-remove name (loaded ∷ more) zero d up within here =
 without_module-remove name (loaded ∷ more) (suc place) d up within here =
     let differs : has_name name loaded ≡ false = earlier_differs name loaded more place d up.0 (omega arith) here in
     ap (λ (b : Bool). cond (not b) (loaded ∷ without_module name more) (without_module name more)) differs
-    ∙ ap (λ (ss : List Loaded). loaded ∷ ss) (without_module-remove name more place d up.1 (omega arith) here)
+    ∙ ap (λ (ss : List LoadedModule). loaded ∷ ss) (without_module-remove name more place d up.1 (omega arith) here)
 
 -- a module is inserted
 
@@ -161,7 +161,7 @@ insert-cons : {A : Type 0} (item new : A) (more : List A) (place : ℕ)
     → insert (item ∷ more) (1 + place) new ≡ item ∷ insert more place new
 insert-cons item new more place = let e : 1 + place ≡ suc place = omega arith in rw e refl
 
-pub with_module-insert : {A : Type 0} (f : A → Loaded) (items : List A) (new : A) →
+pub with_module-insert : {A : Type 0} (f : A → LoadedModule) (items : List A) (new : A) →
     map f (insert items (position_or_len (λ (item : A). is_lt (compare_names (f new).name (f item).name)) items) new)
     ≡ with_module (f new) (map f items)
 with_module-insert f [] new = refl
@@ -172,7 +172,7 @@ with_module-insert {A} f (item ∷ more) new =
     ≡ cond b (f new ∷ f item ∷ map f more) (f item ∷ with_module (f new) (map f more))) [
       | true ↦ refl
       | false ↦ ap (map f) (insert-cons item new more (position_or_len test more))
-          ∙ ap (λ (ss : List Loaded). f item ∷ ss) (with_module-insert f more new)
+          ∙ ap (λ (ss : List LoadedModule). f item ∷ ss) (with_module-insert f more new)
     ]
 
 -- the same of a list whose items represent modules
@@ -185,7 +185,7 @@ map-remove f (item ∷ more) zero = refl
 map-remove f (item ∷ more) (suc place) = ap (λ (bs : List _). f item ∷ bs) (map-remove f more place)
 
 -- where a name is found, and what has it there
-found_there : {A : Type 0} (f : A → Loaded) (name : List ℕ) (items : List A) (place : ℕ) (d : A) →
+found_there : {A : Type 0} (f : A → LoadedModule) (name : List ℕ) (items : List A) (place : ℕ) (d : A) →
     position (λ (item : A). has_name name (f item)) items ≡ Some place → (place < length (map f items))
     × (has_name name (get_or (map f items) place (f d)) ≡ true)
 found_there {A} f name items place d e =
@@ -193,7 +193,7 @@ found_there {A} f name items place d e =
     (omega (arith, length-map items f, at.0), ap (has_name name) (get_or-map f items place d) ∙ at.1)
 
 -- the item of a name is stored in its place again with other globals
-pub changed_at : {A : Type 0} (f : A → Loaded) (name : List ℕ) (globals : List Word) (items : List A) (place : ℕ)
+pub changed_at : {A : Type 0} (f : A → LoadedModule) (name : List ℕ) (globals : List Word) (items : List A) (place : ℕ)
     (new d : A) → Ascend (map f items) →
     position (λ (item : A). has_name name (f item)) items ≡ Some place
     → f new ≡ record (f (get_or items place d)) { globals = globals } →
@@ -201,14 +201,14 @@ pub changed_at : {A : Type 0} (f : A → Loaded) (name : List ℕ) (globals : Li
 changed_at {A} f name globals items place new d up e changed =
     let there = found_there f name items place d e in
     let same : f new ≡ record (get_or (map f items) place (f d)) { globals = globals } = changed
-    ∙ ap (λ (s : Loaded). let t : Loaded = record s { globals = globals } in t)
+    ∙ ap (λ (s : LoadedModule). let t : LoadedModule = record s { globals = globals } in t)
     (sym (get_or-map f items place d)) in
     map-set f items place new
     ∙ ap (set (map f items) place) same
     ∙ sym (update_globals-set name globals (map f items) place (f d) up there.0 there.1)
 
 -- the item of a name is removed
-pub removed_at : {A : Type 0} (f : A → Loaded) (name : List ℕ) (items : List A) (place : ℕ)
+pub removed_at : {A : Type 0} (f : A → LoadedModule) (name : List ℕ) (items : List A) (place : ℕ)
     → Ascend (map f items) →
     position (λ (item : A). has_name name (f item)) items ≡ Some place
     → map f (remove items place) ≡ without_module name (map f items)
@@ -239,7 +239,7 @@ position-or_len test items =
     ]
 
 -- an item is inserted at the place of its name
-pub inserted_at : {A : Type 0} (f : A → Loaded) (items : List A) (new : A) (place : ℕ) →
+pub inserted_at : {A : Type 0} (f : A → LoadedModule) (items : List A) (new : A) (place : ℕ) →
     place ≡ unwrap_or (position (λ (item : A). is_lt (compare_names (f new).name (f item).name)) items) (length items) →
     map f (insert items place new) ≡ with_module (f new) (map f items)
 inserted_at {A} f items new place e =

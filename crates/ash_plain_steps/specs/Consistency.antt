@@ -3,28 +3,28 @@ use Rattle.std.specs.Prelude.{◌≡◌, ℕ, List, [], ◌∷◌, Ok}
 use Rattle.std.specs.List.{AllByRecursion, insert}
 use Rattle.std.specs.declared.cmp.Ordering.TheVariants.{Less}
 use Rattle.ash_typed.specs.Modules.{module_of}
-use Rattle.ash_steps.specs.States.{LoadedModule as Loaded, Embedding, compare_names}
-use Rattle.ash_plain_steps.specs.declared.state.LoadedModule.{LoadedModule}
+use Rattle.ash_steps.specs.States.{LoadedModule, Embedding, compare_names}
+use Rattle.ash_plain_steps.specs.declared.state.LoadedModule as code_module
 use Rattle.ash_plain_steps.specs.StateViews.{modules_seen}
 
 -- these modules come after a name
-abbrev pub ComeAfter : List ℕ → List Loaded → Type 0
-ComeAfter name ms = AllByRecursion (λ (m : Loaded). compare_names name m.name ≡ Less) ms
+abbrev pub ComeAfter : List ℕ → List LoadedModule → Type 0
+ComeAfter name ms = AllByRecursion (λ (m : LoadedModule). compare_names name m.name ≡ Less) ms
 
 -- each module comes before all that follow it: names ascend, and no two are one
-abbrev pub Ascend : List Loaded → Type 0
+abbrev pub Ascend : List LoadedModule → Type 0
 Ascend [] = Unit {0}
 Ascend (m ∷ ms) = ComeAfter m.name ms × Ascend ms
 
 -- the typed tree of a module is what its source is read as
-abbrev pub IsRead : {Fault : Type 0} → Embedding Fault → LoadedModule → Type 0
+abbrev pub IsRead : {Fault : Type 0} → Embedding Fault → code_module.LoadedModule → Type 0
 IsRead embedding m = embedding.read m.source.items ≡ Ok (module_of m.tree)
 
 -- The modules ascend by their names, and the typed tree of each is what its source is read as.
-pub record AreConsistent {Fault : Type 0} (embedding : Embedding Fault) (ms : List LoadedModule) : Type 0 where
+pub record AreConsistent {Fault : Type 0} (embedding : Embedding Fault) (ms : List code_module.LoadedModule) : Type 0 where
   pub ascending : Ascend (modules_seen ms)
   pub read : AllByRecursion (IsRead embedding) ms
 
 -- the modules with one more, at some place
-abbrev pub IsInserted : LoadedModule → List LoadedModule → List LoadedModule → Type 0
+abbrev pub IsInserted : code_module.LoadedModule → List code_module.LoadedModule → List code_module.LoadedModule → Type 0
 IsInserted loaded old new = (place : ℕ) × (new ≡ insert old place loaded)

@@ -1,12 +1,10 @@
 -- What the code's requests, refusals and replies represent. `fault` says what the faults of sources do.
-use Rattle.std.specs.Prelude.{ℕ, List, map, Result, Ok, Err, string_bytes}
+use Rattle.std.specs.Prelude.{ℕ, List, map, string_bytes}
 use Rattle.std.specs.declared.string.String.{String}
 use Rattle.std.specs.declared.alloc.Global.{Global as Memory}
 use Rattle.ash_host.specs.declared.word.Word.{Word}
-use Rattle.ash_typed.specs.declared.tree.items.Module as script
-use Rattle.ash_typed.specs.Modules.{Module, module_of}
 use Rattle.ash_evaluator.specs.EndViews.{end_seen}
-use Rattle.ash_steps.specs.Requests.{Request, Load, Call, Discard, Global, Seq, Snapshot, ObjectContents as Contents, Fields, HostState, Elements, Shown}
+use Rattle.ash_steps.specs.Requests.{Request, Load, Call, Discard, Get, Object, Seq, Snapshot, ObjectContents, Fields, HostState, Elements, Shown}
 use Rattle.ash_steps.specs.Requests as steps
 use Rattle.ash_steps.specs.Requests.{Refusal, Reply, Answered, Value, ShownAs, Number, Done, Refused}
 use Rattle.ash_steps.specs.Steps.{Step}
@@ -14,8 +12,8 @@ use Rattle.ash_plain_steps.specs.declared.request.Request as request
 use Rattle.ash_plain_steps.specs.declared.request.Request.TheVariants as requests
 use Rattle.ash_plain_steps.specs.declared.request.Refusal as refusal
 use Rattle.ash_plain_steps.specs.declared.request.Refusal.TheVariants as refusals
-use Rattle.ash_plain_steps.specs.declared.request.Contents as contents
-use Rattle.ash_plain_steps.specs.declared.request.Contents.TheVariants as all_contents
+use Rattle.ash_plain_steps.specs.declared.request.ObjectContents as contents
+use Rattle.ash_plain_steps.specs.declared.request.ObjectContents.TheVariants as all_contents
 use Rattle.ash_plain_steps.specs.declared.request.Shown as shown
 use Rattle.ash_plain_steps.specs.declared.request.Reply as reply
 use Rattle.ash_plain_steps.specs.declared.request.Reply.TheVariants as replies
@@ -23,10 +21,11 @@ use Rattle.ash_plain_steps.specs.declared.request.Step as step
 use Rattle.ash_plain_steps.specs.StateViews.{state_seen, hosts_seen}
 
 abbrev pub request_seen : request.Request → Request
-request_seen (requests.Load name source) = Load name.now source.now
+request_seen (requests.Load module_name source) = Load module_name.now source.now
 request_seen (requests.Call module_name function arguments) = Call module_name.now function.now arguments.now
-request_seen (requests.Discard name) = Discard name.now
-request_seen (requests.Global module_name name) = Global module_name.now name.now
+request_seen (requests.Discard module_name) = Discard module_name.now
+request_seen (requests.Get module_name name) = Get module_name.now name.now
+request_seen (requests.Object number) = Object number
 request_seen requests.Seq = Seq
 request_seen requests.Snapshot = Snapshot
 
@@ -34,24 +33,19 @@ request_seen requests.Snapshot = Snapshot
 abbrev pub field_seen : String Memory × Word → List ℕ × Word
 field_seen f = (string_bytes f.0, f.1)
 
-abbrev pub contents_seen : contents.Contents → Contents
+abbrev pub contents_seen : contents.ObjectContents → ObjectContents
 contents_seen (all_contents.Fields fields) = Fields (map field_seen fields.items)
 contents_seen (all_contents.HostState state) = HostState state.items
 contents_seen (all_contents.Elements elements) = Elements elements.items
 
 -- what an object has in it, with the name of its type
-abbrev pub named_seen : String Memory × contents.Contents → List ℕ × Contents
+abbrev pub named_seen : String Memory × contents.ObjectContents → List ℕ × ObjectContents
 named_seen d = (string_bytes d.0, contents_seen d.1)
 
 abbrev pub shown_seen : shown.Shown → Shown
 shown_seen s = record { number = s.number; type_name = string_bytes s.type_name; count = s.count; contents = contents_seen s.contents }
 
 module _ {Code Fault : Type 0} (fault : Code → Fault) where
-  -- what reading a source gives
-  abbrev pub read_seen : Result script.Module Code → Result Module Fault
-  read_seen (Ok tree) = Ok (module_of tree)
-  read_seen (Err f) = Err (fault f)
-
   abbrev pub refusal_seen : refusal.Refusal Code → Refusal Fault
   refusal_seen refusals.SequenceSpent = steps.SequenceSpent
   refusal_seen refusals.BadName = steps.BadName

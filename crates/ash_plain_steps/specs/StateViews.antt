@@ -2,15 +2,15 @@
 use Rattle.std.specs.Prelude.{List, map, string_bytes}
 use Rattle.ash_plain_data.specs.CallViews.{record_seen}
 use Rattle.ash_plain.specs.Views.{box_seen}
-use Rattle.ash_steps.specs.States.{LoadedModule as Loaded, State, Hosts}
-use Rattle.ash_plain_steps.specs.declared.state.LoadedModule.{LoadedModule}
+use Rattle.ash_steps.specs.States.{LoadedModule, State, Hosts}
+use Rattle.ash_plain_steps.specs.declared.state.LoadedModule as code_module
 use Rattle.ash_plain_steps.specs.declared.state.PlainState.{PlainState}
 use Rattle.ash_plain_steps.specs.declared.state.Hosts as hosts
 
-abbrev pub loaded_seen : LoadedModule → Loaded
+abbrev pub loaded_seen : code_module.LoadedModule → LoadedModule
 loaded_seen m = record { name = string_bytes m.name; source = m.source.items; globals = m.globals.items }
 
-abbrev pub modules_seen : List LoadedModule → List Loaded
+abbrev pub modules_seen : List code_module.LoadedModule → List LoadedModule
 modules_seen ms = map loaded_seen ms
 
 abbrev pub state_seen : PlainState → State

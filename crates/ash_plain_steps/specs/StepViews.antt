@@ -2,8 +2,8 @@
 use Rattle.std.specs.Prelude.{◌≡◌, ◌<◌, ◌⊎◌, ℕ, List, length, set, Option, Some, None, Result, Ok, Err}
 use Rattle.ash_typed.specs.Modules.{module_of}
 use Rattle.ash_steps.specs.States.{State, Hosts, Embedding, find_module}
-use Rattle.ash_steps.specs.Requests.{Request, Load, Call, Discard, NoMemory, Refused}
-use Rattle.ash_steps.specs.Tasks.{max_seq, task_of}
+use Rattle.ash_steps.specs.Requests.{Request, NoMemory, Refused}
+use Rattle.ash_steps.specs.Tasks.{TaskResult, Initialize, Invoke, Remove, max_seq, task_of}
 use Rattle.ash_plain_steps.specs.declared.state.PlainState.{PlainState}
 use Rattle.ash_plain_steps.specs.declared.request.StepError.{StepError}
 use Rattle.ash_plain_steps.specs.declared.request.StepError.TheVariants as errors
@@ -14,8 +14,6 @@ use Rattle.ash_plain.specs.Views.{world_seen}
 use Rattle.ash_evaluator.specs.declared.ends.Outcome as code_outcome
 use Rattle.ash_evaluator.specs.EndViews.{end_seen}
 use Rattle.ash_steps.specs.Steps.{answered, replied, step, TakesMemory}
-use Rattle.ash_plain_steps.specs.declared.request.Refusal as code_refusal
-use Rattle.ash_plain_steps.specs.declared.request.Refusal.TheVariants as refusals
 use Rattle.ash_plain_steps.specs.declared.state.LoadedModule.{LoadedModule}
 use Rattle.ash_plain_steps.specs.declared.request.Step as code_step
 use Rattle.ash_plain_steps.specs.StateViews.{modules_seen, state_seen}
@@ -35,34 +33,29 @@ ChangesState (tasks.Invoke call) = Unit {0}
 ChangesState (tasks.Remove place) = Unit {0}
 ChangesState _ = ⊥
 
--- a request whose task may change it
-abbrev pub MayChange : Request → Type 0
-MayChange (Load name source) = Unit {0}
-MayChange (Call module_name function arguments) = Unit {0}
-MayChange (Discard name) = Unit {0}
-MayChange _ = ⊥
-
--- A task changes the state only where the request may, and memory is refused only to a request that takes it.
-abbrev pub AsksFor : {Code : Type 0} → Request → Result Task (code_refusal.Refusal Code) → Type 0
-AsksFor request (Ok t) = ChangesState t → MayChange request
-AsksFor request (Err refusals.NoMemory) = TakesMemory request
-AsksFor request (Err r) = Unit {0}
+-- the request is not refused, and its task changes the state
+abbrev pub IsChange : {Fault : Type 0} → TaskResult Fault → Type 0
+IsChange (Ok (Initialize name source tree)) = Unit {0}
+IsChange (Ok (Invoke loaded tree function args)) = Unit {0}
+IsChange (Ok (Remove name)) = Unit {0}
+IsChange _ = ⊥
 
 -- memory was refused while the state changed
 abbrev pub LosesMemory : {X : Type 0} → Result X StepError → Type 0 → Type 0
 LosesMemory (Err errors.NoMemory) may = may
 LosesMemory _ may = Unit {0}
 
-module _ {Code Fault : Type 0} (fault : Code → Fault) (embedding : Embedding Fault) (budget : ℕ) (request : Request) (state : State) (hosts : Hosts) where
+module _ {Code Fault : Type 0} (fault : Code → Fault) (takes : Fault → Type 0) (embedding : Embedding Fault) (budget : ℕ) (request : Request) (state : State) (hosts : Hosts) where
   -- What the code gives for a request: the step of the definitions; or a refusal since memory was refused, which changes
-  -- nothing and replaces no cause that is found without memory; or that the definitions have no step. Where memory was refused while the state changed, there is neither step
-  -- nor state: that can come only of a request that changes the state.
+  -- nothing and replaces no cause that is found without memory; or that the definitions have no step. Where memory was
+  -- refused while the state changed, there is neither step nor state: that can come only of a request that is not
+  -- refused and whose task changes the state.
   abbrev pub IsStep : Result (code_step.Step Code) StepError → Type 0
   IsStep (Ok one) = (step embedding budget request state hosts ≡ Some (step_seen fault one))
-      ⊎ (TakesMemory request × TakesMemoryToFind (task_of embedding request state)
+      ⊎ (TakesMemory request × TakesMemoryToFind takes (task_of embedding request state)
       × (step_seen fault one ≡ replied (Refused NoMemory) state hosts))
   IsStep (Err errors.NoStep) = step embedding budget request state hosts ≡ None
-  IsStep (Err errors.NoMemory) = MayChange request
+  IsStep (Err errors.NoMemory) = IsChange (task_of embedding request state)
 
 -- A module that can be loaded: a sequence number is left, its tree is what its source is read as, and none has its name.
 pub record IsLoadable {Fault : Type 0} (embedding : Embedding Fault) (state : PlainState) (new : NewModule) : Type 0 where

@@ -1,6 +1,6 @@
 //! What a call is handed, as the words of its parameters.
 
-ghost use Rattle.std.specs.Prelude.{◌≡◌, true, option_map, IfOk};
+ghost use Rattle.std.specs.Prelude.{◌≡◌, true, is_some, option_map, IfOk, OnErr, IsSome};
 ghost use Rattle.std.specs.Option.{option_map_or};
 ghost use Rattle.std.specs.List.{list_all};
 ghost use Rattle.ash_typed.specs.declared.types.VarType.TheVariants as vars;
@@ -38,9 +38,32 @@ fn argument_of(of: VarType, argument: Argument) -> Option<Word>
     }
 }
 
+/// Whether the type of a parameter holds an argument.
+fn is_held(of: VarType, argument: Argument) -> bool
+    ensures { result ≡ is_some (argument_of of argument) }
+{
+    argument_of(of, argument).is_some()
+}
+
+/// Whether there are as many arguments as parameters, each held by its type.
+#[tactic(auto, using(crate::proofs::ArgumentLists::one_held, crate::proofs::ArgumentLists::not_held))]
+fn are_held(parameters: &[VarType], arguments: &[Argument]) -> bool
+    ensures { result ≡ is_some (arguments_of parameters.now arguments.now) }
+{
+    for (place, argument) in arguments.iter().enumerate() {
+        let Some(of) = parameters.get(place) else {
+            return false;
+        };
+        if !is_held(*of, *argument) {
+            return false;
+        }
+    }
+    parameters.len() <= arguments.len()
+}
+
 /// The words of arguments, where there are as many as parameters, each of its type.
 #[tactic(auto, using(crate::proofs::ArgumentLists::one_more, crate::proofs::ArgumentLists::no_word, crate::proofs::ArgumentLists::as_many))]
-pub(crate) fn arguments_of(
+fn words_of(
     alloc: Global,
     parameters: &[VarType],
     arguments: &[Argument],
@@ -62,6 +85,24 @@ pub(crate) fn arguments_of(
         return Ok(None);
     }
     Ok(Some(words))
+}
+
+/// The words of arguments, where there are as many as parameters, each of its type. That is tested before memory is
+/// taken for the words: an `Err` means that memory was refused to arguments that a function can be called with.
+#[tactic(auto, using(crate::proofs::ArgumentLists::none_held, crate::proofs::ArgumentLists::on_err))]
+pub(crate) fn arguments_of(
+    alloc: Global,
+    parameters: &[VarType],
+    arguments: &[Argument],
+) -> Result<Option<Vec<Word>>, AllocError>
+    ensures words { IfOk result (λ words. option_map (λ v. v.items) words
+        ≡ arguments_of parameters.now arguments.now) }
+    ensures memory { OnErr result (IsSome (arguments_of parameters.now arguments.now)) }
+{
+    if !are_held(parameters, arguments) {
+        return Ok(None);
+    }
+    words_of(alloc, parameters, arguments)
 }
 
 /// Whether a value of this type is a primitive.

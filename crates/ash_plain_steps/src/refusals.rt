@@ -1,24 +1,25 @@
 //! What each request asks for, or the first cause for which it is refused.
 
 ghost use Rattle.std.specs.Prelude.{IfOk};
-ghost use Rattle.ash_steps.specs.Requests.{Load, Call, Discard, Global as ReadGlobal};
+ghost use Rattle.ash_steps.specs.Requests.{Load, Call, Discard, Get, Object};
 ghost use Rattle.ash_steps.specs.States.{Embedding};
 ghost use Rattle.ash_steps.specs.Tasks.{task_of};
 ghost use Rattle.ash_plain_steps.specs.StateViews.{state_seen};
 ghost use Rattle.ash_plain_steps.specs.RequestViews.{request_seen};
 ghost use Rattle.ash_plain_steps.specs.Consistency.{AreConsistent};
 ghost use Rattle.ash_plain_steps.specs.TaskViews.{GivesTask};
-ghost use Rattle.ash_plain_steps.specs.StepViews.{IsPerformable, AsksFor};
+ghost use Rattle.ash_plain_steps.specs.StepViews.{IsPerformable};
 
 use crate::calls::call_in;
 use crate::functions::word_named;
 use crate::modules::{MAX_MODULES, place_of};
 use crate::name::is_module_name;
-use crate::request::{Refusal, Request};
-use crate::sources::Sources;
+use crate::request::{Refusal, Request, Shown};
+use crate::shown::{count_of, described};
 use crate::state::PlainState;
 use crate::task::{Invocation, NewModule, Task};
 use ash_steps::Argument;
+use ash_steps::sources::Sources;
 
 /// The most requests that are answered.
 const MAX_SEQ: u64 = u64::MAX;
@@ -31,7 +32,7 @@ fn loading<'a, S: Sources>(
     source: &'a [u8],
     state: &PlainState,
 ) -> Result<Task<'a>, Refusal<S::Fault>>
-    ensures task { GivesTask S.fault_seen state.now.modules.items result
+    ensures task { GivesTask S.fault_seen S.TakesMemory state.now.modules.items result
         (task_of (S.embedding sources.now) (Load name.now source.now) (state_seen state.now)) }
     ensures performable { IfOk result (IsPerformable (S.embedding sources.now) state.now) }
 {
@@ -65,7 +66,7 @@ fn calling<S: Sources>(
         → IfOk result (IsPerformable embedding state.now) }
     ensures task { (embedding : Embedding S.FaultSeen)
         → AreConsistent embedding state.now.modules.items
-        → GivesTask S.fault_seen state.now.modules.items result
+        → GivesTask S.fault_seen S.TakesMemory state.now.modules.items result
         (task_of embedding (Call module.now function.now arguments.now) (state_seen state.now)) }
 {
     if state.seq >= MAX_SEQ {
@@ -96,7 +97,7 @@ fn discarding<S: Sources>(
     ensures performable { (embedding : Embedding S.FaultSeen)
         → IfOk result (IsPerformable embedding state.now) }
     ensures task { (embedding : Embedding S.FaultSeen)
-        → GivesTask S.fault_seen state.now.modules.items result
+        → GivesTask S.fault_seen S.TakesMemory state.now.modules.items result
         (task_of embedding (Discard name.now) (state_seen state.now)) }
 {
     if state.seq >= MAX_SEQ {
@@ -119,9 +120,8 @@ fn reading<S: Sources>(
         → IfOk result (IsPerformable embedding state.now) }
     ensures task { (embedding : Embedding S.FaultSeen)
         → AreConsistent embedding state.now.modules.items
-        → GivesTask S.fault_seen state.now.modules.items result
-        (task_of embedding (ReadGlobal module.now name.now) (state_seen state.now)) }
-    ensures memory { AsksFor (ReadGlobal module.now name.now) result }
+        → GivesTask S.fault_seen S.TakesMemory state.now.modules.items result
+        (task_of embedding (Get module.now name.now) (state_seen state.now)) }
 {
     let Some(place) = place_of(&state.modules, module) else {
         return Err(Refusal::NoModule);
@@ -135,6 +135,33 @@ fn reading<S: Sources>(
     }
 }
 
+/// Refused with `NoObject`. Whether there is an object of the number, and a class of it, is tested before memory is taken.
+#[tactic(auto, using(crate::proofs::ShownObjects::shown_nowhere, crate::proofs::ShownObjects::shown_by_no_class, crate::proofs::ShownObjects::shown_takes))]
+fn showing<S: Sources>(
+    sources: &S,
+    number: u64,
+    state: &PlainState,
+) -> Result<Task<'static>, Refusal<S::Fault>>
+    ensures performable { IfOk result (IsPerformable (S.embedding sources.now) state.now) }
+    ensures task { AreConsistent (S.embedding sources.now) state.now.modules.items
+        → GivesTask S.fault_seen S.TakesMemory state.now.modules.items result
+        (task_of (S.embedding sources.now) (Object number) (state_seen state.now)) }
+{
+    let Some(object) = state.objects.get(number) else {
+        return Err(Refusal::NoObject);
+    };
+    let Some((type_name, contents)) = described(sources, state, object)? else {
+        return Err(Refusal::NoObject);
+    };
+    let count = count_of(state, number)?;
+    Ok(Task::Show(Shown {
+        number,
+        type_name,
+        count,
+        contents,
+    }))
+}
+
 /// The task of a request, or the first cause for which it is refused. `NoMemory` says that memory was refused.
 pub(crate) fn task_of<'a, S: Sources>(
     sources: &S,
@@ -143,19 +170,19 @@ pub(crate) fn task_of<'a, S: Sources>(
 ) -> Result<Task<'a>, Refusal<S::Fault>>
     ensures performable { IfOk result (IsPerformable (S.embedding sources.now) state.now) }
     ensures task { AreConsistent (S.embedding sources.now) state.now.modules.items
-        → GivesTask S.fault_seen state.now.modules.items result
+        → GivesTask S.fault_seen S.TakesMemory state.now.modules.items result
         (task_of (S.embedding sources.now) (request_seen request.now) (state_seen state.now)) }
-    ensures memory { AsksFor (request_seen request.now) result }
 {
     match *request {
-        Request::Load { name, source } => loading(sources, name, source, state),
+        Request::Load { module, source } => loading(sources, module, source, state),
         Request::Call {
             module,
             function,
             arguments,
         } => calling::<S>(module, function, arguments, state),
-        Request::Discard { name } => discarding::<S>(name, state),
-        Request::Global { module, name } => reading::<S>(module, name, state),
+        Request::Discard { module } => discarding::<S>(module, state),
+        Request::Get { module, name } => reading::<S>(module, name, state),
+        Request::Object { number } => showing(sources, number, state),
         Request::Seq => Ok(Task::Count),
         Request::Snapshot => Ok(Task::Rewrite),
     }

@@ -14,7 +14,7 @@ use std::alloc::{AllocError, AllocFailed};
 pub enum Request<'a> {
     /// Read this source and run its initializers, as a module of this name.
     Load {
-        name: &'a str,
+        module: &'a str,
         source: &'a [u8],
     },
     /// Call a function of a module.
@@ -25,12 +25,16 @@ pub enum Request<'a> {
     },
     /// Remove a module.
     Discard {
-        name: &'a str,
+        module: &'a str,
     },
     /// What a global of a module holds.
-    Global {
+    Get {
         module: &'a str,
         name: &'a str,
+    },
+    /// What the object of a number is, and has in it.
+    Object {
+        number: u64,
     },
     /// How many requests have been answered.
     Seq,
@@ -63,7 +67,7 @@ pub enum Refusal<F: Drop> {
 
 /// What is in an object.
 #[derive(Drop)]
-pub enum Contents {
+pub enum ObjectContents {
     /// The fields of an object of a class, by their names.
     Fields(Vec<(String, Word)>),
     /// The state of a host object.
@@ -80,7 +84,7 @@ pub struct Shown {
     pub type_name: String,
     /// How many globals, fields and elements are handles to it.
     pub count: usize,
-    pub contents: Contents,
+    pub contents: ObjectContents,
 }
 
 /// What a `load`, a `call` or a `discard` came to.

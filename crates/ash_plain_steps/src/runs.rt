@@ -15,7 +15,6 @@ ghost use Rattle.ash_plain_steps.specs.StepViews.{ComesTo, IsLoadable, IsThere, 
 
 use crate::modules::{handles_of, insert};
 use crate::request::{Answer, Reply, Step, StepError};
-use crate::sources::Sources;
 use crate::state::{Hosts, LoadedModule, PlainState};
 use crate::task::{Invocation, NewModule};
 use ash_evaluator::ends::{End, Outcome, call_function, load_module};
@@ -23,6 +22,7 @@ use ash_host::Word;
 use ash_plain::activity::World;
 use ash_plain_data::classes::Program;
 use ash_plain_data::run_error::{RunError, RunResult};
+use ash_steps::sources::Sources;
 use std::alloc::{AllocError, Global};
 use std::mem;
 

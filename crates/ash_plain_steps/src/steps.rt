@@ -13,9 +13,9 @@ ghost use Rattle.ash_plain_steps.specs.StepViews.{ComesTo, IsPerformable, Change
 use crate::refusals::task_of;
 use crate::request::{Reply, Request, Step, StepError};
 use crate::runs::{discard, initialize, invoke};
-use crate::sources::Sources;
 use crate::state::{Hosts, PlainState};
 use crate::task::Task;
+use ash_steps::sources::Sources;
 
 /// A reply that leaves everything as it is.
 fn replied<F: Drop>(reply: Reply<F>, state: PlainState, hosts: Hosts) -> Step<F>
@@ -50,6 +50,7 @@ fn perform<S: Sources>(
         Task::Invoke(call) => invoke::<S>(budget, call, state, hosts),
         Task::Remove(place) => discard::<S>(place, state, hosts),
         Task::Read(word) => Ok(replied(Reply::Value(word), state, hosts)),
+        Task::Show(shown) => Ok(replied(Reply::Shown(shown), state, hosts)),
         Task::Count => {
             let seq = state.seq;
             Ok(replied(Reply::Number(seq), state, hosts))
@@ -65,7 +66,7 @@ fn perform<S: Sources>(
 /// # Errors
 ///
 /// `NoStep` where the definitions have no step: hosts gave no answer to a call of the run. `NoMemory` where memory was
-/// refused while the state changed, which can come only of a load, a call or a removal.
+/// refused while the state changed, which can come only of a load, a call or a removal that is not refused.
 pub fn plain_step<S: Sources>(
     sources: &S,
     budget: u64,
@@ -74,7 +75,7 @@ pub fn plain_step<S: Sources>(
     hosts: Hosts,
 ) -> Result<Step<S::Fault>, StepError>
     requires consistent { AreConsistent (S.embedding sources.now) state.modules.items }
-    ensures stepped { IsStep S.fault_seen (S.embedding sources.now) budget
+    ensures stepped { IsStep S.fault_seen S.TakesMemory (S.embedding sources.now) budget
         (request_seen request.now) (state_seen state) (hosts_seen hosts) result }
     ensures defined { IfOk result (λ s. Steps (S.embedding sources.now) budget
         (request_seen request.now) (state_seen state) (hosts_seen hosts) (step_seen S.fault_seen s)) }

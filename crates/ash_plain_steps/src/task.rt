@@ -1,5 +1,6 @@
 //! What a request asks for, once all that it names is found.
 
+use crate::request::Shown;
 use ash_host::Word;
 use ash_typed::Module;
 
@@ -27,6 +28,7 @@ pub(crate) enum Task<'a> {
     /// Remove the module at a place.
     Remove(usize),
     Read(Word),
+    Show(Shown),
     Count,
     Rewrite,
 }

@@ -4,7 +4,6 @@ use crate::calls::HostStep;
 use crate::rows::{HOST, Row, check_row};
 use std::test::Fail;
 
-/// What its objects hold is not looked at: no request of the plain step asks for that yet.
 #[test]
 fn handles_in_an_array(rt: HostRuntime) -> Result<(), Fail> {
     check_row(
@@ -22,6 +21,8 @@ fn handles_in_an_array(rt: HostRuntime) -> Result<(), Fail> {
                     "",
                 ),
                 ("call m f 5", "ok 1 seq 2", "Drew 2; "),
+                ("object 1", "ok object 1 array count 1 object 2", ""),
+                ("object 2", "ok object 2 Counter count 1 state 05000000", ""),
                 ("call m h 0", "ok 5 seq 3", ""),
                 ("call m h 1", "exception IndexOutOfBounds h 1 seq 4", ""),
                 ("call m g", "ok seq 5 dropped 2", "Dropped 2; "),
@@ -32,7 +33,6 @@ fn handles_in_an_array(rt: HostRuntime) -> Result<(), Fail> {
     )
 }
 
-/// What its objects hold is not looked at: no request of the plain step asks for that yet.
 #[test]
 fn the_longest_array(rt: HostRuntime) -> Result<(), Fail> {
     check_row(
@@ -50,6 +50,7 @@ fn the_longest_array(rt: HostRuntime) -> Result<(), Fail> {
                 ),
                 ("call m f 4096", "ok seq 2", ""),
                 ("call m f 4097", "exception ArrayLimit f 1 seq 3", ""),
+                ("object 1", "ok object 1 array count 1 (4096 zeros)", ""),
             ],
             left: "seq 3 last 1 | m object 1 | objects 1 | services 00000000 | free 3 left 0",
         },

@@ -3,7 +3,6 @@
 use crate::rows::{HOST, Row, check_row, check_rows};
 use std::test::Fail;
 
-/// What its objects hold is not looked at: no request of the plain step asks for that yet.
 #[test]
 fn right_side_first(rt: HostRuntime) -> Result<(), Fail> {
     check_row(
@@ -21,6 +20,7 @@ fn right_side_first(rt: HostRuntime) -> Result<(), Fail> {
                     "",
                 ),
                 ("call m f", "ok 21 seq 2", ""),
+                ("object 1", "ok object 1 m.P count 1 v 2", ""),
                 ("call m pick", "refused 404 NotCallable", ""),
                 ("get m o", "ok object 1", ""),
                 ("get m n", "ok 21", ""),
@@ -31,7 +31,6 @@ fn right_side_first(rt: HostRuntime) -> Result<(), Fail> {
     )
 }
 
-/// What its objects hold is not looked at: no request of the plain step asks for that yet.
 #[test]
 fn constructed_members(rt: HostRuntime) -> Result<(), Fail> {
     check_row(
@@ -51,6 +50,13 @@ fn constructed_members(rt: HostRuntime) -> Result<(), Fail> {
                 ),
                 ("call m f", "ok 7 seq 2", ""),
                 ("get m g", "ok object 1", ""),
+                (
+                    "object 1",
+                    "ok object 1 m.P count 1 q object 2 r object 2 v 7",
+                    "",
+                ),
+                ("object 2", "ok object 2 m.Q count 2 w 1", ""),
+                ("object 3", "refused 407 NoObject", ""),
             ],
             left: "seq 2 last 2 | m object 1 | objects 1 2 | services 00000000 | free 3 left 0",
         },

@@ -194,7 +194,6 @@ fn let_go_early(rt: HostRuntime) -> Result<(), Fail> {
     )
 }
 
-/// What its objects hold is not looked at: no request of the plain step asks for that yet.
 #[test]
 fn shown_and_discarded(rt: HostRuntime) -> Result<(), Fail> {
     check_row(
@@ -206,7 +205,9 @@ fn shown_and_discarded(rt: HostRuntime) -> Result<(), Fail> {
             steps: &[HostStep::Start(1, 7)],
             exchanges: &[
                 ("load m Counter@ g = Counter(7);", "ok seq 1", "Drew 1; "),
+                ("object 1", "ok object 1 Counter count 1 state 07000000", ""),
                 ("snapshot", "ok", ""),
+                ("object 1", "ok object 1 Counter count 1 state 07000000", ""),
                 ("get m g", "ok object 1", ""),
                 ("discard m", "ok seq 2 dropped 1", "Dropped 1; "),
                 ("get m g", "refused 401 NoModule", ""),

@@ -3,7 +3,6 @@
 use crate::rows::{HOST, Row, check_row};
 use std::test::Fail;
 
-/// What its objects hold is not looked at: no request of the plain step asks for that yet.
 #[test]
 fn through_an_interface(rt: HostRuntime) -> Result<(), Fail> {
     check_row(
@@ -25,9 +24,11 @@ fn through_an_interface(rt: HostRuntime) -> Result<(), Fail> {
                 ("call m c", "ok true seq 2", ""),
                 ("call m f", "ok 3 seq 3", ""),
                 ("call m c", "ok false seq 4", ""),
+                ("object 1", "ok object 1 m.A count 1 k 3", ""),
                 ("call m h", "ok 7 seq 5", ""),
                 ("call m c", "ok true seq 6", ""),
                 ("get m g", "ok object 2", ""),
+                ("object 1", "refused 407 NoObject", ""),
             ],
             left: "seq 6 last 2 | m object 2 | objects 2 | services 00000000 | free 3 left 0",
         },

@@ -33,7 +33,6 @@ fn two_modules(rt: HostRuntime) -> Result<(), Fail> {
     )
 }
 
-/// No object is asked for: no request of the plain step does so yet.
 #[test]
 fn refused_requests(rt: HostRuntime) -> Result<(), Fail> {
     check_row(
@@ -55,6 +54,7 @@ fn refused_requests(rt: HostRuntime) -> Result<(), Fail> {
                 ("call z f", "refused 401 NoModule", ""),
                 ("discard z", "refused 401 NoModule", ""),
                 ("get m q", "refused 406 NoGlobal", ""),
+                ("object 9", "refused 407 NoObject", ""),
                 ("load m ", "refused 402 ModuleTaken", ""),
                 ("load 9x ", "refused 409 BadName", ""),
                 ("seq", "ok 1", ""),

@@ -3,10 +3,11 @@
 ghost use Rattle.std.specs.Prelude.{◌≡◌};
 ghost use Rattle.ash_meaning.specs.Refusals.{Refusal as Refused, refusal_of};
 ghost use Rattle.ash_meaning.specs.Sources.{rules_of, embedding_of};
+ghost use Rattle.ash_step_tests.specs.ReaderFaults.{IsNotTooLong};
 
 use ash_meaning::refusal::Refusal;
 use ash_meaning::sources::Sources;
-use ash_plain_steps::sources::Sources as StepSources;
+use ash_steps::sources::Sources as StepSources;
 use ash_typed::Module;
 use std::alloc::{AllocError, Global};
 
@@ -22,6 +23,8 @@ impl StepSources for Reader<'_> {
     ghost FaultSeen = { Refused };
 
     ghost fault_seen = { refusal_of };
+
+    ghost TakesMemory = { IsNotTooLong };
 
     ghost embedding = { λ reader. embedding_of (rules_of reader.sources) };
 

@@ -4,7 +4,7 @@ use ash_evaluator::ends::End;
 use ash_host::{Event, Target, Word};
 use ash_meaning::refusal::Refusal as SourceRefusal;
 use ash_phrases::Exception;
-use ash_plain_steps::request::{Answer, Refusal, Reply};
+use ash_plain_steps::request::{Answer, ObjectContents, Refusal, Reply, Shown};
 use std::alloc::{AllocError, Global};
 use std::fmt::Write;
 
@@ -72,6 +72,45 @@ fn write_answer(out: &mut String, answer: &Answer) -> Result<(), AllocError> {
     write_dropped(out, &answer.events)
 }
 
+/// Elements, or how many zeros they are where they are many.
+fn write_elements(out: &mut String, elements: &[Word]) -> Result<(), AllocError> {
+    let is_long = elements.len() > 64;
+    if is_long && elements.iter().all(|word| matches!(word, Word::Int(0))) {
+        return write!(out, " ({} zeros)", elements.len());
+    }
+    for word in elements {
+        write!(out, " ")?;
+        write_word(out, *word)?;
+    }
+    Ok(())
+}
+
+fn write_contents(out: &mut String, contents: &ObjectContents) -> Result<(), AllocError> {
+    match contents {
+        ObjectContents::Fields(fields) => {
+            for (name, word) in fields {
+                write!(out, " {name} ")?;
+                write_word(out, *word)?;
+            }
+            Ok(())
+        }
+        ObjectContents::HostState(state) => {
+            write!(out, " state ")?;
+            write_bytes(out, state)
+        }
+        ObjectContents::Elements(elements) => write_elements(out, elements),
+    }
+}
+
+fn write_shown(out: &mut String, shown: &Shown) -> Result<(), AllocError> {
+    write!(
+        out,
+        "ok object {} {} count {}",
+        shown.number, shown.type_name, shown.count
+    )?;
+    write_contents(out, &shown.contents)
+}
+
 fn write_source_refusal(out: &mut String, refusal: &SourceRefusal) -> Result<(), AllocError> {
     match refusal {
         SourceRefusal::NotYet => write!(out, "199 NotYet"),
@@ -110,7 +149,7 @@ fn write_reply(out: &mut String, reply: &Reply<SourceRefusal>) -> Result<(), All
             write!(out, "ok ")?;
             write_word(out, *word)
         }
-        Reply::Shown(shown) => write!(out, "ok object {}", shown.number),
+        Reply::Shown(shown) => write_shown(out, shown),
         Reply::Number(seq) => write!(out, "ok {seq}"),
         Reply::Done => write!(out, "ok"),
         Reply::Refused(refusal) => write_refusal(out, refusal),

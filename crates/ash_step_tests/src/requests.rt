@@ -29,7 +29,7 @@ pub fn request_of<'a>(line: &'a str, arguments: &'a [Argument]) -> Request<'a> {
     let (name, more) = parted(rest);
     match verb {
         "load" => Request::Load {
-            name,
+            module: name,
             source: more.as_bytes(),
         },
         "call" => Request::Call {
@@ -37,11 +37,14 @@ pub fn request_of<'a>(line: &'a str, arguments: &'a [Argument]) -> Request<'a> {
             function: parted(more).0,
             arguments,
         },
-        "get" => Request::Global {
+        "get" => Request::Get {
             module: name,
             name: more,
         },
-        "discard" => Request::Discard { name },
+        "discard" => Request::Discard { module: name },
+        "object" => Request::Object {
+            number: name.parse::<u64>().unwrap_or(0),
+        },
         "snapshot" => Request::Snapshot,
         _ => Request::Seq,
     }

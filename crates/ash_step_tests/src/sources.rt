@@ -47,7 +47,6 @@ fn scripts_that_use_what_is_registered(rt: HostRuntime) -> Result<(), Fail> {
     )
 }
 
-/// What its objects hold is not looked at: no request of the plain step asks for that yet.
 #[test]
 fn scripts_that_use_nothing_registered(rt: HostRuntime) -> Result<(), Fail> {
     check_row(
@@ -66,6 +65,11 @@ fn scripts_that_use_nothing_registered(rt: HostRuntime) -> Result<(), Fail> {
                     "",
                 ),
                 ("call m f", "ok 7 seq 2", ""),
+                (
+                    "object 1",
+                    "ok object 1 m.P count 1 q object 2 r object 2 v 7",
+                    "",
+                ),
             ],
             left: "seq 2 last 2 | m object 1 | objects 1 2 | services 00000000 | free 3 left 0",
         },

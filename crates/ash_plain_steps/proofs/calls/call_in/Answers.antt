@@ -1,5 +1,5 @@
 use Rattle.std.proofs.Common.{rules, ◌≡◌, true, false, List, map, Option, Some, None, sym, ◌∙◌, ap}
-use Rattle.std.specs.Prelude.{slice_get, option_map}
+use Rattle.std.specs.Prelude.{slice_get, is_some, option_map}
 use Rattle.std.specs.List.{position_from}
 use Rattle.std.specs.Str.{bytes_eq}
 use Rattle.std.proofs.lemmas.Result.{err_from_is_err_and}
@@ -61,9 +61,10 @@ pub returns-in_err-words : goal.returns-in_err-words
 returns-in_err-words g c m =
     let p = err_from_is_err_and c.from_residual.result c.from_residual.ensures.1 in
     let so : is_callable (function_of c.in-Some-get.function.now) ≡ true = search rules in
-    rw (p.1, p.2) (words_take g.S.Sources.FaultSeen m (module_of c.args.tree.now) c.args.name.now c.args.arguments.now c.in-Some.place (function_of c.in-Some-get.function.now)
+    rw (p.1, p.2) (words_take g.S.Sources.TakesMemory m (module_of c.args.tree.now) c.args.name.now c.args.arguments.now c.in-Some.place (function_of c.in-Some-get.function.now)
     (c.in-Some.ensures ∙ ap (λ (l : List _). position_from (λ (f : Function). bytes_eq f.name c.args.name.now) 0 (map function_of l)) c.deref.ensures.value)
     (ap (λ (l : List _). slice_get (map function_of l) c.in-Some.place) (sym c.deref-2.ensures.value)
     ∙ slice_get-map function_of c.deref-2.result.now c.in-Some.place
     ∙ ap (λ (o : Option _). option_map function_of o) (got_item c.deref-2.result.now c.in-Some.place c.in-Some-get.function.now c.in-Some-get.ensures.lookup.3.0 c.in-Some-get.ensures.lookup.3.1))
-    so)
+    so
+    (ap (λ (l : List _). is_some (arguments_of l c.args.arguments.now)) (sym c.deref-3.ensures.value) ∙ c.in_err-words.ensures.memory))

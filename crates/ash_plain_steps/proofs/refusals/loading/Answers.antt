@@ -3,7 +3,7 @@ use Rattle.std.specs.Prelude.{is_some}
 use Rattle.std.proofs.lemmas.Result.{err_from_is_err_and}
 use Rattle.ash_typed.specs.declared.tree.items.Module as script
 use Rattle.ash_steps.specs.Tasks.{TaskResult, max_modules, is_module_name}
-use Rattle.ash_plain_steps.specs.RequestViews.{read_seen}
+use Rattle.ash_steps.specs.SourceViews.{read_seen}
 use Rattle.ash_plain_steps.proofs.Given.{place_in, load_taken, load_many, load_read, load_absent, reading_takes}
 use Rattle.ash_plain_steps.proofs.refusals.loading.Goals as goal
 
@@ -63,7 +63,8 @@ returns-in_err-tree-clause-task g c =
     let named : is_module_name c.as_bytes.result.now ≡ true = search rules in
     let taken : is_some c.place_of.result ≡ false = search rules in
     let few : length c.args.state.now.modules.items < max_modules = search rules in
-    rw (p.1, p.2) (reading_takes (g.S.Sources.embedding c.args.sources.now) c.args.state.now c.args.name.now c.args.source.now (omega (arith, c.if-state-ge-MAX_SEQ.false))
+    rw (p.1, p.2) (reading_takes (g.S.Sources.embedding c.args.sources.now) c.args.state.now c.args.name.now g.S.Sources.TakesMemory c.args.source.now (omega (arith, c.if-state-ge-MAX_SEQ.false))
     (ap is_module_name (sym c.as_bytes.ensures.value) ∙ named)
     (ap (λ (l : List _). is_some (place_in c.args.name.now l)) (sym c.deref.ensures.value) ∙ ap (λ (o : Option ℕ). is_some o) (sym c.place_of.ensures) ∙ taken)
-    few)
+    few
+    c.in_err-tree.ensures.memory)

@@ -4,8 +4,8 @@ use Rattle.ash_plain.specs.Views.{world_seen}
 use Rattle.std.proofs.lemmas.Option.{slice_get-get_or}
 use Rattle.std.specs.Prelude.{slice_get}
 use Rattle.std.proofs.Common.{get_or}
-use Rattle.ash_steps.specs.States.{LoadedModule as Loaded, world_of}
-use Rattle.ash_plain_steps.specs.declared.state.LoadedModule.{LoadedModule}
+use Rattle.ash_steps.specs.States.{LoadedModule, world_of}
+use Rattle.ash_plain_steps.specs.declared.state.LoadedModule as code_module
 use Rattle.ash_plain_steps.specs.StateViews.{loaded_seen, modules_seen, state_seen, hosts_seen}
 use Rattle.ash_plain_steps.specs.RequestViews.{step_seen}
 use Rattle.ash_plain_steps.specs.Consistency.{AreConsistent}
@@ -16,13 +16,13 @@ use Rattle.ash_plain_steps.proofs.runs.discard.Goals as goal
 pub returns-clause-stepped : goal.returns-clause-stepped
 returns-clause-stepped g c budget m there up =
     let ms = c.args.state.modules.items in
-    let rest : modules_seen c.in_ok-rest.rest.modules.items ≡ modules_seen (remove ms c.args.place) = ap (λ (v : _). modules_seen v.items) c.in_ok-rest.ensures.modules ∙ ap (λ (l : List LoadedModule). modules_seen l) c.remove.ensures.items in
+    let rest : modules_seen c.in_ok-rest.rest.modules.items ≡ modules_seen (remove ms c.args.place) = ap (λ (v : _). modules_seen v.items) c.in_ok-rest.ensures.modules ∙ ap (λ (l : List code_module.LoadedModule). modules_seen l) c.remove.ensures.items in
     discarded g.S.Sources.fault_seen budget (loaded_seen m).name (state_seen c.args.state) (hosts_seen c.args.hosts)
     (modules_seen c.in_ok-rest.rest.modules.items) (world_seen c.in_ok-rest.world) (world_seen c.give_up_frames.new.self) (step_seen g.S.Sources.fault_seen c.answered.result)
     (rest ∙ removed_there ms c.args.place m up there)
     (c.in_ok-rest.ensures.world
     ∙ (λ i. world_of (c.new.ensures.items i) (modules_seen (c.remove.ensures.items i)) (state_seen c.args.state) (hosts_seen c.args.hosts))
-    ∙ ap (λ (l : List Loaded). world_of [] l (state_seen c.args.state) (hosts_seen c.args.hosts)) (sym rest))
+    ∙ ap (λ (l : List LoadedModule). world_of [] l (state_seen c.args.state) (hosts_seen c.args.hosts)) (sym rest))
     c.in_ok-give_up_frames.ensures.swept
     (c.answered.ensures.stepped (state_seen c.args.state) (sym c.in_ok-rest.ensures.seq))
 
@@ -31,4 +31,4 @@ returns-clause-consistent g c embedding known =
     let ms = c.args.state.modules.items in
     let at : slice_get ms c.args.place ≡ _ = slice_get-get_or ms c.args.place c.remove.result c.requires.there.within in
     let rest : c.answered.result.state.modules.items ≡ remove ms c.args.place = ap (λ (v : _). v.items) c.answered.ensures.modules ∙ ap (λ (v : _). v.items) c.in_ok-rest.ensures.modules ∙ c.remove.ensures.items in
-    subst (λ (l : List LoadedModule). AreConsistent embedding l) (sym rest) (consistent_remove embedding ms c.args.place (get_or ms c.args.place c.remove.result) known at)
+    subst (λ (l : List code_module.LoadedModule). AreConsistent embedding l) (sym rest) (consistent_remove embedding ms c.args.place (get_or ms c.args.place c.remove.result) known at)

@@ -5,7 +5,7 @@ use Rattle.ash_evaluator.specs.declared.ends.End.TheVariants as ends
 use Rattle.ash_plain.specs.Views.{world_seen}
 use Rattle.ash_evaluator.specs.EndViews.{end_seen}
 use Rattle.ash_steps.specs.Steps.{answered, after_load_with, without_globals}
-use Rattle.ash_steps.specs.States.{LoadedModule as Loaded}
+use Rattle.ash_steps.specs.States.{LoadedModule}
 use Rattle.ash_plain_steps.specs.RequestViews.{step_seen}
 use Rattle.ash_plain_steps.proofs.runs.finish_load.Goals as goal
 
@@ -17,11 +17,11 @@ returns-in-Finished-clause-stepped g c old e is =
 pub returns-in-Threw-clause-stepped : goal.returns-in-Threw-clause-stepped
 returns-in-Threw-clause-stepped g c old e is =
     subst (λ (x : end.End). IfOk c.abandon.result (λ s. step_seen g.S.Sources.fault_seen s ≡ after_load_with {Fault = g.S.Sources.FaultSeen} c.args.new.name.now c.args.new.source.now old (end_seen x) (world_seen c.args.outcome.world))) (sym c.in-Threw.is)
-    (subst (λ (l : List Loaded). IfOk c.abandon.result (λ s. step_seen g.S.Sources.fault_seen s ≡ answered {Fault = g.S.Sources.FaultSeen} (end_seen (ends.Threw c.in-Threw.exception c.in-Threw.function c.in-Threw.line)) l (without_globals (world_seen c.args.outcome.world)) old)) (sym is)
+    (subst (λ (l : List LoadedModule). IfOk c.abandon.result (λ s. step_seen g.S.Sources.fault_seen s ≡ answered {Fault = g.S.Sources.FaultSeen} (end_seen (ends.Threw c.in-Threw.exception c.in-Threw.function c.in-Threw.line)) l (without_globals (world_seen c.args.outcome.world)) old)) (sym is)
     (c.abandon.ensures.stepped old e))
 
 pub returns-in-Aborted-clause-stepped : goal.returns-in-Aborted-clause-stepped
 returns-in-Aborted-clause-stepped g c old e is =
     subst (λ (x : end.End). IfOk c.abandon-in-Aborted.result (λ s. step_seen g.S.Sources.fault_seen s ≡ after_load_with {Fault = g.S.Sources.FaultSeen} c.args.new.name.now c.args.new.source.now old (end_seen x) (world_seen c.args.outcome.world))) (sym c.in-Aborted.is)
-    (subst (λ (l : List Loaded). IfOk c.abandon-in-Aborted.result (λ s. step_seen g.S.Sources.fault_seen s ≡ answered {Fault = g.S.Sources.FaultSeen} (end_seen (ends.Aborted c.in-Aborted.function c.in-Aborted.line)) l (without_globals (world_seen c.args.outcome.world)) old)) (sym is)
+    (subst (λ (l : List LoadedModule). IfOk c.abandon-in-Aborted.result (λ s. step_seen g.S.Sources.fault_seen s ≡ answered {Fault = g.S.Sources.FaultSeen} (end_seen (ends.Aborted c.in-Aborted.function c.in-Aborted.line)) l (without_globals (world_seen c.args.outcome.world)) old)) (sym is)
     (c.abandon-in-Aborted.ensures.stepped old e))

@@ -2,7 +2,7 @@ use Rattle.std.proofs.Common.{◌≡◌, None, sym, ◌∙◌, arith}
 use Rattle.std.specs.Prelude.{slice_get}
 use Rattle.std.proofs.lemmas.Option.{slice_get_past}
 use Rattle.ash_plain_steps.proofs.ArgumentLists.{no_parameter, too_few}
-use Rattle.ash_plain_steps.proofs.arguments.arguments_of.Goals as goal
+use Rattle.ash_plain_steps.proofs.arguments.words_of.Goals as goal
 
 pub returns-in_default : goal.returns-in_default
 returns-in_default c =
