@@ -1,19 +1,18 @@
 -- A host may be in what a request leaves, where it may be in what the request finds.
-use Rattle.std.proofs.Common.{◌≡◌, ℕ, List, [], Option, Some, None, Ok, Err, refl, sym, ap, ◌∙◌, subst, inl, inr, ◌⊎◌}
+use Rattle.std.proofs.Common.{◌≡◌, ℕ, List, [], Some, refl, sym, ap, subst, inl, inr}
 use Rattle.ash_registry.specs.Registrations.{Registration}
-use Rattle.ash_steps.specs.States.{State, Hosts}
-use Rattle.ash_steps.specs.Requests.{Request, NoMemory, Reply, Refused}
-use Rattle.ash_steps.specs.Steps.{Step, TakesMemory, replied, performed}
+use Rattle.ash_steps.specs.Requests.{Request, Reply}
+use Rattle.ash_steps.specs.Steps.{Step, performed}
 use Rattle.ash_steps.specs.Steps as steps
 use Rattle.ash_wellformed.proofs.Entries.{mapped}
-use Rattle.ash_wellformed_states.specs.WellFormedStates.{AreHosts, IsWellFormedState}
+use Rattle.ash_wellformed_states.specs.WellFormedStates.{AreHosts}
 use Rattle.ash_wellformed_states.proofs.Stepped.{steps_keep}
 use Rattle.ash_wellformed_states.proofs.First.{empty_well}
 use Rattle.ash_meaning.specs.SourceFaults.{SourceFault}
 use Rattle.ash_meaning.specs.Sources.{admitting_unregistered}
 use Rattle.ash_meaning.proofs.SourceLaws.{read_sound}
 use Rattle.ash_states.specs.States.{HostState, IsAdmitted, empty, embedding_for, offered_to}
-use Rattle.ash_states.specs.Steps.{no_hosts, outcome_of, step, RanOut, Steps, StepsKeepAdmitted}
+use Rattle.ash_states.specs.Steps.{no_hosts, outcome_of, step, Steps, StepsKeepAdmitted}
 use Rattle.ash_states.proofs.NoServices.{steps_leave_none}
 
 no_hosts_are : AreHosts no_hosts

@@ -15,7 +15,6 @@ use Rattle.ash_state_image.specs.declared.parts.ObjectParts.{ObjectParts}
 use Rattle.ash_state_image.specs.Snapshots.{Loaded, Snapshot}
 use Rattle.ash_state_image.specs.Views.{modules_in, object_in, objects_in}
 use Rattle.ash_state_image.specs.Image.{Fits, FitsText, image_of}
-use Rattle.ash_state_image.specs.Rules.{IsImage}
 use Rattle.ash_states.specs.States.{HostState, IsAdmitted, embedding_for, offered_to}
 use Rattle.ash_states.specs.Images.{IsDepicted, IsImageIn}
 use Rattle.ash_states.specs.Indexes.{index_in, plain_indexed, entry_indexed, snapshot_for, IsPlainIndexed, HasKind, HaveKinds, HaveImages}

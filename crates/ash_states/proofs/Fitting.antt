@@ -1,12 +1,11 @@
 -- The snapshot of a state that a host may be in has a spelling in version 2.
-use Rattle.std.proofs.Common.{◌≡◌, ◌<◌, ◌≤◌, ◌+◌, ◌^◌, ℕ, zero, suc, List, [], ◌∷◌, map, length, slice_get, refl, sym, ap, ◌∙◌, subst, arith}
+use Rattle.std.proofs.Common.{◌≡◌, ◌<◌, ◌≤◌, ◌+◌, ◌^◌, ℕ, zero, suc, List, [], ◌∷◌, map, length, slice_get, refl, sym, ◌∙◌, subst, arith}
 use Rattle.std.specs.Prelude.{Option, Some, IsSome, Ok, true}
 use Rattle.std.specs.List.{AllByRecursion}
 use Rattle.std.proofs.lemmas.List.{length-map}
-use Rattle.std.proofs.lemmas.Option.{same_Some, slice_get_within}
+use Rattle.std.proofs.lemmas.Option.{same_Some}
 use Rattle.ash_host.specs.declared.word.Word.{Word}
-use Rattle.ash_host.specs.Objects.{Objects, Element, Bools, Ints, Uints, Int64s, Uint64s, Handles, Hosts, Plain, Script, Array, Host, object_at, numbers, fields_of, Lives, AreNumbered, IsInOrder}
-use Rattle.ash_host.proofs.Order.{none_after, in_order_after}
+use Rattle.ash_host.specs.Objects.{Objects, Element, Bools, Ints, Uints, Int64s, Uint64s, Handles, Hosts, Plain, Script, Array, Host, object_at, fields_of, Lives}
 use Rattle.ash_integers.specs.declared.int_type.IntType.{IntType}
 use Rattle.ash_typed.specs.declared.types.VarType.{VarType}
 use Rattle.ash_typed.specs.Modules.{Class, Module}
@@ -16,20 +15,19 @@ use Rattle.ash_typed.specs.SoundModules.{IsSound, IsClass, AreClasses}
 use Rattle.ash_phrases.specs.Classes.{Program}
 use Rattle.ash_steps.specs.States.{LoadedModule, State, Embedding}
 use Rattle.ash_steps.specs.Premises.{ReadsSound}
-use Rattle.ash_wellformed.specs.WellFormed.{Shape, IsReference, to_nothing, to_object, IsInteger, int, uint, int64, uint64, IsValue, is_truth, is_integer, is_object, is_handle, AreValues, no_values, and_value, AllAre, none_are, and_is, IsScript, IsArray, IsObject, is_script, is_array, is_host}
+use Rattle.ash_wellformed.specs.WellFormed.{Shape, IsReference, to_nothing, to_object, IsInteger, int, uint, int64, uint64, IsValue, is_truth, is_integer, is_object, is_handle, AreValues, no_values, and_value, AllAre, none_are, and_is, IsScript, IsObject, is_script, is_array, is_host}
 use Rattle.ash_wellformed.proofs.Values.{shape_lives}
 use Rattle.ash_wellformed.proofs.Lists.{values_length}
 use Rattle.ash_wellformed_states.specs.WellFormedStates.{known_of, IsLoaded, HasValidName, IsWellFormedState}
 use Rattle.ash_state_image.specs.declared.version.Version.TheVariants.{Two}
-use Rattle.ash_state_image.specs.Snapshots.{Loaded, Snapshot}
 use Rattle.ash_state_image.specs.Words.{FitsWord}
-use Rattle.ash_state_image.specs.ObjectBytes.{FitsElement, FitsScript, FitsHost, FitsArray, FitsPlain}
+use Rattle.ash_state_image.specs.ObjectBytes.{FitsElement, FitsScript, FitsPlain}
 use Rattle.ash_state_image.specs.Image.{max_source_bytes, do_rise, has_version, FitsModule, FitsObject, FitModules, FitObjects}
-use Rattle.ash_states.specs.Indexes.{index_in, element_indexed, plain_indexed, entry_indexed, stored_of, stored_modules_of, IsIndexed, IsElementIndexed, IsPlainIndexed, HasElementKind, HasKind, HaveKinds}
+use Rattle.ash_states.specs.Indexes.{index_in, element_indexed, plain_indexed, entry_indexed, stored_of, stored_modules_of, IsElementIndexed, IsPlainIndexed, HasElementKind, HasKind, HaveKinds}
 use Rattle.ash_states.proofs.Lists.{each_at, order_rises}
 use Rattle.ash_states.proofs.Names.{one_name, ascending_of}
 use Rattle.ash_states.proofs.Renamed.{numbers_same}
-use Rattle.ash_states.proofs.Indexed.{IsPlaceable, IsIndexedName, indexed_name, placeable}
+use Rattle.ash_states.proofs.Indexed.{indexed_name, placeable}
 
 -- words
 

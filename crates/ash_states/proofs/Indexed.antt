@@ -1,5 +1,5 @@
 -- Modules by their indexes: in a well-formed state each object is of a module that is there, at the index of its name.
-use Rattle.std.proofs.Common.{◌≡◌, ◌<◌, ◌≤◌, ◌+◌, ◌^◌, ℕ, zero, suc, Bool, true, false, cond, List, [], ◌∷◌, map, length, get_or, nat_le, slice_get, unwrap_or, refl, sym, ap, ◌∙◌, subst, arith}
+use Rattle.std.proofs.Common.{◌≡◌, ◌<◌, ◌≤◌, ◌+◌, ◌^◌, ℕ, Bool, true, false, cond, List, [], ◌∷◌, length, get_or, nat_le, slice_get, unwrap_or, refl, sym, ap, ◌∙◌, subst, arith}
 use Rattle.std.specs.Prelude.{Option, Some, None, Result, Ok, Err, count_by}
 use Rattle.std.specs.List.{find, position_or_len}
 use Rattle.std.specs.Option.{option_map_or}
@@ -21,7 +21,7 @@ use Rattle.ash_phrases.specs.Classes.{Program, place_of_class, place_of_interfac
 use Rattle.ash_steps.specs.States.{LoadedModule, State, Embedding, has_name}
 use Rattle.ash_steps.specs.Tasks.{tree_in, tree_of}
 use Rattle.ash_steps.specs.Premises.{ReadsSound}
-use Rattle.ash_wellformed.specs.WellFormed.{IsKnownFor, IsNamed, IsScript, IsArray, IsObject, is_script, is_array, is_host}
+use Rattle.ash_wellformed.specs.WellFormed.{IsKnownFor, IsNamed, IsScript, IsObject, is_script, is_array, is_host}
 use Rattle.ash_wellformed.proofs.Entries.{chained}
 use Rattle.ash_wellformed.proofs.Hosts.{rec_at}
 use Rattle.ash_wellformed.proofs.Parts.{there_from}

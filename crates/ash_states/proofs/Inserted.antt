@@ -1,5 +1,5 @@
 -- Objects that are put one after another by rising numbers are those objects.
-use Rattle.std.proofs.Common.{◌≡◌, ℕ, ◌<◌, true, List, [], ◌∷◌, ◌++◌, refl, sym, ap, ◌∙◌, subst, append-nil, append_assoc, ltb, arith}
+use Rattle.std.proofs.Common.{◌≡◌, ℕ, ◌<◌, true, [], ◌∷◌, ◌++◌, refl, sym, ap, ◌∙◌, append-nil, append_assoc, ltb, arith}
 use Rattle.std.proofs.Common.{Greater}
 use Rattle.std.specs.List.{AllByRecursion}
 use Rattle.std.specs.declared.cmp.Ordering.{Ordering}
@@ -11,7 +11,6 @@ use Rattle.ash_host.proofs.Membership.{and_both}
 use Rattle.ash_state_image.specs.Image.{do_rise}
 use Rattle.ash_state_image.proofs.OrderLaws.{tail_rises}
 use Rattle.ash_states.specs.Restoring.{with_all}
-use Rattle.ash_states.proofs.Lists.{all_more}
 
 above : (x y : ℕ) → y < x → nat_cmp x y ≡ Greater
 above x y h = grind (arith, nat_tests)

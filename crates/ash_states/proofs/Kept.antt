@@ -1,14 +1,12 @@
 -- The snapshot of a state that a host may be in keeps the rules, and is of that state.
-use Rattle.std.proofs.Common.{◌≡◌, ℕ, Bool, true, List, [], ◌∷◌, map, length, refl, sym, ap, ◌∙◌, subst, arith}
-use Rattle.std.specs.Prelude.{Option, Some, None, Ok, Contains}
+use Rattle.std.proofs.Common.{◌≡◌, ℕ, Bool, true, List, [], map, length, refl, sym, ap, ◌∙◌, subst}
+use Rattle.std.specs.Prelude.{Option, Some, None, Contains}
 use Rattle.std.specs.List.{AllByRecursion, list_all}
 use Rattle.std.specs.Option.{option_map_or}
 use Rattle.std.proofs.lemmas.List.{length-map}
 use Rattle.ash_host.specs.declared.word.Word.{Word}
-use Rattle.ash_host.specs.Objects.{Objects, Element, Plain, Script, Array, Host, object_at, handles, fields_of, Lives, Refers}
+use Rattle.ash_host.specs.Objects.{Objects, Element, Plain, Host, object_at, handles, fields_of, Lives}
 use Rattle.ash_host.specs.Reach.{ReachableIn, NoneDangles}
-use Rattle.ash_host.proofs.Membership.{both_and}
-use Rattle.ash_integers.specs.declared.int_type.IntType.{IntType}
 use Rattle.ash_integers.specs.declared.int_type.IntType.TheVariants as ints
 use Rattle.ash_registry.specs.Registrations.{Registration}
 use Rattle.ash_typed.specs.declared.types.Element as typed_element
@@ -22,14 +20,12 @@ use Rattle.ash_wellformed.specs.WellFormed.{int, uint, int64, uint64, is_truth, 
 use Rattle.ash_wellformed.proofs.Values.{none_in, values_live, all_live}
 use Rattle.ash_wellformed_states.specs.WellFormedStates.{known_of, IsLoaded, IsWellFormedState}
 use Rattle.ash_wellformed_states.proofs.Named.{from_globals, rec_of}
-use Rattle.ash_state_image.specs.Snapshots.{Loaded, Snapshot}
-use Rattle.ash_state_image.specs.Rules.{held_by, IsPlaced, is_element, are_elements, IsWhole, KeepsRules}
-use Rattle.ash_states.specs.States.{HostState}
-use Rattle.ash_states.specs.Images.{name_at, plain_named, entry_named, loaded_modules_of, state_of}
+use Rattle.ash_state_image.specs.Rules.{held_by, IsPlaced, is_element, are_elements, KeepsRules}
+use Rattle.ash_states.specs.Images.{name_at, entry_named, loaded_modules_of, state_of}
 use Rattle.ash_states.specs.Indexes.{index_in, element_indexed, plain_indexed, entry_indexed, stored_of, stored_modules_of, snapshot_for}
 use Rattle.ash_states.proofs.Lists.{all_more, all_map, map_twice, map_same, each_at}
 use Rattle.ash_states.proofs.Names.{stored_same}
-use Rattle.ash_states.proofs.Renamed.{renamed, numbered, none_dangles, reached, lives_same}
+use Rattle.ash_states.proofs.Renamed.{numbered, none_dangles, reached, lives_same}
 use Rattle.ash_states.proofs.Formed.{held_same}
 use Rattle.ash_states.proofs.Restored.{state_same}
 use Rattle.ash_states.proofs.Indexed.{IsPlaceable, placeable}

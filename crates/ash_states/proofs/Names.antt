@@ -1,5 +1,5 @@
 -- Names of modules, and their order, as images spell them and as states do.
-use Rattle.std.proofs.Common.{◌≡◌, ℕ, Bool, true, false, ◌&&◌, List, [], ◌∷◌, map, refl, sym, ap, ◌∙◌}
+use Rattle.std.proofs.Common.{◌≡◌, ℕ, true, ◌&&◌, List, [], ◌∷◌, refl, sym, ap, ◌∙◌}
 use Rattle.std.specs.List.{AllByRecursion}
 use Rattle.std.specs.declared.cmp.Ordering.{Ordering}
 use Rattle.std.specs.declared.cmp.Ordering.TheVariants.{Less, Equal, Greater}
@@ -13,8 +13,8 @@ use Rattle.ash_wellformed_states.specs.WellFormedStates.{ComeAfter, Ascend, HasV
 use Rattle.ash_plain_steps.specs.Consistency as code
 use Rattle.ash_state_image.specs.Snapshots.{Loaded}
 use Rattle.ash_state_image.specs.Image.{is_module_name, are_ascending, names_of, FitsModule}
-use Rattle.ash_states.specs.Images.{loaded_of, loaded_modules_of}
-use Rattle.ash_states.specs.Indexes.{stored_of, stored_modules_of}
+use Rattle.ash_states.specs.Images.{loaded_modules_of}
+use Rattle.ash_states.specs.Indexes.{stored_modules_of}
 
 -- which names there are
 

@@ -1,5 +1,5 @@
 -- Where there are no services, a step leaves none.
-use Rattle.std.proofs.Common.{◌≡◌, ℕ, List, [], ◌∷◌, Option, Some, None, Ok, Err, refl, sym, ap, ◌∙◌, subst, slice_set, option_map}
+use Rattle.std.proofs.Common.{◌≡◌, ℕ, List, [], ◌∷◌, Some, Ok, Err, sym, ap, ◌∙◌, subst, slice_set}
 use Rattle.std.proofs.lemmas.Option.{same_Some}
 use Rattle.ash_host.specs.declared.word.Word.{Word}
 use Rattle.ash_host.specs.declared.event.Target.{Target}
@@ -9,16 +9,16 @@ use Rattle.ash_phrases.specs.Activity.{World, Frame, Activity}
 use Rattle.ash_phrases.specs.Releases.{sweep}
 use Rattle.ash_phrases.specs.Frames.{back_in}
 use Rattle.ash_phrases.specs.HostSteps.{with_state}
-use Rattle.ash_phrases.specs.Traces.{WorldTransition, WritesGlobal, WritesWords, Makes, Draws, TakesAnswer, Notes, Transition, TakesTick, InFrame, Enters, Leaves, InWorld, Releases, after_release, Trace, Here, Then}
+use Rattle.ash_phrases.specs.Traces.{WorldTransition, WritesGlobal, WritesWords, Makes, Draws, TakesAnswer, Notes, Transition, TakesTick, InFrame, Enters, Leaves, InWorld, Releases, Trace, Here, Then}
 use Rattle.ash_phrases.specs.Classes.{Program}
 use Rattle.ash_phrases.specs.Ends.{End, Finished, Threw, Aborted, Outcome, call_function, load_module}
 use Rattle.ash_phrases.specs.Laws.{EffectsStay, first_of_load}
 use Rattle.ash_phrases.proofs.Endings.{runs_stay}
 use Rattle.ash_wellformed.proofs.Entries.{mapped}
-use Rattle.ash_steps.specs.States.{LoadedModule, State, Hosts, Embedding, without_module, world_of}
+use Rattle.ash_steps.specs.States.{State, Hosts, Embedding, without_module, world_of}
 use Rattle.ash_steps.specs.Requests.{Request, Value, ShownAs, Number, Done, Refused}
 use Rattle.ash_steps.specs.Tasks.{Task, Initialize, Invoke, Remove, Read, Show, Count, Rewrite, TaskResult, task_of}
-use Rattle.ash_steps.specs.Steps.{Step, replied, without_globals, after_load_with, after_load, after_call, after_discard, perform, unless_refused, Steps, performed, put_off}
+use Rattle.ash_steps.specs.Steps.{Step, replied, after_load_with, after_load, after_call, after_discard, perform, unless_refused, Steps, performed, put_off}
 
 abbrev HasNone : World → Type 0
 HasNone world = world.services ≡ []

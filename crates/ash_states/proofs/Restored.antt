@@ -1,5 +1,5 @@
 -- What was stored is restored exactly where a host may be in it.
-use Rattle.std.proofs.Common.{◌≡◌, ℕ, List, [], ◌∷◌, map, refl, sym, ap, ◌∙◌, subst}
+use Rattle.std.proofs.Common.{◌≡◌, ℕ, List, [], map, sym, ap, ◌∙◌, subst}
 use Rattle.std.specs.Prelude.{Some, None}
 use Rattle.std.specs.List.{AllByRecursion}
 use Rattle.ash_host.specs.Objects.{Objects}
@@ -10,14 +10,14 @@ use Rattle.ash_wellformed.specs.WellFormed.{AreObjects, AreOffered}
 use Rattle.ash_wellformed_states.specs.WellFormedStates.{known_of, IsLoaded}
 use Rattle.ash_plain_steps.specs.declared.state.LoadedModule as code_module
 use Rattle.ash_plain_steps.specs.declared.state.PlainState.{PlainState}
-use Rattle.ash_plain_steps.specs.StateViews.{modules_seen, state_seen}
+use Rattle.ash_plain_steps.specs.StateViews.{state_seen}
 use Rattle.ash_plain_steps.specs.Consistency.{AreConsistent}
 use Rattle.ash_plain_steps.specs.Consistency as code
 use Rattle.ash_state_image.specs.Snapshots.{Loaded, Snapshot}
 use Rattle.ash_state_image.specs.Rules.{IsShaped}
 use Rattle.ash_states.specs.States.{HostState, IsAdmitted, embedding_for, offered_to}
 use Rattle.ash_states.specs.Images.{loaded_of, loaded_modules_of, state_of, IsRefused}
-use Rattle.ash_states.specs.Holding.{IsHeld, held_with}
+use Rattle.ash_states.specs.Holding.{held_with}
 use Rattle.ash_states.specs.Restoring.{HasTree, ReadsModules, RestoresState}
 use Rattle.ash_states.proofs.Lists.{all_more, all_unmap}
 use Rattle.ash_states.proofs.Names.{ascend_of, code_ascend}

@@ -1,13 +1,13 @@
 -- The step that the code takes is one that a host takes.
-use Rattle.std.proofs.Common.{◌≡◌, ◌⊎◌, ℕ, List, [], Option, Some, None, Result, Ok, Err, option_map, refl, sym, ap, ◌∙◌, subst, inl, inr}
+use Rattle.std.proofs.Common.{◌≡◌, ℕ, List, [], None, Result, Ok, Err, option_map, sym, ap, subst, inl, inr}
 use Rattle.std.specs.Prelude.{IfOk}
 use Rattle.ash_registry.specs.Registrations.{Registration}
 use Rattle.ash_steps.specs.States.{State, Hosts}
 use Rattle.ash_steps.specs.States as states
-use Rattle.ash_steps.specs.Requests.{Request, NoMemory, Reply, Refused}
-use Rattle.ash_steps.specs.Tasks.{Task, Initialize, Invoke, Remove, Read, Show, Count, Rewrite, TaskResult}
+use Rattle.ash_steps.specs.Requests.{Request, NoMemory}
+use Rattle.ash_steps.specs.Tasks.{Initialize, Invoke, Remove, Read, Show, Count, Rewrite, TaskResult}
 use Rattle.ash_steps.specs.Tasks as tasks
-use Rattle.ash_steps.specs.Steps.{Step, TakesMemory, replied, unless_refused}
+use Rattle.ash_steps.specs.Steps.{Step, unless_refused}
 use Rattle.ash_steps.specs.Steps as steps
 use Rattle.ash_plain_steps.specs.declared.request.Step as code_step
 use Rattle.ash_plain_steps.specs.declared.request.StepError.{StepError}
@@ -24,7 +24,7 @@ use Rattle.ash_meaning.specs.SourceFaults.{SourceFault, fault_of}
 use Rattle.ash_meaning.specs.SourceFaults as faults
 use Rattle.ash_meaning.specs.Sources.{SourceRules, embedding_of, admitting_unregistered}
 use Rattle.ash_states.specs.States.{HostState, IsAdmitted, empty, embedding_for}
-use Rattle.ash_states.specs.Steps.{no_hosts, task_of, outcome_of, step, RanOut, Steps, Handled}
+use Rattle.ash_states.specs.Steps.{no_hosts, task_of, outcome_of, Steps}
 use Rattle.ash_states.specs.Holding.{held_with, IsHeld, IsStepOf}
 use Rattle.ash_states.proofs.Admitted.{empty_admitted, step_admitted}
 

@@ -1,11 +1,8 @@
 -- What the code tests is whether what is stored is of the types that the sources say.
 use Rattle.std.proofs.Common.{◌≡◌, ◌↔◌, ℕ, Bool, true, List, refl}
-use Rattle.std.specs.List.{AllByRecursion}
 use Rattle.ash_host.specs.Objects.{Objects}
 use Rattle.ash_registry.specs.Registrations.{Registration}
 use Rattle.ash_typed.specs.Signatures.{Host}
-use Rattle.ash_wellformed.specs.WellFormed.{AreObjects, AreOffered}
-use Rattle.ash_wellformed_states.specs.WellFormedStates.{known_of, IsLoaded}
 use Rattle.ash_plain_steps.specs.declared.state.LoadedModule as code_module
 use Rattle.ash_plain_steps.specs.StateViews.{modules_seen}
 use Rattle.ash_plain_steps.specs.Consistency.{AreConsistent}

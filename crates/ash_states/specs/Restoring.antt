@@ -1,7 +1,7 @@
 -- What the code gives on the way from a state that was stored.
-use Rattle.std.specs.Prelude.{◌≡◌, ℕ, List, [], ◌∷◌, Option, Some, None, Ok}
+use Rattle.std.specs.Prelude.{◌≡◌, List, [], ◌∷◌, Option, Some, None, Ok}
 use Rattle.std.specs.List.{AllByRecursion}
-use Rattle.ash_host.specs.Objects.{Plain, Objects, with_at}
+use Rattle.ash_host.specs.Objects.{Objects, with_at}
 use Rattle.ash_registry.specs.Registrations.{Registration}
 use Rattle.ash_typed.specs.Modules.{Module}
 use Rattle.ash_steps.specs.States.{Embedding}

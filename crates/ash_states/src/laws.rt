@@ -1,6 +1,6 @@
 //! The laws of the states of hosts. A function without a body does nothing: its contract is the law.
 
-ghost use Rattle.std.specs.Prelude.{ℕ, List};
+ghost use Rattle.std.specs.Prelude.{List};
 ghost use Rattle.ash_registry.specs.Registrations.{Registration};
 ghost use Rattle.ash_states.specs.States.{IsAdmitted, empty};
 ghost use Rattle.ash_states.specs.Steps.{StepsKeepAdmitted};

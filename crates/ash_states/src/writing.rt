@@ -3,7 +3,7 @@
 ghost use Rattle.std.specs.Prelude.{◌≡◌, ◌<◌, ◌^◌, length, IfOk};
 ghost use Rattle.ash_registry.specs.Registered.{registered};
 ghost use Rattle.ash_state_image.specs.Image.{Fits};
-ghost use Rattle.ash_state_image.specs.Views.{modules_in, objects_in, snapshot_in};
+ghost use Rattle.ash_state_image.specs.Views.{snapshot_in};
 ghost use Rattle.ash_state_image.specs.declared.version.Version.TheVariants.{Two};
 ghost use Rattle.ash_states.specs.Images.{IsImageIn, IsBodyOf};
 ghost use Rattle.ash_states.specs.Holding.{IsHeld, held_with};

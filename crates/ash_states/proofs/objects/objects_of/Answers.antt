@@ -1,6 +1,6 @@
 use Rattle.std.proofs.Common.{◌≡◌, ◌≤◌, ℕ, true, List, [], ◌∷◌, length, map, refl, sym, ◌∙◌, ap, subst, arith}
 use Rattle.std.specs.Vec.Iter.{into_iter_items}
-use Rattle.ash_host.specs.Objects.{Objects, numbers}
+use Rattle.ash_host.specs.Objects.{numbers}
 use Rattle.ash_plain_steps.specs.StateViews.{modules_seen}
 use Rattle.ash_state_image.specs.Image.{do_rise}
 use Rattle.ash_state_image.specs.Views.{objects_of}

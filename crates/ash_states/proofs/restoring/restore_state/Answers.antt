@@ -2,7 +2,6 @@ use Rattle.std.proofs.Common.{rules, ◌≡◌, ◌↔◌, true, false, List, []
 use Rattle.std.proofs.lemmas.Grind.{common_steps}
 use Rattle.std.specs.Prelude.{option_map}
 use Rattle.std.specs.Vec.{vec_items}
-use Rattle.ash_host.specs.Objects.{Objects}
 use Rattle.ash_registry.specs.Registrations.{Registration}
 use Rattle.ash_registry.specs.Registered.{registered}
 use Rattle.ash_typed.specs.Signatures.{Host}
@@ -18,7 +17,7 @@ use Rattle.ash_state_image.specs.Views.{services_of, modules_of, objects_of, sna
 use Rattle.ash_states.specs.States.{embedding_for}
 use Rattle.ash_states.specs.Images.{name_at, entry_named, state_of}
 use Rattle.ash_states.specs.Restoring.{ReadsModules}
-use Rattle.ash_states.proofs.Restored.{Typed, unread, read_consistent, mistyped_read, typed_read, restored}
+use Rattle.ash_states.proofs.Restored.{unread, read_consistent, mistyped_read, typed_read, restored}
 use Rattle.ash_states.proofs.Typed.{typed_if}
 use Rattle.ash_states.proofs.restoring.restore_state.Goals as goal
 
