@@ -37,8 +37,7 @@ step_taken budget request old reply new e = mapped (outcome_of old.registered) (
 pub steps_keep_admitted : StepsKeepAdmitted
 steps_keep_admitted budget request old reply new h (inl e) =
     let (one, taken, same) = step_taken budget request old reply new e in
-    let after : (outcome_of old.registered one).1 ≡ new = ap (λ (p : Reply SourceFault × HostState). p.1) same in
-    (
+    let after : (outcome_of old.registered one).1 ≡ new = ap (λ (p : Reply SourceFault × HostState). p.1) same in (
       subst IsAdmitted after (step_admitted budget request old one h (performed taken)),
       sym (ap (λ (s : HostState). s.registered) after),
     )

@@ -16,7 +16,6 @@ above : (x y : ℕ) → y < x → nat_cmp x y ≡ Greater
 above x y h = grind (arith, nat_tests)
 
 module _ {M : Type 0} where
-
   -- all numbers are below one
   abbrev AllBelow : ℕ → Objects M → Type 0
   AllBelow n os = AllByRecursion (λ (e : ℕ × Plain M). e.0 < n) os

@@ -35,13 +35,12 @@ map_same {A} f (x ∷ xs) h = ap (λ (y : A). y ∷ map f xs) h.0 ∙ ap (λ (ys
 -- in order, each entry is the one that is found at its number
 pub each_at : {A : Type 0} (es : List (ℕ × A)) → IsInOrder es → AllByRecursion (λ (e : ℕ × A). object_at e.0 es ≡ Some e.1) es
 each_at [] order = tt
-each_at {A} (e ∷ es) order =
-    (
-      object_here e es,
-      all_more (λ (x : ℕ × A). object_at x.0 es ≡ Some x.1) (λ (x : ℕ × A). object_at x.0 (e ∷ es) ≡ Some x.1)
-          (λ x at. object_later x.0 e es (none_after e es x.0 order (there (object_at x.0 es) x.1 at)) ∙ at)
-          es (each_at es (in_order_after e es order)),
-    )
+each_at {A} (e ∷ es) order = (
+  object_here e es,
+  all_more (λ (x : ℕ × A). object_at x.0 es ≡ Some x.1) (λ (x : ℕ × A). object_at x.0 (e ∷ es) ≡ Some x.1)
+      (λ x at. object_later x.0 e es (none_after e es x.0 order (there (object_at x.0 es) x.1 at)) ∙ at)
+      es (each_at es (in_order_after e es order)),
+)
   where
     there : (o : Option A) (a : A) → o ≡ Some a → IsSome o
     there o a is = subst (λ (p : Option A). IsSome p) (sym is) refl

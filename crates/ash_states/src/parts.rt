@@ -14,7 +14,9 @@ ghost use Rattle.ash_states.specs.Writing.{HavePartKinds};
 use ash_plain::objects::Objects;
 use ash_plain_data::object::{Element, Object};
 use ash_plain_steps::state::LoadedModule;
-use ash_state_image::parts::{ArrayParts, BodyParts, HostParts, ModuleParts, ObjectParts, ScriptParts};
+use ash_state_image::parts::{
+    ArrayParts, BodyParts, HostParts, ModuleParts, ObjectParts, ScriptParts,
+};
 use ash_state_image::stored::ElementType;
 use std::alloc::{AllocError, Global};
 

@@ -24,5 +24,7 @@ returns-in_default g c =
     let split : modules_seen c.loop-module.modules.items ++ loaded_of (module_of c.in-Some.module) ∷ loaded_modules_of (modules_of (into_iter_items c.next.new.self)) ≡ loaded_modules_of (modules_of c.args.stored.items) =
     ap (λ (left : List _). modules_seen c.loop-module.modules.items ++ loaded_modules_of (modules_of left))
     (sym c.in-Some.ensures.steps.0) ∙ c.loop-module.invariant.same in
-    record { exact = λ all. not_this (one_of Reads (modules_seen c.loop-module.modules.items) (loaded_modules_of (modules_of (into_iter_items c.next.new.self)))
-    (loaded_of (module_of c.in-Some.module)) (subst (AllByRecursion Reads) (sym split) (all_map loaded_of Reads (modules_of c.args.stored.items) all))) }
+    record {
+      exact = λ all. not_this (one_of Reads (modules_seen c.loop-module.modules.items) (loaded_modules_of (modules_of (into_iter_items c.next.new.self)))
+          (loaded_of (module_of c.in-Some.module)) (subst (AllByRecursion Reads) (sym split) (all_map loaded_of Reads (modules_of c.args.stored.items) all)));
+    }
