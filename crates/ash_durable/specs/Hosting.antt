@@ -6,9 +6,8 @@ use Rattle.ash_journal.specs.declared.journal.Journal.{Journal}
 use Rattle.ash_journal.specs.Failures.{CountsFailures}
 use Rattle.ash_journal.specs.Journal.{first_disk, second_disk, generation, record_bytes, IsReady}
 use Rattle.ash_registry.specs.Registrations.{Registration}
-use Rattle.ash_meaning.specs.Refusals.{Refusal as Cause}
+use Rattle.ash_meaning.specs.Refusals.{Refusal as Cause, TakesMemoryToRefuse}
 use Rattle.ash_meaning.specs.Refusals as refusals
-use Rattle.ash_meaning.specs.CheckedSource.{TakesMemoryToRefuse}
 use Rattle.ash_meaning.specs.State.{State, Request, Load, Call, Discard, Global, Seq, Snapshot, Reply, Answered, Number}
 use Rattle.ash_meaning.specs.State.{Refused}
 use Rattle.ash_meaning.specs.Step.{Demand, Initialize, Run, Remove, RanOut, task_of, first_refusal, step}

@@ -1,5 +1,5 @@
 -- The function that checks a source says exactly what the relation says.
-use Rattle.std.proofs.Common.{◌≡◌, ◌↔◌, ℕ, ◌-◌, inl, inr, List, [], ◌∷◌, length, Option, Some, None, option_map}
+use Rattle.std.proofs.Common.{◌≡◌, ◌↔◌, ℕ, ◌-◌, List, [], ◌∷◌, length, Option, Some, None, option_map}
 use Rattle.std.proofs.Common.{Result, Ok, Err, refl, sym, ◌∙◌, ap, subst}
 use Rattle.std.specs.List.{slice_get}
 use Rattle.std.proofs.lemmas.List.{length-map}
@@ -11,31 +11,28 @@ use Rattle.ash_lex.specs.declared.faults.LexFault.TheVariants as faults
 use Rattle.ash_tree.specs.Tree.{Item}
 use Rattle.ash_tree.specs.Tokens.{Tokens, tokens_of, placed}
 use Rattle.ash_tree.specs.Grammar.{Derives}
-use Rattle.ash_parse.specs.declared.faults.UnsupportedPart.{UnsupportedPart}
-use Rattle.ash_parse.specs.Readers.{Halt, Unexpected, TooDeep, ParseResult}
+use Rattle.ash_parse.specs.declared.faults.ParseFault.{ParseFault}
+use Rattle.ash_parse.specs.Readers.{ParseResult}
 use Rattle.ash_parse.specs.ItemReader.{module_at}
-use Rattle.ash_parse.specs.Faults.{end_of, fault_at}
+use Rattle.ash_parse.specs.Faults.{end_of}
 use Rattle.ash_parse.specs.Faults as parse_spec
 use Rattle.ash_parse.proofs.ItemComplete.{module_read as parsed_again}
 use Rattle.ash_parse.proofs.WholeModules.{module_derived}
 use Rattle.ash_parse.proofs.FirstFaults.{module_stops_first, first_is_stop}
 use Rattle.ash_registry.specs.Registrations.{Registration}
-use Rattle.ash_typing.specs.declared.fault.Rule.{Rule}
-use Rattle.ash_typing.specs.declared.fault.Rule.TheVariants as rules
+use Rattle.ash_typing.specs.declared.fault.Fault.{Fault}
 use Rattle.ash_typed.specs.Modules.{Module as Typed}
 use Rattle.ash_classes.specs.References.{classes_of}
 use Rattle.ash_check.specs.Checks.{ScriptFault, Broken, Cyclic, checked, names_of_cycle}
 use Rattle.ash_check.proofs.ExactLaws.{accepted_is, cycle_is, broken_is}
-use Rattle.ash_meaning.specs.Lexing.{IsText, Lexes, lexical}
-use Rattle.ash_meaning.specs.Scanning.{scan, lex_result, lexed}
-use Rattle.ash_meaning.specs.CheckedSource.{CheckResult, tokens_in, end_by, end_in, syntactic, refusal_at, IsNoScript}
-use Rattle.ash_meaning.specs.CheckedSource.{broken_at, untyped, IsTypedScript, IsUntypedScript}
-use Rattle.ash_meaning.specs.CheckedSource.{IsCyclicScript, ChecksTokens, Checks, no_tokens, has_tokens}
-use Rattle.ash_meaning.specs.CheckedSource.{unless_fault, items_checked, script_checked}
-use Rattle.ash_meaning.specs.CheckedSource.{tokens_checked, checked_on, checked_source, TakesMemoryToRefuse}
-use Rattle.ash_meaning.specs.CheckedSource.{TakesMemoryToCheck}
-use Rattle.ash_meaning.specs.Refusals.{Refusal}
-use Rattle.ash_meaning.specs.Refusals as refusals
+use Rattle.ash_meaning.specs.Lexing.{IsText, Lexes}
+use Rattle.ash_meaning.specs.Scanning.{scan, lexed}
+use Rattle.ash_meaning.specs.CheckedSource.{CheckResult, tokens_in, end_by, end_in, IsNoScript}
+use Rattle.ash_meaning.specs.CheckedSource.{IsTypedScript, IsUntypedScript, IsCyclicScript, HasFault, ChecksTokens}
+use Rattle.ash_meaning.specs.CheckedSource.{Checks, no_tokens, has_tokens, unless_fault, items_checked}
+use Rattle.ash_meaning.specs.CheckedSource.{script_checked, tokens_checked, checked_on, checked_source}
+use Rattle.ash_meaning.specs.SourceFaults.{SourceFault, Lexical, Syntactic, Typing, NotYet}
+use Rattle.ash_meaning.specs.SourceFaults.{TakesMemoryToFind, TakesMemoryFor}
 use Rattle.ash_meaning.proofs.LexingLaws.{lexed-is, lexed-only, of_text}
 use Rattle.ash_meaning.proofs.ScanLaws.{IsScan, scan-is}
 
@@ -61,16 +58,10 @@ items_is registered tokens items derived (Ok typed) e =
     let h = (accepted_is registered items typed).0 e in
     record { derived = derived; typed = typed; by_rules = h.0; acyclic = h.1 }
 items_is registered tokens items derived (Err (Broken fault)) e =
-    inr (inl (record {
-      items = items;
-      derived = derived;
-      fault = fault;
-      first = (broken_is registered items fault).0 e;
-      reported = refl;
-    }))
+    record { items = items; derived = derived; first = (broken_is registered items fault).0 e }
 items_is registered tokens items derived (Err (Cyclic names)) e =
     let h = (cycle_is registered items names).0 e in
-    inr (inr (record {
+    record {
       items = items;
       derived = derived;
       typed = h.0;
@@ -78,8 +69,8 @@ items_is registered tokens items derived (Err (Cyclic names)) e =
       first = h.1;
       others = h.2;
       cycle = h.4;
-      reported = ap refusals.CyclicType h.5;
-    }))
+      reported = h.5;
+    }
 
 script_is : (registered : List Registration) (tokens : List Lexeme) (o : ParseResult (List Item)) → module_at (tokens_in tokens) ≡ o
     → ChecksTokens registered tokens (script_checked registered tokens o)
@@ -87,7 +78,7 @@ script_is registered tokens (Ok script) e =
     items_is registered tokens script.0 (module_derived (tokens_in tokens) script.0 script.1 e)
     (checked registered script.0) refl
 script_is registered tokens (Err halt) e =
-    inl (record { halt = halt; first = module_stops_first (tokens_in tokens) halt e; reported = refl })
+    record { halt = halt; first = module_stops_first (tokens_in tokens) halt e; reported = refl }
 
 tokens_is : (registered : List Registration) (tokens : List Lexeme)
     → ChecksTokens registered tokens (tokens_checked registered tokens)
@@ -107,39 +98,44 @@ typed_only : (registered : List Registration) (tokens : List Lexeme) (items : Li
 typed_only registered tokens items h = parsed registered tokens items h.derived
     ∙ ap (unless_fault items) ((accepted_is registered items h.typed).1 (h.by_rules, h.acyclic))
 
-pub stopped : (registered : List Registration) (tokens : List Lexeme) (refusal : Refusal) → IsNoScript tokens refusal
-    → tokens_checked registered tokens ≡ Err refusal
+pub stopped : (registered : List Registration) (tokens : List Lexeme) (fault : ParseFault) → IsNoScript tokens fault
+    → tokens_checked registered tokens ≡ Err (Syntactic fault)
 unfolding tokens_checked
-stopped registered tokens refusal h = ap (script_checked registered tokens)
-    (first_is_stop (tokens_in tokens) h.halt h.first) ∙ ap (λ (r : Refusal). Err r) (sym h.reported)
+stopped registered tokens fault h = ap (script_checked registered tokens)
+    (first_is_stop (tokens_in tokens) h.halt h.first) ∙ ap (λ (f : ParseFault). Err (Syntactic f)) (sym h.reported)
 
-untyped_only : (registered : List Registration) (tokens : List Lexeme) (refusal : Refusal)
-    → IsUntypedScript registered tokens refusal → tokens_checked registered tokens ≡ Err refusal
-untyped_only registered tokens refusal h = parsed registered tokens h.items h.derived
-    ∙ ap (unless_fault h.items) ((broken_is registered h.items h.fault).1 h.first)
-    ∙ ap (λ (r : Refusal). Err r) (sym h.reported)
+untyped_only : (registered : List Registration) (tokens : List Lexeme) (fault : Fault)
+    → IsUntypedScript registered tokens fault → tokens_checked registered tokens ≡ Err (Typing (Broken fault))
+untyped_only registered tokens fault h = parsed registered tokens h.items h.derived
+    ∙ ap (unless_fault h.items) ((broken_is registered h.items fault).1 h.first)
 
-cyclic_only : (registered : List Registration) (tokens : List Lexeme) (refusal : Refusal)
-    → IsCyclicScript registered tokens refusal → tokens_checked registered tokens ≡ Err refusal
-cyclic_only registered tokens refusal h =
+cyclic_only : (registered : List Registration) (tokens : List Lexeme) (names : List (List ℕ))
+    → IsCyclicScript registered tokens names → tokens_checked registered tokens ≡ Err (Typing (Cyclic names))
+cyclic_only registered tokens names h =
     let found = (cycle_is registered h.items (names_of_cycle (classes_of h.items) (h.first, h.others))).1
     (h.typed, h.first, h.others, h.by_rules, h.cycle, refl) in
     parsed registered tokens h.items h.derived ∙ ap (unless_fault h.items) found
-    ∙ ap (λ (r : Refusal). Err r) (sym h.reported)
+    ∙ ap (λ (ns : List (List ℕ)). Err (Typing (Cyclic ns))) (sym h.reported)
+
+fault_only : (registered : List Registration) (tokens : List Lexeme) (fault : SourceFault)
+    → HasFault registered tokens fault → tokens_checked registered tokens ≡ Err fault
+fault_only registered tokens (Lexical fault) h = absurd h
+fault_only registered tokens (Syntactic fault) h = stopped registered tokens fault h
+fault_only registered tokens (Typing (Broken fault)) h = untyped_only registered tokens fault h
+fault_only registered tokens (Typing (Cyclic names)) h = cyclic_only registered tokens names h
+fault_only registered tokens NotYet h = absurd h
 
 tokens_only : (registered : List Registration) (tokens : List Lexeme) (outcome : CheckResult)
     → ChecksTokens registered tokens outcome → tokens_checked registered tokens ≡ outcome
 tokens_only registered tokens (Ok items) h = typed_only registered tokens items h
-tokens_only registered tokens (Err refusal) (inl h) = stopped registered tokens refusal h
-tokens_only registered tokens (Err refusal) (inr (inl h)) = untyped_only registered tokens refusal h
-tokens_only registered tokens (Err refusal) (inr (inr h)) = cyclic_only registered tokens refusal h
+tokens_only registered tokens (Err fault) h = fault_only registered tokens fault h
 
 -- what checking a source comes to
 
-checked_on-is : (registered : List Registration) (source : List ℕ) (l : Result (List Lexeme) Refusal) → Lexes source l
+checked_on-is : (registered : List Registration) (source : List ℕ) (l : Result (List Lexeme) LexFault) → Lexes source l
     → Checks registered source (checked_on registered l)
 checked_on-is registered source (Ok ts) h = has_tokens ts h (tokens_is registered ts)
-checked_on-is registered source (Err refusal) h = no_tokens refusal refl h
+checked_on-is registered source (Err fault) h = no_tokens fault refl h
 
 pub checked_source-is : (registered : List Registration) (source : List ℕ)
     → Checks registered source (checked_source registered source)
@@ -149,8 +145,8 @@ checked_source-is registered source = checked_on-is registered source (lexed sou
 pub checked_source-only : (registered : List Registration) (source : List ℕ) (outcome : CheckResult)
     → Checks registered source outcome → checked_source registered source ≡ outcome
 unfolding checked_source
-checked_source-only registered source outcome (no_tokens refusal e h) =
-    ap (checked_on registered) (lexed-only source (Err refusal) h) ∙ sym e
+checked_source-only registered source outcome (no_tokens fault e h) =
+    ap (checked_on registered) (lexed-only source (Err fault) h) ∙ sym e
 checked_source-only registered source outcome (has_tokens ts h checks) =
     ap (checked_on registered) (lexed-only source (Ok ts) h) ∙ tokens_only registered ts outcome checks
 
@@ -167,67 +163,42 @@ pub of_tokens : (registered : List Registration) (source : List ℕ) (ts : List 
 unfolding checked_source
 of_tokens registered source ts h = ap (checked_on registered) (lexed-only source (Ok ts) h)
 
--- and one without is refused
-pub of_refusal : (registered : List Registration) (source : List ℕ) (refusal : Refusal) → Lexes source (Err refusal)
-    → checked_source registered source ≡ Err refusal
-of_refusal registered source refusal h = checked_source-only registered source (Err refusal) (no_tokens refusal refl h)
+-- and one without has the fault for which it has none
+pub of_no_tokens : (registered : List Registration) (source : List ℕ) (fault : LexFault) → Lexes source (Err fault)
+    → checked_source registered source ≡ Err (Lexical fault)
+of_no_tokens registered source fault h =
+    checked_source-only registered source (Err (Lexical fault)) (no_tokens fault refl h)
 
 -- a text takes memory to check
 
-takes_fault : (source : List ℕ) (fault : LexFault) → FirstFault source fault → TakesMemoryToRefuse (lexical fault)
+takes_fault : (source : List ℕ) (fault : LexFault) → FirstFault source fault → TakesMemoryToFind (Lexical fault)
 takes_fault source (faults.BadCharacter at) h = tt
 takes_fault source (faults.UnclosedComment at) h = tt
 takes_fault source (faults.NumberTooLarge at) h = tt
 takes_fault source faults.SourceTooLong h = absurd h.5
 takes_fault source faults.NoMemory h = absurd h.5
 
-takes_rule : (rule : Rule) (at : ℕ) → TakesMemoryToRefuse (broken_at rule at)
-takes_rule rules.UnknownName at = tt
-takes_rule rules.UnknownType at = tt
-takes_rule rules.NameTaken at = tt
-takes_rule rules.TypeMismatch at = tt
-takes_rule rules.WrongArgumentCount at = tt
-takes_rule rules.NotAssignable at = tt
-takes_rule rules.NoReturn at = tt
-takes_rule rules.Misplaced at = tt
-takes_rule rules.NoFactory at = tt
-takes_rule rules.TooMany at = tt
-takes_rule rules.ConstantOutOfRange at = tt
-takes_rule rules.DuplicateCase at = tt
-
-pub takes_untyped : (why : ScriptFault) → TakesMemoryToRefuse (untyped why)
-takes_untyped (Broken fault) = takes_rule fault.rule fault.at
-takes_untyped (Cyclic names) = tt
-
-takes_items : (items : List Item) (r : Result Typed ScriptFault) → TakesMemoryToCheck (unless_fault items r)
+pub takes_items : (items : List Item) (r : Result Typed ScriptFault) → TakesMemoryFor (unless_fault items r)
 takes_items items (Ok typed) = tt
-takes_items items (Err why) = takes_untyped why
-
-takes_part : (at : ℕ) (part : Option UnsupportedPart) → TakesMemoryToRefuse (syntactic (fault_at at part))
-takes_part at None = tt
-takes_part at (Some part) = tt
-
-pub takes_halt : (tokens : List Lexeme) (halt : Halt) → TakesMemoryToRefuse (refusal_at tokens halt)
-takes_halt tokens (Unexpected []) = tt
-takes_halt tokens (Unexpected ((m, p) ∷ rest)) = takes_part p.at _
-takes_halt tokens (TooDeep rest) = tt
+takes_items items (Err fault) = tt
 
 takes_script : (registered : List Registration) (tokens : List Lexeme) (o : ParseResult (List Item))
-    → TakesMemoryToCheck (script_checked registered tokens o)
+    → TakesMemoryFor (script_checked registered tokens o)
 takes_script registered tokens (Ok script) = takes_items script.0 (checked registered script.0)
-takes_script registered tokens (Err halt) = takes_halt tokens halt
+takes_script registered tokens (Err halt) = tt
 
-takes_tokens : (registered : List Registration) (tokens : List Lexeme) → TakesMemoryToCheck (tokens_checked registered tokens)
+takes_tokens : (registered : List Registration) (tokens : List Lexeme)
+    → TakesMemoryFor (tokens_checked registered tokens)
 unfolding tokens_checked
 takes_tokens registered tokens = takes_script registered tokens (module_at (tokens_in tokens))
 
-takes_reported : (registered : List Registration) (source : List ℕ) (r : Result (List Lexeme) LexFault) → IsScan source r
-    → TakesMemoryToCheck (checked_on registered (lex_result r))
-takes_reported registered source (Ok ts) h = takes_tokens registered ts
-takes_reported registered source (Err fault) h = takes_fault source fault h
+takes_scanned : (registered : List Registration) (source : List ℕ) (r : Result (List Lexeme) LexFault) → IsScan source r
+    → TakesMemoryFor (checked_on registered r)
+takes_scanned registered source (Ok ts) h = takes_tokens registered ts
+takes_scanned registered source (Err fault) h = takes_fault source fault h
 
 pub takes_text : (registered : List Registration) (source : List ℕ) → IsText source
-    → TakesMemoryToCheck (checked_source registered source)
+    → TakesMemoryFor (checked_source registered source)
 unfolding checked_source
-takes_text registered source text = subst (λ l. TakesMemoryToCheck (checked_on registered l))
-    (sym (of_text source text)) (takes_reported registered source (scan source) (scan-is source))
+takes_text registered source text = subst (λ l. TakesMemoryFor (checked_on registered l))
+    (sym (of_text source text)) (takes_scanned registered source (scan source) (scan-is source))

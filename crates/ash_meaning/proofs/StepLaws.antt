@@ -2,8 +2,7 @@
 use Rattle.std.proofs.Common.{◌≡◌, ◌⊎◌, inl, inr, ℕ, Some, Ok, Err, sym, ◌∙◌, ap, subst}
 use Rattle.std.specs.Prelude.{IsSome}
 use Rattle.std.specs.Result.{result_err}
-use Rattle.ash_meaning.specs.CheckedSource.{TakesMemoryToRefuse}
-use Rattle.ash_meaning.specs.Refusals.{Refusal}
+use Rattle.ash_meaning.specs.Refusals.{Refusal, TakesMemoryToRefuse}
 use Rattle.ash_meaning.specs.Refusals as refusals
 use Rattle.ash_meaning.specs.State.{State, Request, Reply, Refused}
 use Rattle.ash_meaning.specs.Step.{Demand, TakesMemory, task_of, unless_refused, Steps, RefusesUnchanged}

@@ -1,12 +1,10 @@
 -- The tokens of a source, or why it has none: it is longer than 65,536 bytes, or it is not UTF-8, or it has a lexical
--- fault. A source is refused for the first of these that holds.
+-- fault. The first of these that holds is its fault.
 use Rattle.std.specs.Prelude.{ℕ, ◌<◌, ◌≤◌, ◌⊎◌, List, length, Result, Ok, Err}
 use Rattle.std.specs.Str.{IsUtf8, IsValidUpTo}
 use Rattle.ash_lex.specs.Tokens.{Lexeme, Spells, FirstFault, max_source_bytes}
 use Rattle.ash_lex.specs.declared.faults.LexFault.{LexFault}
 use Rattle.ash_lex.specs.declared.faults.LexFault.TheVariants as faults
-use Rattle.ash_meaning.specs.Refusals.{Refusal}
-use Rattle.ash_meaning.specs.Refusals as refusals
 
 -- a source that is text, and not too long
 pub record IsText (source : List ℕ) : Type 0 where
@@ -18,20 +16,21 @@ pub record IsNoText (source : List ℕ) (at : ℕ) : Type 0 where
   pub short : length source ≤ max_source_bytes
   pub valid : IsValidUpTo source at
 
--- the refusal of a lexical fault
-abbrev pub lexical : LexFault → Refusal
-lexical (faults.BadCharacter at) = refusals.BadCharacter at
-lexical (faults.UnclosedComment at) = refusals.UnclosedComment at
-lexical (faults.NumberTooLarge at) = refusals.NumberTooLarge at
-lexical faults.SourceTooLong = refusals.SourceTooLong
-lexical faults.NoMemory = refusals.NoMemory
-
--- what a source's tokens are, or the refusal for which it has none
-abbrev pub Lexes : List ℕ → Result (List Lexeme) Refusal → Type 0
-Lexes source (Ok tokens) = IsText source × Spells source tokens
-Lexes source (Err refusals.SourceTooLong) = max_source_bytes < length source
-Lexes source (Err (refusals.BadCharacter at)) = IsNoText source at
+-- the source has no tokens, for this fault
+abbrev pub HasNoTokens : List ℕ → LexFault → Type 0
+HasNoTokens source faults.SourceTooLong = max_source_bytes < length source
+HasNoTokens source (faults.BadCharacter at) = IsNoText source at
     ⊎ (IsText source × FirstFault source (faults.BadCharacter at))
-Lexes source (Err (refusals.UnclosedComment at)) = IsText source × FirstFault source (faults.UnclosedComment at)
-Lexes source (Err (refusals.NumberTooLarge at)) = IsText source × FirstFault source (faults.NumberTooLarge at)
-Lexes source (Err _) = ⊥
+HasNoTokens source (faults.UnclosedComment at) = IsText source × FirstFault source (faults.UnclosedComment at)
+HasNoTokens source (faults.NumberTooLarge at) = IsText source × FirstFault source (faults.NumberTooLarge at)
+HasNoTokens source faults.NoMemory = ⊥
+
+-- what a source's tokens are, or the fault for which it has none
+abbrev pub Lexes : List ℕ → Result (List Lexeme) LexFault → Type 0
+Lexes source (Ok tokens) = IsText source × Spells source tokens
+Lexes source (Err fault) = HasNoTokens source fault
+
+-- The source has no tokens, for this fault; or memory was refused, which a text alone takes.
+abbrev pub LexesNothing : List ℕ → LexFault → Type 0
+LexesNothing source faults.NoMemory = IsText source
+LexesNothing source fault = HasNoTokens source fault

@@ -5,6 +5,7 @@ pub mod Reading
 pub mod Refusals
 pub mod Scanning
 pub mod Scripts
+pub mod SourceFaults
 pub mod Sources
 pub mod State
 pub mod Step

@@ -5,9 +5,10 @@
 use Rattle.std.specs.Prelude.{◌≡◌, ℕ, List, Option, Some, None, Result, Ok, Err}
 use Rattle.ash_tree.specs.Tree.{Item}
 use Rattle.ash_registry.specs.Registrations.{Registration}
-use Rattle.ash_meaning.specs.CheckedSource.{CheckResult, Checks, checked_source, TakesMemoryToRefuse}
+use Rattle.ash_meaning.specs.SourceFaults.{SourceFault}
+use Rattle.ash_meaning.specs.CheckedSource.{CheckResult, Checks, checked_source}
 use Rattle.ash_subset.specs.Tree.{Module}
-use Rattle.ash_meaning.specs.Refusals.{Refusal}
+use Rattle.ash_meaning.specs.Refusals.{Refusal, refusal_for, TakesMemoryToRefuse}
 use Rattle.ash_meaning.specs.Refusals as refusals
 use Rattle.ash_subset.specs.Resolver.{resolved}
 
@@ -22,7 +23,7 @@ ReadsScript items (Err _) = ⊥
 
 -- what a source is read as, with these registrations
 pub data Reads (registered : List Registration) (source : List ℕ) (reading : ReadResult) : Type 0 where
-  refused : (refusal : Refusal) → reading ≡ Err refusal → Checks registered source (Err refusal)
+  refused : (fault : SourceFault) → reading ≡ Err (refusal_for fault) → Checks registered source (Err fault)
       → Reads registered source reading
   typed : (items : List Item) → Checks registered source (Ok items) → ReadsScript items reading
       → Reads registered source reading
@@ -35,7 +36,7 @@ module_or_none None = Err refusals.NotYet
 
 abbrev pub read_checked : CheckResult → ReadResult
 read_checked (Ok items) = module_or_none (resolved items)
-read_checked (Err refusal) = Err refusal
+read_checked (Err fault) = Err (refusal_for fault)
 
 unfoldable pub read_source : List Registration → List ℕ → ReadResult
 read_source registered source = read_checked (checked_source registered source)

@@ -1,7 +1,18 @@
 -- Why a request is refused, without where its parts lie in memory.
 use Rattle.std.specs.Prelude.{ℕ, List, map, string_bytes}
+use Rattle.ash_lex.specs.declared.faults.LexFault.{LexFault}
+use Rattle.ash_lex.specs.declared.faults.LexFault.TheVariants as lex_faults
 use Rattle.ash_parse.specs.declared.faults.UnsupportedPart.{UnsupportedPart}
+use Rattle.ash_parse.specs.declared.faults.ParseFault.{ParseFault}
+use Rattle.ash_parse.specs.declared.faults.ParseFault.TheVariants as parse_faults
+use Rattle.ash_typing.specs.declared.fault.Rule.{Rule}
+use Rattle.ash_typing.specs.declared.fault.Rule.TheVariants as rules
 use Rattle.ash_check.specs.declared.faults.ClassNames as class_names
+use Rattle.ash_check.specs.Checks.{ScriptFault, Broken, Cyclic}
+use Rattle.ash_meaning.specs.SourceFaults.{SourceFault, Lexical, Syntactic, Typing, fault_of}
+use Rattle.ash_meaning.specs.SourceFaults as source_faults
+use Rattle.ash_meaning.specs.declared.fault.SourceError.{SourceError}
+use Rattle.ash_meaning.specs.declared.fault.SourceError.TheVariants as errors
 use Rattle.ash_meaning.specs.declared.refusal.Refusal as refusal
 use Rattle.ash_meaning.specs.declared.refusal.Refusal.TheVariants as the
 
@@ -80,3 +91,73 @@ refusal_of the.DeviceFailed = DeviceFailed
 refusal_of the.Reopen = Reopen
 refusal_of the.GenerationSpent = GenerationSpent
 refusal_of the.NoMemory = NoMemory
+
+-- what a load is refused for where its source has a fault
+
+abbrev pub lexical : LexFault → Refusal
+lexical (lex_faults.BadCharacter at) = BadCharacter at
+lexical (lex_faults.UnclosedComment at) = UnclosedComment at
+lexical (lex_faults.NumberTooLarge at) = NumberTooLarge at
+lexical lex_faults.SourceTooLong = SourceTooLong
+lexical lex_faults.NoMemory = NoMemory
+
+abbrev pub syntactic : ParseFault → Refusal
+syntactic (parse_faults.Unexpected at) = Unexpected at
+syntactic (parse_faults.Unsupported word at) = Unsupported word at
+syntactic (parse_faults.TooDeep at) = TooDeep at
+syntactic parse_faults.NoMemory = NoMemory
+
+-- the refusal of a broken rule of typing, at an offset
+abbrev pub broken_at : Rule → ℕ → Refusal
+broken_at rules.UnknownName at = UnknownName at
+broken_at rules.UnknownType at = UnknownType at
+broken_at rules.NameTaken at = NameTaken at
+broken_at rules.TypeMismatch at = TypeMismatch at
+broken_at rules.WrongArgumentCount at = WrongArgumentCount at
+broken_at rules.NotAssignable at = NotAssignable at
+broken_at rules.NoReturn at = NoReturn at
+broken_at rules.Misplaced at = Misplaced at
+broken_at rules.NoFactory at = NoFactory at
+broken_at rules.TooMany at = TooMany at
+broken_at rules.ConstantOutOfRange at = ConstantOutOfRange at
+broken_at rules.DuplicateCase at = DuplicateCase at
+
+abbrev pub untyped : ScriptFault → Refusal
+untyped (Broken fault) = broken_at fault.rule fault.at
+untyped (Cyclic names) = CyclicType names
+
+-- the refusal of a source's fault
+abbrev pub refusal_for : SourceFault → Refusal
+refusal_for (Lexical fault) = lexical fault
+refusal_for (Syntactic fault) = syntactic fault
+refusal_for (Typing fault) = untyped fault
+refusal_for source_faults.NotYet = NotYet
+
+-- the refusal where reading a source fails
+abbrev pub refusal_of_error : SourceError → Refusal
+refusal_of_error (errors.Fault fault) = refusal_for (fault_of fault)
+refusal_of_error errors.NoMemory = NoMemory
+
+-- A source whose length alone refuses it takes no memory to refuse.
+abbrev pub TakesMemoryToRefuse : Refusal → Type 0
+TakesMemoryToRefuse (BadCharacter at) = Unit {0}
+TakesMemoryToRefuse (UnclosedComment at) = Unit {0}
+TakesMemoryToRefuse (NumberTooLarge at) = Unit {0}
+TakesMemoryToRefuse (Unexpected at) = Unit {0}
+TakesMemoryToRefuse (Unsupported word at) = Unit {0}
+TakesMemoryToRefuse (TooDeep at) = Unit {0}
+TakesMemoryToRefuse (UnknownName at) = Unit {0}
+TakesMemoryToRefuse (UnknownType at) = Unit {0}
+TakesMemoryToRefuse (NameTaken at) = Unit {0}
+TakesMemoryToRefuse (TypeMismatch at) = Unit {0}
+TakesMemoryToRefuse (WrongArgumentCount at) = Unit {0}
+TakesMemoryToRefuse (NotAssignable at) = Unit {0}
+TakesMemoryToRefuse (NoReturn at) = Unit {0}
+TakesMemoryToRefuse (Misplaced at) = Unit {0}
+TakesMemoryToRefuse (CyclicType names) = Unit {0}
+TakesMemoryToRefuse (NoFactory at) = Unit {0}
+TakesMemoryToRefuse (TooMany at) = Unit {0}
+TakesMemoryToRefuse (ConstantOutOfRange at) = Unit {0}
+TakesMemoryToRefuse (DuplicateCase at) = Unit {0}
+TakesMemoryToRefuse NotYet = Unit {0}
+TakesMemoryToRefuse _ = ⊥

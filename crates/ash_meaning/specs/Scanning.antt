@@ -1,5 +1,5 @@
 -- The tokens of a source as a function of it, one longest piece after another. That it gives the tokens that the source
--- has, or the refusal for which it has none, is proved of it.
+-- has, or the fault for which it has none, is proved of it.
 use Rattle.std.specs.Prelude.{ℕ, ◌+◌, ◌^◌, nat_lt, nat_le, if◌then◌else◌, List, [], ◌∷◌, ◌++◌, length, take, drop}
 use Rattle.std.specs.Prelude.{nat_eq, count_by, Option, Some, None, Result, Ok, Err, zero, suc}
 use Rattle.std.specs.List.{starts_with}
@@ -16,9 +16,6 @@ use Rattle.ash_lex.specs.declared.words.ReservedWord.{ReservedWord}
 use Rattle.ash_lex.specs.declared.words.UnsupportedWord.{UnsupportedWord}
 use Rattle.ash_lex.specs.declared.faults.LexFault.{LexFault}
 use Rattle.ash_lex.specs.declared.faults.LexFault.TheVariants as faults
-use Rattle.ash_meaning.specs.Lexing.{lexical}
-use Rattle.ash_meaning.specs.Refusals.{Refusal}
-use Rattle.ash_meaning.specs.Refusals as refusals
 
 -- past so many bytes that part tokens, past a token, or a fault
 pub data Step : Type 0 where
@@ -71,12 +68,8 @@ scan_from (suc fuel) text place line tokens =
 unfoldable pub scan : List ℕ → Result (List Lexeme) LexFault
 scan text = scan_from (length text) text (if starts_with nat_eq text byte_order_mark then 3 else 0) 1 []
 
-abbrev pub lex_result : Result (List Lexeme) LexFault → Result (List Lexeme) Refusal
-lex_result (Ok tokens) = Ok tokens
-lex_result (Err fault) = Err (lexical fault)
-
-unfoldable pub lexed : List ℕ → Result (List Lexeme) Refusal
+unfoldable pub lexed : List ℕ → Result (List Lexeme) LexFault
 lexed source =
-    if nat_lt max_source_bytes (length source) then Err refusals.SourceTooLong
-    else if is_utf8 source then lex_result (scan source)
-    else Err (refusals.BadCharacter (utf8_valid_len source))
+    if nat_lt max_source_bytes (length source) then Err faults.SourceTooLong
+    else if is_utf8 source then scan source
+    else Err (faults.BadCharacter (utf8_valid_len source))

@@ -9,7 +9,7 @@ use Rattle.ash_steps.specs.States.{Embedding}
 use Rattle.ash_meaning.specs.declared.sources.AdmittedScripts.{AdmittedScripts}
 use Rattle.ash_meaning.specs.declared.sources.AdmittedScripts.TheVariants as scripts
 use Rattle.ash_meaning.specs.declared.sources.Sources as code
-use Rattle.ash_meaning.specs.Refusals.{Refusal, NotYet}
+use Rattle.ash_meaning.specs.SourceFaults.{SourceFault, NotYet}
 use Rattle.ash_meaning.specs.TypedSource.{TypedResult, typed_source}
 
 -- what is registered, and which scripts are admitted
@@ -24,20 +24,20 @@ rules_of s = record { registered = registered s.registry.now; admitted = s.admit
 -- what a source that is typed is read as, by what it is typed as with nothing registered
 abbrev pub typed_or_not_yet : TypedResult → TypedResult
 typed_or_not_yet (Ok typed) = Ok typed
-typed_or_not_yet (Err refusal) = Err NotYet
+typed_or_not_yet (Err fault) = Err NotYet
 
-abbrev pub unless_refused : TypedResult → TypedResult → TypedResult
-unless_refused (Ok typed) alone = typed_or_not_yet alone
-unless_refused (Err refusal) alone = Err refusal
+abbrev pub unless_untyped : TypedResult → TypedResult → TypedResult
+unless_untyped (Ok typed) alone = typed_or_not_yet alone
+unless_untyped (Err fault) alone = Err fault
 
 -- what a source is read as, by what it is typed as and by what it is typed as with nothing registered
 abbrev pub admitted_as : AdmittedScripts → TypedResult → TypedResult → TypedResult
 admitted_as scripts.All typed alone = typed
-admitted_as scripts.UsingNothingRegistered typed alone = unless_refused typed alone
+admitted_as scripts.UsingNothingRegistered typed alone = unless_untyped typed alone
 
--- The typed tree that a source is read as, or the refusal for which it is none. Where only those scripts are admitted that
--- use nothing registered, a source is refused first for what checking it reports; then it has the typed tree that it has
--- with nothing registered, or is refused as one that can't be run so far.
+-- The typed tree that a source is read as, or the fault for which it is none. Where only those scripts are admitted that
+-- use nothing registered, the fault that checking comes to is the first; a source with none has the typed tree that it
+-- has with nothing registered, or is one that can't be run so far.
 abbrev pub read_typed : SourceRules → List ℕ → TypedResult
 read_typed rules source =
     admitted_as rules.admitted (typed_source rules.registered source) (typed_source [] source)
@@ -51,7 +51,7 @@ abbrev pub host_for : SourceRules → Host
 host_for rules = offered (registrations_by rules.admitted rules.registered)
 
 -- what requests see of this
-abbrev pub embedding_of : SourceRules → Embedding Refusal
+abbrev pub embedding_of : SourceRules → Embedding SourceFault
 embedding_of rules = record { read = read_typed rules; name_of_kind = name_of_kind rules.registered }
 
 -- where only those scripts are admitted that use nothing registered

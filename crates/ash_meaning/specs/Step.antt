@@ -13,13 +13,12 @@ use Rattle.ash_host.specs.declared.word.Word.TheVariants.{Int}
 use Rattle.ash_registry.specs.Registrations.{Registration}
 use Rattle.ash_meaning.specs.declared.request.Argument.{Argument}
 use Rattle.ash_meaning.specs.declared.request.Argument.TheVariants as arguments
-use Rattle.ash_meaning.specs.Refusals.{Refusal}
+use Rattle.ash_meaning.specs.Refusals.{Refusal, TakesMemoryToRefuse}
 use Rattle.ash_meaning.specs.Refusals as refusals
 use Rattle.ash_subset.specs.Tree.{Module, Function, Global as Variable}
 use Rattle.ash_subset.specs.Meaning.{End, Finished, call, load_globals}
 use Rattle.ash_meaning.specs.State.{LoadedModule, State, Request, Load, Call, Discard, Global, Seq, Snapshot, Reply}
 use Rattle.ash_meaning.specs.State.{Answered, Value, Number, Done, Refused}
-use Rattle.ash_meaning.specs.CheckedSource.{TakesMemoryToRefuse}
 use Rattle.ash_meaning.specs.Reading.{ReadResult, read_source, module_read}
 
 -- the first of a list that passes a test

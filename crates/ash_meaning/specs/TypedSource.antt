@@ -1,7 +1,7 @@
--- What a source is typed as: the typed tree of its script, or the refusal for which it has none.
+-- What a source is typed as: the typed tree of its script, or the fault for which it has none.
 --
 -- A source that is checked to be a script has the typed tree that the rules of typing give the script. Any other source
--- is refused for what checking it reports.
+-- has the fault that checking it comes to.
 use Rattle.std.specs.Prelude.{ℕ, List, Result, Ok, Err}
 use Rattle.ash_lex.specs.Tokens.{Lexeme}
 use Rattle.ash_tree.specs.Tree.{Item}
@@ -13,12 +13,12 @@ use Rattle.ash_classes.specs.References.{Refers, classes_of}
 use Rattle.ash_classes.specs.Paths.{Reaches}
 use Rattle.ash_check.specs.Checks.{ScriptFault, checked}
 use Rattle.ash_meaning.specs.Lexing.{Lexes}
-use Rattle.ash_meaning.specs.CheckedSource.{CheckResult, tokens_in, untyped, checked_source, TakesMemoryToRefuse}
-use Rattle.ash_meaning.specs.Refusals.{Refusal}
+use Rattle.ash_meaning.specs.CheckedSource.{CheckResult, tokens_in, checked_source}
+use Rattle.ash_meaning.specs.SourceFaults.{SourceFault, Typing}
 
--- the typed tree of a source, or a refusal
+-- the typed tree of a source, or a fault
 abbrev pub TypedResult : Type 0
-TypedResult = Result Module Refusal
+TypedResult = Result Module SourceFault
 
 -- The source has tokens, the grammar derives a script from them, the rules give it this typed tree, and no class reaches
 -- itself.
@@ -30,25 +30,20 @@ pub record IsTypedSource (registered : List Registration) (source : List ℕ) (t
   pub by_rules : IsTyped registered items typed
   pub acyclic : (class : ℕ) → Reaches (Refers (classes_of items)) class class → ⊥
 
--- The same as a function: that it gives the typed tree where the source has one, and else what checking reports, is
--- proved of it.
+-- The same as a function: that it gives the typed tree where the source has one, and else the fault that checking comes
+-- to, is proved of it.
 
-abbrev pub typed_or_refused : Result Module ScriptFault → TypedResult
-typed_or_refused (Ok typed) = Ok typed
-typed_or_refused (Err why) = Err (untyped why)
+abbrev pub typed_or_fault : Result Module ScriptFault → TypedResult
+typed_or_fault (Ok typed) = Ok typed
+typed_or_fault (Err fault) = Err (Typing fault)
 
 -- what a script is typed as
 abbrev pub items_typed : List Registration → List Item → TypedResult
-items_typed registered items = typed_or_refused (checked registered items)
+items_typed registered items = typed_or_fault (checked registered items)
 
 abbrev pub typed_if_checked : List Registration → CheckResult → TypedResult
 typed_if_checked registered (Ok items) = items_typed registered items
-typed_if_checked registered (Err refusal) = Err refusal
+typed_if_checked registered (Err fault) = Err fault
 
 unfoldable pub typed_source : List Registration → List ℕ → TypedResult
 typed_source registered source = typed_if_checked registered (checked_source registered source)
-
--- A source whose length alone refuses it takes no memory to type.
-abbrev pub TakesMemoryToType : TypedResult → Type 0
-TakesMemoryToType (Ok typed) = Unit {0}
-TakesMemoryToType (Err refusal) = TakesMemoryToRefuse refusal

@@ -47,7 +47,7 @@ pub fn read_source(alloc: Global, registry: &Registry, source: &[u8]) -> Result<
 {
     match checked_module(alloc, registry, source) {
         Ok(script) => resolved_module(alloc, &script),
-        Err(refusal) => Err(refusal),
+        Err(error) => Err(error.into()),
     }
 }
 
@@ -57,7 +57,7 @@ pub fn module_read(
     registry: &Registry,
     source: &[u8],
 ) -> Result<Option<Module>, AllocError>
-    ensures { IfOk result (λ found.
+    ensures exact { IfOk result (λ found.
         option_map module_of found ≡ module_read (registered registry.now) source.now) }
 {
     match read_source(alloc, registry, source) {
@@ -69,6 +69,6 @@ pub fn module_read(
 
 /// A source is read as one module, or refused for one reason.
 pub fn reading_has_one_result()
-    ensures { (registered : List Registration) (source : List ℕ) (reading : ReadResult) →
+    ensures exact { (registered : List Registration) (source : List ℕ) (reading : ReadResult) →
         (read_source registered source ≡ reading) ↔ Reads registered source reading }
 {}

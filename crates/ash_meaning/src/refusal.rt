@@ -3,6 +3,7 @@
 ghost use Rattle.std.specs.Prelude.{◌≡◌};
 ghost use Rattle.ash_meaning.specs.Refusals.{refusal_of};
 
+use crate::fault::{SourceError, SourceFault};
 use ash_check::{CheckFault, ClassNames};
 use ash_lex::LexFault;
 use ash_parse::{ParseFault, UnsupportedPart};
@@ -92,7 +93,7 @@ impl From<AllocError> for Refusal {
 }
 
 impl From<LexFault> for Refusal {
-    ghost use Rattle.ash_meaning.specs.Lexing.{lexical};
+    ghost use Rattle.ash_meaning.specs.Refusals.{lexical};
 
     ghost from_gives = { λ fault refusal. refusal_of refusal ≡ lexical fault };
 
@@ -108,7 +109,7 @@ impl From<LexFault> for Refusal {
 }
 
 impl From<ParseFault> for Refusal {
-    ghost use Rattle.ash_meaning.specs.CheckedSource.{syntactic};
+    ghost use Rattle.ash_meaning.specs.Refusals.{syntactic};
 
     ghost from_gives = { λ fault refusal. refusal_of refusal ≡ syntactic fault };
 
@@ -123,9 +124,12 @@ impl From<ParseFault> for Refusal {
 }
 
 impl From<CheckFault> for Refusal {
-    ghost use Rattle.ash_meaning.specs.CheckedSource.{of_check};
+    ghost use Rattle.ash_check.specs.Checks.{script_fault_of};
+    ghost use Rattle.ash_meaning.specs.Refusals.{refusal_for};
+    ghost use Rattle.ash_meaning.specs.SourceFaults.{typing_fault};
 
-    ghost from_gives = { λ fault refusal. refusal_of refusal ≡ of_check fault };
+    ghost from_gives = { λ fault refusal. refusal_of refusal
+        ≡ refusal_for (typing_fault (script_fault_of fault)) };
 
     fn from(fault: CheckFault) -> Self {
         match fault {
@@ -143,6 +147,35 @@ impl From<CheckFault> for Refusal {
             CheckFault::ConstantOutOfRange { at } => Refusal::ConstantOutOfRange { at },
             CheckFault::DuplicateCase { at } => Refusal::DuplicateCase { at },
             CheckFault::NoMemory => Refusal::NoMemory,
+        }
+    }
+}
+
+impl From<SourceFault> for Refusal {
+    ghost use Rattle.ash_meaning.specs.Refusals.{refusal_for};
+    ghost use Rattle.ash_meaning.specs.SourceFaults.{fault_of};
+
+    ghost from_gives = { λ fault refusal. refusal_of refusal ≡ refusal_for (fault_of fault) };
+
+    fn from(fault: SourceFault) -> Self {
+        match fault {
+            SourceFault::Lexical(fault) => fault.into(),
+            SourceFault::Syntactic(fault) => fault.into(),
+            SourceFault::Typing(fault) => fault.into(),
+            SourceFault::NotYet => Refusal::NotYet,
+        }
+    }
+}
+
+impl From<SourceError> for Refusal {
+    ghost use Rattle.ash_meaning.specs.Refusals.{refusal_of_error};
+
+    ghost from_gives = { λ error refusal. refusal_of refusal ≡ refusal_of_error error };
+
+    fn from(error: SourceError) -> Self {
+        match error {
+            SourceError::Fault(fault) => fault.into(),
+            SourceError::NoMemory => Refusal::NoMemory,
         }
     }
 }

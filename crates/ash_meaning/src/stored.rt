@@ -26,7 +26,7 @@ pub struct ModuleParts<'a> {
 
 /// Whether each module's name comes before the next one's, byte by byte.
 pub fn are_ascending(modules: &[StoredModule]) -> bool
-    ensures { result ≡ are_ascending (names_of_modules (loaded_modules_of modules.now)) }
+    ensures decided { result ≡ are_ascending (names_of_modules (loaded_modules_of modules.now)) }
 {
     let Some((mut last, rest)) = modules.split_first() else {
         return true;

@@ -2,9 +2,9 @@
 
 use crate::compare::check_text;
 use crate::sources::{
-    bracketed, check_both, check_checking, check_reading, parts_of, printed, with_blanks,
+    bracketed, check_both, check_checking, check_reading, checking_refusal, parts_of, printed,
+    with_blanks,
 };
-use ash_meaning::checking::check_source;
 use ash_registry::Registry;
 use std::alloc::Global;
 use std::process::Abort;
@@ -131,7 +131,7 @@ fn interfaces_arrays_casts_and_indexes(rt: HostRuntime) -> Result<(), Fail> {
 fn outcome_beside(alloc: Global, source: &[u8]) -> Result<String, Fail> {
     let mut registry = Registry::new(alloc);
     registry.object_type("Counter", 1)?;
-    Ok(printed(alloc, check_source(alloc, &registry, source).err())?)
+    Ok(printed(alloc, checking_refusal(alloc, &registry, source))?)
 }
 
 #[test]

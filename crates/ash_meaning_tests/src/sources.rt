@@ -22,9 +22,16 @@ fn reading_refusal(alloc: Global, source: &[u8]) -> Option<Refusal> {
     read_source(alloc, &Registry::new(alloc), source).err()
 }
 
-/// Why a source is not checked.
-fn checking_refusal(alloc: Global, source: &[u8]) -> Option<Refusal> {
-    check_source(alloc, &Registry::new(alloc), source).err()
+/// Why a source is refused by checking it, with these registrations.
+pub(crate) fn checking_refusal(
+    alloc: Global,
+    registry: &Registry,
+    source: &[u8],
+) -> Option<Refusal> {
+    match check_source(alloc, registry, source) {
+        Ok(()) => None,
+        Err(error) => Some(error.into()),
+    }
 }
 
 /// Compares how reading a source ends.
@@ -47,7 +54,10 @@ pub(crate) fn check_checking(
     source: &[u8],
     wanted: &str,
 ) -> Result<(), Fail> {
-    let found = printed(alloc, checking_refusal(alloc, source))?;
+    let found = printed(
+        alloc,
+        checking_refusal(alloc, &Registry::new(alloc), source),
+    )?;
     let text = String::from_utf8_lossy(alloc, source)?;
     check_text(rt, found.as_str(), wanted, text.as_str());
     Ok(())

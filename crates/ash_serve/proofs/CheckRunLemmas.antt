@@ -4,11 +4,11 @@ use Rattle.std.proofs.Common.{Option, Some, None, Ok, Err, Result, inl, inr, ⊎
 use Rattle.std.proofs.lemmas.List.{append-nil, take_all, take_at}
 use Rattle.std.specs.Io.KnownBytes.{Consumes, IsAtEnd, Appends, Keeps}
 use Rattle.ash_registry.specs.Registrations.{Registration}
-use Rattle.ash_meaning.specs.declared.refusal.Refusal as code
-use Rattle.ash_meaning.specs.declared.refusal.Refusal.TheVariants as the
-use Rattle.ash_meaning.specs.Refusals.{Refusal, refusal_of}
-use Rattle.ash_meaning.specs.Refusals as refusals
-use Rattle.ash_meaning.specs.CheckedSource.{CheckResult, TakesMemoryToCheck}
+use Rattle.ash_meaning.specs.declared.fault.SourceError.{SourceError}
+use Rattle.ash_meaning.specs.declared.fault.SourceError.TheVariants as errors
+use Rattle.ash_meaning.specs.Refusals.{Refusal}
+use Rattle.ash_meaning.specs.CheckedSource.{CheckResult}
+use Rattle.ash_meaning.specs.SourceFaults.{TakesMemoryFor, RefusesAs}
 use Rattle.ash_lines.specs.Source.{Feed}
 use Rattle.ash_lines.specs.Sink.{Outlet}
 use Rattle.ash_lines.specs.Reading.{source_prefix, ReadsBytes}
@@ -40,16 +40,8 @@ prefix-exact start rest e = take_at start rest 65537 e
 
 -- Judging a source.
 
-abbrev IsNoMemory : CheckResult → Type 0
-IsNoMemory (Err refusals.NoMemory) = Unit {0}
-IsNoMemory _ = ⊥
-
-pub takes_memory : (outcome : CheckResult) (refusal : code.Refusal) → ((refusal_of refusal ≡ refusals.NoMemory) × TakesMemoryToCheck outcome) ⊎ (outcome ≡ Err (refusal_of refusal)) → refusal ≡ the.NoMemory → outcome ≡ Err refusals.SourceTooLong → ⊥
-takes_memory outcome refusal h n e =
-    ⊎_elim
-    (λ (t : (refusal_of refusal ≡ refusals.NoMemory) × TakesMemoryToCheck outcome). subst TakesMemoryToCheck e t.1)
-    (λ (r : outcome ≡ Err (refusal_of refusal)). subst IsNoMemory (sym (subst (λ (x : code.Refusal). outcome ≡ Err (refusal_of x)) n r) ∙ e) cc)
-    h
+pub takes_memory : (outcome : CheckResult) (error : SourceError) → RefusesAs outcome error → error ≡ errors.NoMemory → TakesMemoryFor outcome
+takes_memory outcome error h is = subst (RefusesAs outcome) is h
 
 -- Over a source and a sink.
 

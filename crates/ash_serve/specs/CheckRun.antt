@@ -4,8 +4,8 @@ use Rattle.std.specs.Prelude.{Result, Ok, Err, IfSome}
 use Rattle.std.specs.Io.KnownBytes.{Appends, Keeps}
 use Rattle.ash_registry.specs.Registrations.{Registration}
 use Rattle.ash_meaning.specs.declared.refusal.Refusal as code
-use Rattle.ash_meaning.specs.Refusals.{Refusal, refusal_of}
-use Rattle.ash_meaning.specs.Refusals as refusals
+use Rattle.ash_meaning.specs.Refusals.{Refusal, refusal_of, refusal_for}
+use Rattle.ash_meaning.specs.SourceFaults.{TakesMemoryFor}
 use Rattle.ash_meaning.specs.CheckedSource.{CheckResult, checked_source}
 use Rattle.ash_lines.specs.Source.{Feed, Faults}
 use Rattle.ash_lines.specs.Sink.{Outlet, WritesAll, FailsPartway}
@@ -40,14 +40,14 @@ verdict_of verdict = option_map refusal_of verdict
 -- why a source is refused, if it is
 abbrev pub refusal_in : CheckResult → Option Refusal
 refusal_in (Ok items) = None
-refusal_in (Err refusal) = Some refusal
+refusal_in (Err fault) = Some (refusal_for fault)
 
 abbrev pub verdict_on : List Registration → List ℕ → Option Refusal
 verdict_on registered source = refusal_in (checked_source registered source)
 
 -- It may take memory to judge any source but one that is too long.
 abbrev pub TakesMemory : List Registration → List ℕ → Type 0
-TakesMemory registered source = checked_source registered source ≡ Err refusals.SourceTooLong → ⊥
+TakesMemory registered source = TakesMemoryFor (checked_source registered source)
 
 -- Judging a source gave why it is refused, if it is, or there was no memory.
 abbrev pub Judges : List Registration → List ℕ → Result (Option code.Refusal) Fault → Type 0

@@ -15,6 +15,7 @@ use ash_lines::reply::{write_line, write_refusal_line};
 use ash_lines::sink::Sink;
 use ash_lines::source::Source;
 use ash_lines::writer::Writer;
+use ash_meaning::fault::SourceError;
 use ash_meaning::refusal::Refusal;
 use ash_registry::Registry;
 use std::alloc::Global;
@@ -88,8 +89,8 @@ fn judge(alloc: Global, registry: &Registry, source: &[u8]) -> Result<Option<Ref
 {
     match check_source(alloc, registry, source) {
         Ok(()) => Ok(None),
-        Err(Refusal::NoMemory) => Err(Fault::NoMemory),
-        Err(refusal) => Ok(Some(refusal)),
+        Err(SourceError::NoMemory) => Err(Fault::NoMemory),
+        Err(SourceError::Fault(fault)) => Ok(Some(fault.into())),
     }
 }
 

@@ -1,6 +1,5 @@
 use Rattle.ash_registry.specs.Registered.{registered}
 use Rattle.ash_tree.specs.Views.{module_of as items_of}
-use Rattle.ash_meaning.specs.Refusals.{refusal_of}
 use Rattle.ash_meaning.proofs.CheckedAnswers.{found_accepted, accepted_only, cycle_reported, cycle_not_found}
 use Rattle.ash_meaning.proofs.CheckedAnswers.{cycle_only}
 use Rattle.ash_meaning.proofs.checking.check_source.Goals as goal
@@ -14,13 +13,13 @@ returns-in-Ok-clause-cyclic c = cycle_not_found (registered c.args.registry.now)
     (items_of c.in-Ok._script) c.in-Ok.ensures.found
 
 pub returns-in-Err-clause-only : goal.returns-in-Err-clause-only
-returns-in-Err-clause-only c = accepted_only (registered c.args.registry.now) c.args.source.now
-    (refusal_of c.in-Err.why) c.in-Err.ensures.refused
+returns-in-Err-clause-only c = accepted_only (registered c.args.registry.now) c.args.source.now c.in-Err.why
+    c.in-Err.ensures.refused
 
 pub returns-in-Err-clause-cycle : goal.returns-in-Err-clause-cycle
-returns-in-Err-clause-cycle c = cycle_reported (registered c.args.registry.now) c.args.source.now
-    (refusal_of c.in-Err.why) c.in-Err.ensures.refused
+returns-in-Err-clause-cycle c = cycle_reported (registered c.args.registry.now) c.args.source.now c.in-Err.why
+    c.in-Err.ensures.refused
 
 pub returns-in-Err-clause-cyclic : goal.returns-in-Err-clause-cyclic
-returns-in-Err-clause-cyclic c = cycle_only (registered c.args.registry.now) c.args.source.now (refusal_of c.in-Err.why)
+returns-in-Err-clause-cyclic c = cycle_only (registered c.args.registry.now) c.args.source.now c.in-Err.why
     c.in-Err.ensures.refused

@@ -1,5 +1,4 @@
 use Rattle.ash_tree.specs.Views.{module_of as items_of}
-use Rattle.ash_meaning.specs.Refusals.{refusal_of}
 use Rattle.ash_meaning.proofs.ScriptAnswers.{items_derived, fault_read}
 use Rattle.ash_meaning.proofs.parsing.script_with_tokens.Goals as goal
 
@@ -8,4 +7,4 @@ returns-in-Ok-clause-derived c = items_derived c.args.tokens.now (items_of c.in-
 
 pub returns-in-Err-clause-refused : goal.returns-in-Err-clause-refused
 returns-in-Err-clause-refused c = fault_read c.args.tokens.now c.in-Err.fault c.in-Err.ensures.first
-    (refusal_of c.into.result) c.into.ensures
+    c.into.result c.into.ensures

@@ -6,7 +6,7 @@ use Rattle.ash_meaning.proofs.reading.read_source.Goals as goal
 
 pub returns-in-Err-clause-refused : goal.returns-in-Err-clause-refused
 returns-in-Err-clause-refused c = check_refused (registered c.args.registry.now) c.args.source.now
-    (refusal_of c.in-Err.refusal) c.in-Err.ensures.refused
+    c.in-Err.error c.in-Err.ensures.refused (refusal_of c.into.result) c.into.ensures
 
 pub returns-in-Ok-clause-found : goal.returns-in-Ok-clause-found
 returns-in-Ok-clause-found c = module_found (registered c.args.registry.now) c.args.source.now (items_of c.in-Ok.script)
