@@ -1,6 +1,7 @@
 -- Arguments by the types of parameters, one after another.
-use Rattle.std.proofs.Common.{◌≡◌, ◌<◌, ◌≤◌, ◌+◌, ℕ, zero, suc, Bool, true, false, List, [], ◌∷◌, ◌++◌, length, drop, get_or, Option, Some, None, option_map, Result, Ok, Err, OnErr, refl, sym, ◌∙◌, ap, arith, append_assoc, nat_le}
+use Rattle.std.proofs.Common.{◌≡◌, ◌<◌, ◌≤◌, ◌+◌, ℕ, zero, suc, true, false, List, [], ◌∷◌, ◌++◌, length, drop, get_or, Option, Some, None, option_map, Result, Ok, Err, OnErr, refl, sym, ◌∙◌, ap, arith, append_assoc, nat_le}
 use Rattle.std.specs.Prelude.{slice_get, is_some}
+use Rattle.std.proofs.lemmas.Bool.Decides.{nat_tests}
 use Rattle.ash_host.specs.declared.word.Word.{Word}
 use Rattle.ash_typed.specs.declared.types.VarType.{VarType}
 use Rattle.ash_steps.specs.declared.argument.Argument.{Argument}
@@ -83,6 +84,15 @@ none_there ps given i p within =
     ap (λ (l : List VarType). is_some (arguments_of l (drop i given))) (got_none ps i p)
     ∙ ap (λ (o : Option (List Word)). is_some o) (none_left given i within)
 
+none_below : (n : ℕ) → nat_le zero n ≡ true
+none_below n = grind (arith, nat_tests)
+
+too_many : (n : ℕ) → nat_le (suc n) zero ≡ false
+too_many n = grind (arith, nat_tests)
+
+same_below : (m n : ℕ) → nat_le (suc m) (suc n) ≡ nat_le m n
+same_below m n = grind (arith, nat_tests)
+
 -- no argument is left
 pub as_many_held : (ps : List VarType) (given : List Argument) (i : ℕ) → length given ≡ i → nat_le (length ps) (length given) ≡ is_some (arguments_of (drop i ps) (drop i given))
 as_many_held ps given i all =
@@ -91,10 +101,10 @@ as_many_held ps given i all =
     ∙ ap (λ (l : List Argument). is_some (arguments_of (drop i ps) l)) (sym (past given i (omega (arith, all))))
   where
     left_held : (ps : List VarType) (i : ℕ) → nat_le (length ps) i ≡ is_some (arguments_of (drop i ps) [])
-    left_held [] zero = refl
-    left_held [] (suc i) = refl
-    left_held (p ∷ ps) zero = refl
-    left_held (p ∷ ps) (suc i) = left_held ps i
+    left_held [] zero = none_below zero
+    left_held [] (suc i) = none_below (suc i)
+    left_held (p ∷ ps) zero = too_many (length ps)
+    left_held (p ∷ ps) (suc i) = same_below (length ps) i ∙ left_held ps i
 
 -- arguments that are not held have no words
 pub none_held : (ps : List VarType) (given : List Argument) → is_some (arguments_of ps given) ≡ false → None ≡ arguments_of ps given

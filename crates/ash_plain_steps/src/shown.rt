@@ -126,8 +126,10 @@ fn script_shown(
     words: &[Word],
 ) -> Result<(String, ObjectContents), AllocError>
     ensures { IfOk result (λ shown. named_seen shown
-        ≡ (dotted owner.now (class_seen class.now).name,
-        Fields (shown_fields (class_seen class.now) words.now))) }
+        ≡ (
+          dotted owner.now (class_seen class.now).name,
+          Fields (shown_fields (class_seen class.now) words.now),
+        )) }
 {
     let name = dotted(alloc, owner, class.name.as_str())?;
     let fields = fields_shown(alloc, &class.fields, words)?;

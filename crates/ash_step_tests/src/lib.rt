@@ -4,8 +4,8 @@
 //! not wait for them.
 //!
 //! `calls` has what host objects and services answer, as `Counter` and `Tally` do; `registered` what is registered;
-//! `reader` how sources are read; `requests`, `replies` and `states` the texts of a row; `rows` runs them. The rows:
-//! `classes`, `counters`, `services`, `modules`, `interfaces`, `arrays`, `limits`, `integers`, `sources`.
+//! `requests`, `replies` and `states` the texts of a row; `rows` runs them. The rows: `classes`, `counters`, `services`,
+//! `modules`, `interfaces`, `arrays`, `limits`, `integers`, `sources`.
 #![tactic(auto)]
 
 #[cfg(test)]
@@ -24,8 +24,6 @@ mod interfaces;
 mod limits;
 #[cfg(test)]
 mod modules;
-#[cfg(test)]
-mod reader;
 #[cfg(test)]
 mod registered;
 #[cfg(test)]

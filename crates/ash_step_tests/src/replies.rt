@@ -2,7 +2,7 @@
 
 use ash_evaluator::ends::End;
 use ash_host::{Event, Target, Word};
-use ash_meaning::refusal::Refusal as SourceRefusal;
+use ash_meaning::fault::SourceFault;
 use ash_phrases::Exception;
 use ash_plain_steps::request::{Answer, ObjectContents, Refusal, Reply, Shown};
 use std::alloc::{AllocError, Global};
@@ -111,24 +111,23 @@ fn write_shown(out: &mut String, shown: &Shown) -> Result<(), AllocError> {
     write_contents(out, &shown.contents)
 }
 
-fn write_source_refusal(out: &mut String, refusal: &SourceRefusal) -> Result<(), AllocError> {
-    match refusal {
-        SourceRefusal::NotYet => write!(out, "199 NotYet"),
-        SourceRefusal::Unexpected { at } => write!(out, "104 Unexpected {at}"),
-        SourceRefusal::TypeMismatch { at } => write!(out, "304 TypeMismatch {at}"),
-        SourceRefusal::CyclicType(names) => write!(out, "309 CyclicType {names}"),
-        other => write!(out, "{other:?}"),
+fn write_fault(out: &mut String, fault: &SourceFault) -> Result<(), AllocError> {
+    match fault {
+        SourceFault::Lexical(fault) => write!(out, "{fault}"),
+        SourceFault::Syntactic(fault) => write!(out, "{fault}"),
+        SourceFault::Typing(fault) => write!(out, "{fault}"),
+        SourceFault::NotYet => write!(out, "199 NotYet"),
     }
 }
 
-fn write_refusal(out: &mut String, refusal: &Refusal<SourceRefusal>) -> Result<(), AllocError> {
+fn write_refusal(out: &mut String, refusal: &Refusal<SourceFault>) -> Result<(), AllocError> {
     write!(out, "refused ")?;
     match refusal {
         Refusal::SequenceSpent => write!(out, "410 SequenceSpent"),
         Refusal::BadName => write!(out, "409 BadName"),
         Refusal::ModuleTaken => write!(out, "402 ModuleTaken"),
         Refusal::TooManyModules => write!(out, "408 TooManyModules"),
-        Refusal::BadSource(fault) => write_source_refusal(out, fault),
+        Refusal::BadSource(fault) => write_fault(out, fault),
         Refusal::NoModule => write!(out, "401 NoModule"),
         Refusal::NoFunction => write!(out, "403 NoFunction"),
         Refusal::NotCallable => write!(out, "404 NotCallable"),
@@ -142,7 +141,7 @@ fn write_refusal(out: &mut String, refusal: &Refusal<SourceRefusal>) -> Result<(
     }
 }
 
-fn write_reply(out: &mut String, reply: &Reply<SourceRefusal>) -> Result<(), AllocError> {
+fn write_reply(out: &mut String, reply: &Reply<SourceFault>) -> Result<(), AllocError> {
     match reply {
         Reply::Answered(answer) => write_answer(out, answer),
         Reply::Value(word) => {
@@ -157,7 +156,7 @@ fn write_reply(out: &mut String, reply: &Reply<SourceRefusal>) -> Result<(), All
 }
 
 /// A reply as the program writes it.
-pub fn reply_text(alloc: Global, reply: &Reply<SourceRefusal>) -> Result<String, AllocError> {
+pub fn reply_text(alloc: Global, reply: &Reply<SourceFault>) -> Result<String, AllocError> {
     let mut out = String::new(alloc);
     write_reply(&mut out, reply)?;
     Ok(out)
@@ -175,7 +174,7 @@ fn write_event(out: &mut String, event: Event) -> Result<(), AllocError> {
 }
 
 /// The events of a reply; one that is no answer has none.
-pub fn events_text(alloc: Global, reply: &Reply<SourceRefusal>) -> Result<String, AllocError> {
+pub fn events_text(alloc: Global, reply: &Reply<SourceFault>) -> Result<String, AllocError> {
     let mut out = String::new(alloc);
     if let Reply::Answered(answer) = reply {
         for event in &answer.events {

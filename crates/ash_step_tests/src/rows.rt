@@ -5,12 +5,11 @@ ghost use Rattle.ash_meaning.specs.Sources.{rules_of, embedding_of};
 ghost use Rattle.ash_plain_steps.specs.Consistency.{AreConsistent};
 
 use crate::calls::{HostStep, answers};
-use crate::reader::Reader;
 use crate::registered::{pool, registry, zero};
 use crate::replies::{events_text, reply_text};
 use crate::requests::{arguments_of, request_of};
 use crate::states::state_text;
-use ash_meaning::refusal::Refusal;
+use ash_meaning::fault::SourceFault;
 use ash_meaning::sources::{AdmittedScripts, Sources};
 use ash_plain_steps::request::{Request, Step, StepError};
 use ash_plain_steps::state::{Hosts, PlainState};
@@ -44,17 +43,17 @@ pub const HOST: Host = Host {
 
 /// The step of one request.
 fn stepped(
-    reader: &Reader<'_>,
+    sources: &Sources<'_>,
     budget: u64,
     request: &Request<'_>,
     state: PlainState,
     hosts: Hosts,
-) -> Result<Step<Refusal>, StepError>
-    requires consistent { AreConsistent (embedding_of (rules_of reader.now.sources)) state.modules.items }
-    ensures consistent { IfOk result (λ s. AreConsistent (embedding_of (rules_of reader.now.sources))
+) -> Result<Step<SourceFault>, StepError>
+    requires consistent { AreConsistent (embedding_of (rules_of sources.now)) state.modules.items }
+    ensures consistent { IfOk result (λ s. AreConsistent (embedding_of (rules_of sources.now))
         s.state.modules.items) }
 {
-    plain_step(reader, budget, request, state, hosts)
+    plain_step(sources, budget, request, state, hosts)
 }
 
 /// A row: what it shows, what is found before the first request, the requests, and the state that they leave.
@@ -81,7 +80,7 @@ fn check_step(
     rt: &impl Abort,
     alloc: Global,
     what: &str,
-    step: &Step<Refusal>,
+    step: &Step<SourceFault>,
     wanted: (&str, &str),
 ) -> Result<(), Fail> {
     let (reply, events) = wanted;
@@ -105,11 +104,9 @@ fn begun(alloc: Global, last: u64) -> Result<PlainState, Fail>
 /// that is left.
 pub fn check_row(rt: &impl Abort, alloc: Global, row: &Row<'_>) -> Result<(), Fail> {
     let registry = registry(alloc)?;
-    let reader = Reader {
-        sources: Sources {
-            registry: &registry,
-            admitted: row.host.admitted,
-        },
+    let sources = Sources {
+        registry: &registry,
+        admitted: row.host.admitted,
     };
     let mut state = begun(alloc, row.host.last)?;
     let mut hosts = Hosts {
@@ -119,7 +116,7 @@ pub fn check_row(rt: &impl Abort, alloc: Global, row: &Row<'_>) -> Result<(), Fa
     for (request, reply, events) in row.exchanges {
         let arguments = arguments_of(alloc, request)?;
         let request = request_of(request, &arguments);
-        let step = stepped(&reader, row.host.budget, &request, state, hosts)?;
+        let step = stepped(&sources, row.host.budget, &request, state, hosts)?;
         check_step(rt, alloc, row.what, &step, (*reply, *events))?;
         state = step.state;
         hosts = step.hosts;

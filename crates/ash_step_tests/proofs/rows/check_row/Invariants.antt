@@ -4,4 +4,4 @@ use Rattle.ash_step_tests.proofs.rows.check_row.Given as goal
 
 -- the modules so far are what their sources are read as
 abbrev pub invariant-loop-request : goal.invariant-loop-request
-invariant-loop-request g l = AreConsistent (embedding_of (rules_of l.reader.sources)) l.state.modules.items
+invariant-loop-request g l = AreConsistent (embedding_of (rules_of l.sources)) l.state.modules.items
