@@ -9,7 +9,7 @@ ghost use Rattle.ash_states.specs.Restoring.{RestoresState};
 
 use crate::modules::read_modules;
 use crate::objects::objects_of;
-use ash_admission::is_well_typed;
+use ash_admission::admission::is_well_typed;
 use ash_meaning::sources::{AdmittedScripts, Sources};
 use ash_plain_steps::state::PlainState;
 use ash_registry::Registry;
