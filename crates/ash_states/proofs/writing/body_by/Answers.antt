@@ -16,6 +16,5 @@ returns-clause-body c =
     (λ body written. (
       image_of (snapshot_in c.state_parts.result),
       written,
-      Two,
-      image_by_parts s c.requires.held.admitted _ c.state_parts.ensures.same c.state_parts.ensures.fits (image_of (snapshot_in c.state_parts.result)) refl,
+      (Two, image_by_parts s c.requires.held.admitted _ c.state_parts.ensures.same c.state_parts.ensures.fits (image_of (snapshot_in c.state_parts.result)) refl),
     )) c.write_body.ensures.written
