@@ -64,7 +64,7 @@ module _ (registered : List Registration) (budget : ℕ) (request : Request) (ol
       → IfOk result (λ one. AreConsistent (embedding_for registered) one.state.modules.items)
       → IsStepOf registered budget request old result
   at_none (Ok one) is stepped consistent = (taken one is, left one stepped consistent)
-  at_none (Err errors.NoStep) is stepped consistent = no_step_changes budget (tasks.task_of (embedding_for registered) request (state_seen old)) (state_seen old) no_hosts is
+  at_none (Err errors.NoStep) is stepped consistent = (no_step_changes budget (tasks.task_of (embedding_for registered) request (state_seen old)) (state_seen old) no_hosts is, ap (option_map (outcome_of registered)) is)
   at_none (Err errors.NoMemory) is stepped consistent = is
 
   step_is : (hosts : Hosts) (result : Result CodeStep StepError)

@@ -8,11 +8,10 @@ use Rattle.ash_plain_steps.specs.declared.state.PlainState.{PlainState}
 use Rattle.ash_plain_steps.specs.RequestViews.{reply_seen}
 use Rattle.ash_plain_steps.specs.StateViews.{state_seen}
 use Rattle.ash_plain_steps.specs.Consistency.{AreConsistent}
-use Rattle.ash_plain_steps.specs.StepViews.{IsChange}
 use Rattle.ash_meaning.specs.declared.fault.SourceFault as code_fault
 use Rattle.ash_meaning.specs.SourceFaults.{fault_of}
 use Rattle.ash_states.specs.States.{HostState, IsAdmitted, embedding_for}
-use Rattle.ash_states.specs.Steps.{task_of, Steps}
+use Rattle.ash_states.specs.Steps.{Steps, HasNoEnd}
 
 -- the state with what is registered
 abbrev pub held_with : List Registration → PlainState → HostState
@@ -24,7 +23,7 @@ pub record IsHeld (registered : List Registration) (s : PlainState) : Type 0 whe
   pub consistent : AreConsistent (embedding_for registered) s.modules.items
 
 -- A step of the code is one of the definitions, and leaves a state of which the same is known. Where it gives an error,
--- the request changes the state.
+-- the request changes the state and has no end.
 abbrev pub IsStepOf : List Registration → ℕ → Request → PlainState → Result (code_step.Step code_fault.SourceFault) StepError → Type 0
 IsStepOf registered budget request old (Ok one) = Steps budget request (held_with registered old) (reply_seen fault_of one.reply) (held_with registered one.state) × IsHeld registered one.state
-IsStepOf registered budget request old (Err error) = IsChange (task_of request (held_with registered old))
+IsStepOf registered budget request old (Err error) = HasNoEnd budget request (held_with registered old) error

@@ -1,5 +1,5 @@
 -- What a request does to the state of a host, and what is replied.
-use Rattle.std.specs.Prelude.{◌≡◌, ◌⊎◌, ℕ, List, [], Option, Some, option_map, Result, Ok, Err}
+use Rattle.std.specs.Prelude.{◌≡◌, ◌⊎◌, ℕ, List, [], Option, Some, None, option_map, Result, Ok, Err}
 use Rattle.ash_registry.specs.Registrations.{Registration}
 use Rattle.ash_steps.specs.States.{Hosts}
 use Rattle.ash_steps.specs.Requests.{Request, Refusal, NoMemory, Reply, Refused}
@@ -9,6 +9,7 @@ use Rattle.ash_steps.specs.Steps.{Step, TakesMemory}
 use Rattle.ash_steps.specs.Steps as steps
 use Rattle.ash_plain_steps.specs.declared.request.Reply as code_reply
 use Rattle.ash_plain_steps.specs.declared.request.StepError.{StepError}
+use Rattle.ash_plain_steps.specs.declared.request.StepError.TheVariants as errors
 use Rattle.ash_plain_steps.specs.RequestViews.{reply_seen}
 use Rattle.ash_plain_steps.specs.TaskViews.{TakesMemoryToFind}
 use Rattle.ash_plain_steps.specs.StepViews.{IsChange}
@@ -48,11 +49,17 @@ pub record RanOut (request : Request) (old : HostState) (reply : Reply SourceFau
 abbrev pub Steps : ℕ → Request → HostState → Reply SourceFault → HostState → Type 0
 Steps budget request old reply new = (step budget request old ≡ Some (reply, new)) ⊎ RanOut request old reply new
 
+-- The request is not refused, its task changes the state, and there is no end of it: memory was refused while the state
+-- changed; or there is no step, where the error says so.
+abbrev pub HasNoEnd : ℕ → Request → HostState → StepError → Type 0
+HasNoEnd budget request old errors.NoMemory = IsChange (task_of request old)
+HasNoEnd budget request old errors.NoStep = IsChange (task_of request old) × (step budget request old ≡ None)
+
 -- What the code gives for a request. Where it gives an error, the state is lost, and nothing but what is registered is
--- left of it: that can come only of a request that changes the state.
+-- left of it.
 abbrev pub Handled : ℕ → Request → HostState → Result (code_reply.Reply code_fault.SourceFault) StepError → HostState → Type 0
 Handled budget request old (Ok reply) new = Steps budget request old (reply_seen fault_of reply) new
-Handled budget request old (Err error) new = IsChange (task_of request old) × (new ≡ empty old.registered)
+Handled budget request old (Err error) new = HasNoEnd budget request old error × (new ≡ empty old.registered)
 
 -- What a request leaves of a state that a host may be in is one that a host may be in.
 abbrev pub StepsKeepAdmitted : Type 0
