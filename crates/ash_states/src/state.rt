@@ -119,8 +119,8 @@ impl HostState {
     ///
     /// # Errors
     ///
-    /// The state is lost, which can come only of a request that changes it: memory was refused while it changed, or a
-    /// run called a host object.
+    /// The state is lost, and is as before any request; that comes only of a request that is not refused and changes it.
+    /// `NoMemory` where memory was refused while it changed; `NoStep` where a run called a host object.
     pub fn handle(
         &mut self,
         request: &Request<'_>,
