@@ -4,11 +4,10 @@ use crate::checks::check;
 use crate::fuses::{Failing, fuses};
 use ash_disk::{FailingDisk, MemoryDisk, Survives};
 use ash_durable::{Host, OpenRefused, StoreFault};
-use ash_meaning::refusal::Refusal;
 use ash_registry::Registry;
 use ash_store_fixtures::hosts::{
-    SOURCE, State, add, closed, disk, found_state, image_after, inner, load, opened, snapshot,
-    state,
+    SOURCE, State, add, closed, disk, found_state, image_after, inner, is_done, load, need,
+    opened, snapshot, state,
 };
 use std::alloc::Global;
 use std::process::Abort;
@@ -101,9 +100,9 @@ pub(crate) struct Stopped {
 /// Takes a step. Whether it is acknowledged.
 fn is_acknowledged(host: &mut Host<Fused>, step: Step) -> bool {
     match step {
-        Step::Load => load(host, SOURCE).is_ok(),
-        Step::Call(number) => add(host, number).is_ok(),
-        Step::Snapshot => snapshot(host).is_ok(),
+        Step::Load => is_done(&load(host, SOURCE)),
+        Step::Call(number) => is_done(&add(host, number)),
+        Step::Snapshot => is_done(&snapshot(host)),
     }
 }
 
@@ -183,14 +182,12 @@ fn state_after(found: State) -> State {
 }
 
 /// Handles that request.
-fn go_on(host: &mut Host<MemoryDisk>) -> Result<(), Refusal> {
-    match state(host) {
+fn go_on(alloc: Global, host: &mut Host<MemoryDisk>) -> Result<(), Fail> {
+    let reply = match state(host) {
         (_, Some(_)) => add(host, 1),
-        (_, None) => match load(host, SOURCE) {
-            Ok(_) => Ok(()),
-            Err(refusal) => Err(refusal),
-        },
-    }
+        (_, None) => load(host, SOURCE),
+    };
+    need(alloc, reply)
 }
 
 /// Opens what a crash left, handles one request more, and opens what a second crash leaves: the state that was found
@@ -205,8 +202,8 @@ fn states_of(
         Ok(host) => host,
         Err(fault) => return Ok(Err(fault)),
     };
-    let before = state(&host);
-    go_on(&mut host)?;
+    let before = state(&mut host);
+    go_on(alloc, &mut host)?;
     let (a, b) = closed(host);
     let first = image_after(&a, a.calls(), Survives::Nothing)?;
     let second = image_after(&b, b.calls(), Survives::Nothing)?;

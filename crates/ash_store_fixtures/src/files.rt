@@ -32,10 +32,10 @@ fn add_module(image: &mut Vec<u8>, module: &Module) -> Result<(), AllocError> {
     }
 }
 
-/// The image of a host in which nothing is registered: its version, no text, its number, no object's number, no
+/// The image of a host in which nothing is registered: the version 2, no text, its number, no object's number, no
 /// services, its modules, and no objects.
 pub fn image(alloc: Global, seq: u64, modules: &[Module]) -> Result<Vec<u8>, AllocError> {
-    let mut image = Vec::from_slice(alloc, &[1, 0, 0, 0, 0, 0])?;
+    let mut image = Vec::from_slice(alloc, &[2, 0, 0, 0, 0, 0])?;
     image.extend_from_slice(&seq.to_le_bytes())?;
     image.extend_from_slice(&[0; 10])?;
     let count = u8::try_from(modules.len()).unwrap_or(u8::MAX);

@@ -3,14 +3,15 @@
 
 use crate::files::{Module, add_record, generation, image};
 use crate::hosts::{
-    EMPTY, SOURCE, State, call, call_in, closed, created, discard, disk, fuse, global, inner, load,
-    opened, reopened, seq, shown, snapshot, state,
+    EMPTY, SOURCE, State, add, call_in, closed, created, discard, disk, fuse, global, inner,
+    line_for, line_of, load, opened, reopened, seq, shown, snapshot, state,
 };
 use ash_disk::{Disk, MemoryDisk};
 use ash_durable::{Host, StoreFault};
-use ash_meaning::request::Argument;
+use ash_plain_steps::request::Request;
 use ash_registry::Registry;
 use std::alloc::{AllocError, Global};
+use std::fmt::Debug;
 use std::test::Fail;
 
 /// What is asked of a host.
@@ -32,33 +33,40 @@ pub enum Step {
     Seq,
     /// That number, and what the global `n` of `m` holds.
     State,
+    /// Any other request.
+    Ask(Request<'static>),
 }
 
-/// Takes a step, and writes out what is answered.
-fn answer<D: Disk>(alloc: Global, host: &mut Host<D>, step: Step) -> Result<String, AllocError> {
+/// A value, written out as a line.
+fn line<T: Debug>(alloc: Global, value: &T) -> Result<String, Fail> {
+    Ok(format!(in alloc; "{value:?}\n")?)
+}
+
+/// Takes a step, and writes out what is answered, as a line.
+fn answer<D: Disk>(alloc: Global, host: &mut Host<D>, step: Step) -> Result<String, Fail> {
     match step {
-        Step::Load => shown(alloc, &load(host, SOURCE)),
-        Step::Call(number) => shown(alloc, &call(host, &[Argument::Number(number)])),
-        Step::CallIn(module) => shown(alloc, &call_in(host, module, &[])),
-        Step::Discard => shown(alloc, &discard(host)),
-        Step::Snapshot => shown(alloc, &snapshot(host)),
-        Step::Global(name) => shown(alloc, &global(host, name)),
-        Step::Seq => shown(alloc, &seq(host)),
-        Step::State => shown(alloc, &state(host)),
+        Step::Load => line_of(alloc, load(host, SOURCE)),
+        Step::Call(number) => line_of(alloc, add(host, number)),
+        Step::CallIn(module) => line_of(alloc, call_in(host, module, &[])),
+        Step::Discard => line_of(alloc, discard(host)),
+        Step::Snapshot => line_of(alloc, snapshot(host)),
+        Step::Global(name) => line_of(alloc, global(host, name)),
+        Step::Seq => line(alloc, &seq(host)),
+        Step::State => line(alloc, &state(host)),
+        Step::Ask(request) => line_for(alloc, host, &request),
     }
 }
 
-/// What is answered to each step, with a line feed after each.
+/// What is answered to each step, a line each.
 pub fn answers<D: Disk>(
     alloc: Global,
     host: &mut Host<D>,
     steps: &[Step],
-) -> Result<String, AllocError> {
+) -> Result<String, Fail> {
     let mut all = String::new(alloc);
     for step in steps {
         let answer = answer(alloc, host, *step)?;
         all.push_str(answer.as_str())?;
-        all.push_str("\n")?;
     }
     Ok(all)
 }
@@ -195,10 +203,10 @@ pub fn found_answers(
     a: MemoryDisk,
     b: MemoryDisk,
     steps: &[Step],
-) -> Result<String, AllocError> {
+) -> Result<String, Fail> {
     match opened(alloc, a, b, Registry::new(alloc)) {
         Ok(mut host) => answers(alloc, &mut host, steps),
-        Err(fault) => shown(alloc, &fault),
+        Err(fault) => Ok(shown(alloc, &fault)?),
     }
 }
 
