@@ -1,24 +1,7 @@
-//! Sources, and what checking and reading them report: the same, but for scripts that can't be run so far.
+//! Rules of typing that sources break, and which fault comes first.
 
-use crate::compare::check_text;
-use crate::sources::{
-    bracketed, check_both, check_checking, check_reading, checking_refusal, parts_of, printed,
-    with_blanks,
-};
-use ash_registry::Registry;
-use std::alloc::Global;
-use std::process::Abort;
+use crate::sources::{bracketed, check_rows, check_source_of, check_sources, with_blanks};
 use std::test::Fail;
-
-/// Each row has how both checking and reading end, a bar, and the source.
-fn check_rows(rt: &impl Abort, alloc: Global, rows: &str) -> Result<(), Fail> {
-    for row in rows.trim().lines() {
-        let (wanted, source) = parts_of(row);
-        check_checking(rt, alloc, source.as_bytes(), wanted)?;
-        check_reading(rt, alloc, source.as_bytes(), wanted)?;
-    }
-    Ok(())
-}
 
 #[test]
 fn rules_of_typing(rt: HostRuntime) -> Result<(), Fail> {
@@ -40,74 +23,49 @@ fn rules_of_typing(rt: HostRuntime) -> Result<(), Fail> {
 
 #[test]
 fn earlier_faults_first(rt: HostRuntime) -> Result<(), Fail> {
-    let rows: &[(&[u8], &str, &str)] = &[
-        (
-            b"X y; \xff",
-            "BadCharacter { at: 5 }",
-            "BadCharacter { at: 5 }",
-        ),
-        (
-            b"X y; \"",
-            "BadCharacter { at: 5 }",
-            "BadCharacter { at: 5 }",
-        ),
-        (
-            b"X y; /*",
-            "UnclosedComment { at: 5 }",
-            "UnclosedComment { at: 5 }",
-        ),
-        (
-            b"X y = 18446744073709551616;",
-            "NumberTooLarge { at: 6 }",
-            "NumberTooLarge { at: 6 }",
-        ),
-        (
-            b"X y; int f( {",
-            "Unexpected { at: 12 }",
-            "Unexpected { at: 12 }",
-        ),
-        (
-            b"X y; float x;",
-            "Unsupported { word: Word(Float), at: 5 }",
-            "Unsupported { word: Word(Float), at: 5 }",
-        ),
+    let rows: &[(&[u8], &str)] = &[
+        (b"X y; \xff", "BadCharacter { at: 5 }"),
+        (b"X y; \"", "BadCharacter { at: 5 }"),
+        (b"X y; /*", "UnclosedComment { at: 5 }"),
+        (b"X y = 18446744073709551616;", "NumberTooLarge { at: 6 }"),
+        (b"X y; int f( {", "Unexpected { at: 12 }"),
+        (b"X y; float x;", "Unsupported { word: Word(Float), at: 5 }"),
     ];
-    check_both(&rt, rt.alloc(), rows)
+    check_sources(&rt, rt.alloc(), rows)
 }
 
 #[test]
 fn depth_and_length_before_types(rt: HostRuntime) -> Result<(), Fail> {
     let alloc = rt.alloc();
     let deep = bracketed(alloc, b"X y; int n = ", 65, b";")?;
-    check_checking(&rt, alloc, &deep, "TooDeep { at: 78 }")?;
+    check_source_of(&rt, alloc, &deep, "TooDeep { at: 78 }")?;
     let shallow = bracketed(alloc, b"X y; int n = ", 64, b";")?;
-    check_checking(&rt, alloc, &shallow, "UnknownType { at: 0 }")?;
+    check_source_of(&rt, alloc, &shallow, "UnknownType { at: 0 }")?;
     let longer = with_blanks(alloc, b"X y;", 65_533)?;
-    check_checking(&rt, alloc, &longer, "SourceTooLong")?;
+    check_source_of(&rt, alloc, &longer, "SourceTooLong")?;
     let longest = with_blanks(alloc, b"X y;", 65_532)?;
-    check_checking(&rt, alloc, &longest, "UnknownType { at: 0 }")
+    check_source_of(&rt, alloc, &longest, "UnknownType { at: 0 }")
 }
 
 #[test]
 fn sound_scripts(rt: HostRuntime) -> Result<(), Fail> {
-    let rows: &[(&[u8], &str, &str)] = &[
-        (b"", "ok", "ok"),
-        (b"\xef\xbb\xbf", "ok", "ok"),
-        (b";;", "ok", "ok"),
-        (b"int n = 2; int f(int k) { n += k; return n; }", "ok", "ok"),
-        // What can't be run so far is checked all the same.
-        (b"class A { }", "ok", "NotYet"),
-        (b"bool b = true;", "ok", "NotYet"),
-        (b"int n = -1;", "ok", "NotYet"),
-        (b"int a, b;", "ok", "NotYet"),
-        (b"class Box { A@ a; } class A { }", "ok", "NotYet"),
-        (b"interface I { }", "ok", "NotYet"),
-        (b"class A : I { } interface I { }", "ok", "NotYet"),
-        (b"array<int> a;", "ok", "NotYet"),
-        (b"int n = array<int>(1)[0];", "ok", "NotYet"),
-        (b"class A { } A@ a; A@ b = cast<A>(a);", "ok", "NotYet"),
+    let rows: &[(&[u8], &str)] = &[
+        (b"", "ok"),
+        (b"\xef\xbb\xbf", "ok"),
+        (b";;", "ok"),
+        (b"int n = 2; int f(int k) { n += k; return n; }", "ok"),
+        (b"class A { }", "ok"),
+        (b"bool b = true;", "ok"),
+        (b"int n = -1;", "ok"),
+        (b"int a, b;", "ok"),
+        (b"class Box { A@ a; } class A { }", "ok"),
+        (b"interface I { }", "ok"),
+        (b"class A : I { } interface I { }", "ok"),
+        (b"array<int> a;", "ok"),
+        (b"int n = array<int>(1)[0];", "ok"),
+        (b"class A { } A@ a; A@ b = cast<A>(a);", "ok"),
     ];
-    check_both(&rt, rt.alloc(), rows)
+    check_sources(&rt, rt.alloc(), rows)
 }
 
 #[test]
@@ -125,22 +83,4 @@ fn interfaces_arrays_casts_and_indexes(rt: HostRuntime) -> Result<(), Fail> {
         BadCharacter { at: 19 } | X y; int n = a[0]; \"
         ";
     check_rows(&rt, rt.alloc(), rows)
-}
-
-/// How checking a source ends where a type `Counter` is registered.
-fn outcome_beside(alloc: Global, source: &[u8]) -> Result<String, Fail> {
-    let mut registry = Registry::new(alloc);
-    registry.object_type("Counter", 1)?;
-    Ok(printed(alloc, checking_refusal(alloc, &registry, source))?)
-}
-
-#[test]
-fn registered_names_are_taken(rt: HostRuntime) -> Result<(), Fail> {
-    let source = "int n; int Counter() { return 1; }";
-    let found = outcome_beside(rt.alloc(), source.as_bytes())?;
-    check_text(&rt, found.as_str(), "NameTaken { at: 11 }", source);
-    let source = "class Box { Counter@ c; }";
-    let found = outcome_beside(rt.alloc(), source.as_bytes())?;
-    check_text(&rt, found.as_str(), "ok", source);
-    Ok(())
 }

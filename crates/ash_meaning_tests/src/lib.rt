@@ -1,8 +1,8 @@
-//! Tests of how a source is read, checked and refused, of `ash_meaning`, and of images and the bodies of records, of
-//! `ash_image`, with memory that is ample. They are apart from the other tests, which need not wait for these crates.
+//! Tests of how a source is checked, read and refused, of `ash_meaning`, with memory that is ample. They are apart from
+//! the other tests, which need not wait for these crates.
 //!
-//! In reading order: `compare`, with the comparisons; `sources`, `reading`, `checking` and `resolver`; `images`, and
-//! `image_bytes`, which were worked out by hand.
+//! In reading order: `compare`, with the comparison; `sources`, with the helpers; `reading`, `names`, `checking` and
+//! `registered`.
 #![tactic(auto)]
 
 #[cfg(test)]
@@ -10,12 +10,10 @@ mod checking;
 #[cfg(test)]
 mod compare;
 #[cfg(test)]
-mod image_bytes;
-#[cfg(test)]
-mod images;
+mod names;
 #[cfg(test)]
 mod reading;
 #[cfg(test)]
-mod resolver;
+mod registered;
 #[cfg(test)]
 mod sources;

@@ -1,65 +1,69 @@
-//! Sources as bytes, and how reading and checking them end where nothing is registered: `ok`, or the refusal as `Debug`
-//! prints it, with offsets counted by hand.
+//! Sources as bytes, and how checking and reading them end: `ok`, or the fault as `Debug` prints it, with offsets
+//! counted by hand.
 
 use crate::compare::check_text;
 use ash_meaning::checking::check_source;
-use ash_meaning::reading::read_source;
-use ash_meaning::refusal::Refusal;
+use ash_meaning::fault::{SourceError, SourceFault};
+use ash_meaning::sources::{AdmittedScripts, Sources};
 use ash_registry::Registry;
 use std::alloc::{AllocError, Global};
 use std::process::Abort;
 use std::test::Fail;
 
-pub(crate) fn printed(alloc: Global, refusal: Option<Refusal>) -> Result<String, AllocError> {
-    match refusal {
-        None => String::from_str(alloc, "ok"),
-        Some(refusal) => format!(in alloc; "{refusal:?}"),
+/// A fault as `Debug` prints it, without the layer that finds it.
+fn printed_fault(alloc: Global, fault: &SourceFault) -> Result<String, AllocError> {
+    match fault {
+        SourceFault::Lexical(fault) => format!(in alloc; "{fault:?}"),
+        SourceFault::Syntactic(fault) => format!(in alloc; "{fault:?}"),
+        SourceFault::Typing(fault) => format!(in alloc; "{fault:?}"),
+        SourceFault::NotYet => String::from_str(alloc, "NotYet"),
     }
 }
 
-/// Why a source is not read.
-fn reading_refusal(alloc: Global, source: &[u8]) -> Option<Refusal> {
-    read_source(alloc, &Registry::new(alloc), source).err()
+fn printed<T: Drop>(alloc: Global, ended: Result<T, SourceError>) -> Result<String, AllocError> {
+    match ended {
+        Ok(_) => String::from_str(alloc, "ok"),
+        Err(SourceError::Fault(fault)) => printed_fault(alloc, &fault),
+        Err(SourceError::NoMemory) => String::from_str(alloc, "no memory"),
+    }
 }
 
-/// Why a source is refused by checking it, with these registrations.
-pub(crate) fn checking_refusal(
+/// How checking a source ends.
+pub(crate) fn checked(
     alloc: Global,
     registry: &Registry,
     source: &[u8],
-) -> Option<Refusal> {
-    match check_source(alloc, registry, source) {
-        Ok(()) => None,
-        Err(error) => Some(error.into()),
+) -> Result<String, AllocError> {
+    printed(alloc, check_source(alloc, registry, source))
+}
+
+/// How reading a source ends, where these scripts are admitted.
+pub(crate) fn read(
+    alloc: Global,
+    registry: &Registry,
+    admitted: AdmittedScripts,
+    source: &[u8],
+) -> Result<String, AllocError> {
+    let sources = Sources { registry, admitted };
+    printed(alloc, sources.read_tree(alloc, source))
+}
+
+/// Compares how checking a source ends, and how reading it does, where nothing is registered: the same, whichever
+/// scripts are admitted.
+pub(crate) fn check_source_of(
+    rt: &impl Abort,
+    alloc: Global,
+    source: &[u8],
+    wanted: &str,
+) -> Result<(), Fail> {
+    let registry = Registry::new(alloc);
+    let text = String::from_utf8_lossy(alloc, source)?;
+    let found = checked(alloc, &registry, source)?;
+    check_text(rt, found.as_str(), wanted, text.as_str());
+    for admitted in [AdmittedScripts::All, AdmittedScripts::UsingNothingRegistered] {
+        let found = read(alloc, &registry, admitted, source)?;
+        check_text(rt, found.as_str(), wanted, text.as_str());
     }
-}
-
-/// Compares how reading a source ends.
-pub(crate) fn check_reading(
-    rt: &impl Abort,
-    alloc: Global,
-    source: &[u8],
-    wanted: &str,
-) -> Result<(), Fail> {
-    let found = printed(alloc, reading_refusal(alloc, source))?;
-    let text = String::from_utf8_lossy(alloc, source)?;
-    check_text(rt, found.as_str(), wanted, text.as_str());
-    Ok(())
-}
-
-/// Compares how checking a source ends.
-pub(crate) fn check_checking(
-    rt: &impl Abort,
-    alloc: Global,
-    source: &[u8],
-    wanted: &str,
-) -> Result<(), Fail> {
-    let found = printed(
-        alloc,
-        checking_refusal(alloc, &Registry::new(alloc), source),
-    )?;
-    let text = String::from_utf8_lossy(alloc, source)?;
-    check_text(rt, found.as_str(), wanted, text.as_str());
     Ok(())
 }
 
@@ -70,27 +74,23 @@ pub(crate) fn parts_of(row: &str) -> (&str, &str) {
         .unwrap_or((row, "no bar in this row"))
 }
 
-/// Each row has a source, and how reading it ends.
-pub(crate) fn check_readings(
+/// Each row has how checking and reading end, a bar, and the source.
+pub(crate) fn check_rows(rt: &impl Abort, alloc: Global, rows: &str) -> Result<(), Fail> {
+    for row in rows.trim().lines() {
+        let (wanted, source) = parts_of(row);
+        check_source_of(rt, alloc, source.as_bytes(), wanted)?;
+    }
+    Ok(())
+}
+
+/// Each row has a source, and how checking and reading it end.
+pub(crate) fn check_sources(
     rt: &impl Abort,
     alloc: Global,
     rows: &[(&[u8], &str)],
 ) -> Result<(), Fail> {
     for (source, wanted) in rows {
-        check_reading(rt, alloc, source, wanted)?;
-    }
-    Ok(())
-}
-
-/// Each row has a source, how checking it ends, and how reading it ends.
-pub(crate) fn check_both(
-    rt: &impl Abort,
-    alloc: Global,
-    rows: &[(&[u8], &str, &str)],
-) -> Result<(), Fail> {
-    for (source, checked, read) in rows {
-        check_checking(rt, alloc, source, checked)?;
-        check_reading(rt, alloc, source, read)?;
+        check_source_of(rt, alloc, source, wanted)?;
     }
     Ok(())
 }
