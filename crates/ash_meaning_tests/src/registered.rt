@@ -70,7 +70,7 @@ fn faults_come_before_what_is_registered(rt: HostRuntime) -> Result<(), Fail> {
         NameTaken { at: 11 }, NameTaken { at: 11 }, NameTaken { at: 11 } | int n; int Counter() { return 1; }
         NameTaken { at: 4 }, NameTaken { at: 4 }, NameTaken { at: 4 } | int total = 1;
         Unexpected { at: 19 }, Unexpected { at: 19 }, Unexpected { at: 19 } | Counter@ g; int f( {
-        UnknownName { at: 21 }, UnknownName { at: 21 }, UnknownName { at: 21 } | Counter@ g; int n = m;
+        UnknownName { at: 20 }, UnknownName { at: 20 }, UnknownName { at: 20 } | Counter@ g; int n = m;
         ",
     )
 }
