@@ -185,9 +185,14 @@ pub fn snapshot<D: Disk>(host: &mut Host<D>) -> HostReply {
     }
 }
 
+/// What a global of a module holds.
+pub fn get<D: Disk>(host: &mut Host<D>, module: &str, name: &str) -> HostReply {
+    host.get(module, name)
+}
+
 /// What a global of the module `m` holds.
 pub fn global<D: Disk>(host: &mut Host<D>, name: &str) -> HostReply {
-    host.get("m", name)
+    get(host, "m", name)
 }
 
 /// The object of a number.

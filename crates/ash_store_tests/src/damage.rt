@@ -122,7 +122,7 @@ fn a_file_cut_short(rt: HostRuntime) -> Result<(), Fail> {
 }
 
 /// A file with another byte at a place.
-fn changed(alloc: Global, file: &[u8], place: usize, byte: u8) -> Result<Vec<u8>, AllocError> {
+pub fn changed(alloc: Global, file: &[u8], place: usize, byte: u8) -> Result<Vec<u8>, AllocError> {
     let mut file = Vec::from_slice(alloc, file)?;
     if let Some(old) = file.get_mut(place) {
         *old = byte;

@@ -188,26 +188,31 @@ static SURVIVES: [Survives; 5] = [
     Survives::Part(3),
 ];
 
-/// What a store answers that is opened where a crash leaves such parts of two disks: its number, and its global `n`.
+/// What is asked of a store that is opened again, and what is answered.
+pub type Look = (&'static [Step], &'static str);
+
+/// What a store answers that is opened where a crash leaves such parts of two disks.
 fn found_after_crash(
     alloc: Global,
     disks: &(MemoryDisk, MemoryDisk),
     survives: Survives,
+    looks: &[Step],
 ) -> Result<String, Fail> {
     let a = crashed(alloc, &disks.0, survives)?;
     let b = crashed(alloc, &disks.1, survives)?;
-    Ok(found_answers(alloc, a, b, &[Step::Seq, Step::Global("n")])?)
+    found_answers(alloc, a, b, looks)
 }
 
 /// Compares what is found after each crash between two requests.
-fn check_survives(
+pub fn check_survives(
     rt: &impl Abort,
     alloc: Global,
     disks: &(MemoryDisk, MemoryDisk),
-    wanted: &str,
+    look: Look,
 ) -> Result<(), Fail> {
+    let (looks, wanted) = look;
     for survives in &SURVIVES {
-        let found = found_after_crash(alloc, disks, *survives)?;
+        let found = found_after_crash(alloc, disks, *survives, looks)?;
         let what = format!(in alloc; "after a crash that {survives:?} survives")?;
         check_text(rt, found.as_str(), wanted, what.as_str());
     }
@@ -275,7 +280,8 @@ fn crashes_between_requests(rt: HostRuntime) -> Result<(), Fail> {
     let mut disks = disks_of(rt.alloc(), File::Bytes(&[]), File::Bytes(&[1]))?;
     for (run, wanted) in &CRASHES {
         disks = check_run(&rt, rt.alloc(), disks, run)?;
-        check_survives(&rt, rt.alloc(), &disks, wanted)?;
+        let look: Look = (&[Step::Seq, Step::Global("n")], *wanted);
+        check_survives(&rt, rt.alloc(), &disks, look)?;
     }
     Ok(())
 }
