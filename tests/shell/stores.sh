@@ -104,10 +104,12 @@ asks ''
 ends "serve a store with torn gates" 0 "" serve "$scratch/torn" --budget 1000 --counters 0
 same "torn gates are written over" "$scratch/torn" "$store"
 
-# A store of an older ashd has its state in one image of the first generation, before what is left of a longer one.
+# A store of an older ashd has its state in one image of version 1, of the first generation, before what is left of a longer
+# one.
 mkdir "$scratch/older"
 used='\001\001m\055\0\0\0int n = 2; int f(int k) { n += k; return n; }\001\0\001\007\0\0\0'
 generation 1 278 2 "$used" > "$scratch/older/ash.a"
+put '\001' 21 "$scratch/older/ash.a"
 printf 'what is left of a longer file\001' >> "$scratch/older/ash.a"
 printf '\0' > "$scratch/older/ash.b"
 asks 'get m n\nseq\ncall m f 1\n'
