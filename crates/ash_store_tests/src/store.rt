@@ -275,13 +275,14 @@ static CRASHES: [(Run, &str); 4] = [
     ),
 ];
 
+const LOOKS: &[Step] = &[Step::Seq, Step::Global("n")];
+
 #[test]
 fn crashes_between_requests(rt: HostRuntime) -> Result<(), Fail> {
     let mut disks = disks_of(rt.alloc(), File::Bytes(&[]), File::Bytes(&[1]))?;
     for (run, wanted) in &CRASHES {
         disks = check_run(&rt, rt.alloc(), disks, run)?;
-        let look: Look = (&[Step::Seq, Step::Global("n")], *wanted);
-        check_survives(&rt, rt.alloc(), &disks, look)?;
+        check_survives(&rt, rt.alloc(), &disks, (LOOKS, *wanted))?;
     }
     Ok(())
 }
