@@ -1,29 +1,33 @@
 -- A state in a journal, by what the journal's calls say of bytes.
-use Rattle.std.proofs.Common.{◌≡◌, ◌∙◌, ℕ, ◌+◌, List, [], ◌∷◌, ◌++◌, length, Ok, Err, sym, ap}
+use Rattle.std.proofs.Common.{◌≡◌, ℕ, ◌+◌, List, [], ◌∷◌, ◌++◌, length, Ok, Err, refl, sym}
 use Rattle.ash_disk.specs.Device.{Device}
-use Rattle.ash_image.specs.Image.{body_of}
 use Rattle.ash_journal.specs.declared.journal.Journal.{Journal}
 use Rattle.ash_journal.specs.Current.{IsContents, HoldsOneOf}
 use Rattle.ash_journal.specs.Failures.{CountsFailures}
 use Rattle.ash_journal.specs.Journal.{first_disk, second_disk, generation, record_bytes, HasFailed, IsReady, Holds}
 use Rattle.ash_journal.specs.Runs.{HoldsSince, Extends}
-use Rattle.ash_meaning.specs.State.{State}
-use Rattle.ash_meaning.specs.declared.refusal.Refusal.TheVariants as the
+use Rattle.ash_states.specs.States.{HostState}
+use Rattle.ash_plain_steps.specs.declared.request.Refusal.TheVariants as the
 use Rattle.ash_durable.specs.Saving.{Adds, Installs, last_generation}
-use Rattle.ash_durable.specs.States.{HoldsState, IsImageOf, GoesOn, BeginsAnew, Leads, snapshot_of}
+use Rattle.ash_states.specs.Images.{IsImageOf, IsBodyOf}
+use Rattle.ash_durable.specs.States.{HoldsState, GoesOn, BeginsAnew, Leads}
 use Rattle.ash_durable.proofs.Settling.{record_goes_on, image_begins_anew}
 use Rattle.ash_durable.proofs.ContentsStates.{state_of_alone, state_of_push}
 
 -- a body leads to its state from every state with the same registered
-pub leads_from : (body : List ℕ) (before state : State) → before.registered ≡ state.registered → Leads body state state
+pub leads_from : (body : List ℕ) (before state : HostState) → before.registered ≡ state.registered
+    → Leads body state state
     → Leads body before state
 leads_from body before state same leads = record {
   registered = sym same;
   is_body = leads.is_body;
-  admitted = leads.admitted;
 }
 
-module _ {D : Type 0} (device : Device D) (state : State) (old new : Journal D) where
+-- a state leads to itself by its body
+pub leads_itself : (body : List ℕ) (state : HostState) → IsBodyOf body state → Leads body state state
+leads_itself body state is_body = record { registered = refl; is_body = is_body }
+
+module _ {D : Type 0} (device : Device D) (state : HostState) (old new : Journal D) where
   -- what is said of the disks, whatever came of a call
   pub record Disks (failed : Type 0) : Type 0 where
     pub failures : CountsFailures failed (device.failures (first_disk old)) (device.failures (second_disk old))
@@ -34,20 +38,21 @@ module _ {D : Type 0} (device : Device D) (state : State) (old new : Journal D) 
   added_moments : (body : List ℕ) → Leads body state state
       → ((image : List ℕ) (bodies : List (List ℕ)) → Holds device old image bodies
       → Extends device (first_disk old) (second_disk old) (first_disk new) (second_disk new)
-      (IsContents (image, bodies ++ body ∷ []))) → (before : State) → before.registered ≡ state.registered
+      (IsContents (image, bodies ++ body ∷ []))) → (before : HostState) → before.registered ≡ state.registered
       → HoldsState device before old → GoesOn device before state old new
   added_moments body leads extends before same holds =
       record_goes_on device before state holds.contents.0 body holds.contents.1 old new holds.is_state
       (leads_from body before state same leads) (extends holds.contents.0 holds.contents.1 holds.holds)
 
-  pub adds : (body : List ℕ) → Leads body state state → body ≡ body_of (snapshot_of state)
+  pub adds : (body : List ℕ) → Leads body state state
       → ((image : List ℕ) (bodies : List (List ℕ)) → Holds device old image bodies
       → Extends device (first_disk old) (second_disk old) (first_disk new) (second_disk new)
-      (IsContents (image, bodies ++ body ∷ []))) → ((image : List ℕ) (bodies : List (List ℕ)) → Holds device old image bodies
+      (IsContents (image, bodies ++ body ∷ [])))
+      → ((image : List ℕ) (bodies : List (List ℕ)) → Holds device old image bodies
       → Holds device new image (bodies ++ body ∷ [])) → IsReady new → generation new ≡ generation old
       → record_bytes new ≡ record_bytes old + 5 + length body → Disks ⊥ → Adds device state old (Ok tt) new
-  adds body leads body_is extends acknowledged ready number longer disks = record {
-    outcome = (ready, number, longer ∙ ap (λ (bytes : List ℕ). record_bytes old + 5 + length bytes) body_is);
+  adds body leads extends acknowledged ready number longer disks = record {
+    outcome = (ready, record { same = number; body = body; is_body = leads.is_body; longer = longer });
     holds = λ before same holds. record {
       contents = (holds.contents.0, holds.contents.1 ++ body ∷ []);
       holds = acknowledged holds.contents.0 holds.contents.1 holds.holds;
@@ -76,7 +81,8 @@ module _ {D : Type 0} (device : Device D) (state : State) (old new : Journal D) 
 
   installed_moments : (image : List ℕ) → IsImageOf image state
       → ((was : List ℕ) (bodies : List (List ℕ)) → Holds device old was bodies
-      → HoldsSince device (device.clock (first_disk old)) (device.clock (second_disk old)) (first_disk new) (second_disk new)
+      → HoldsSince device (device.clock (first_disk old)) (device.clock (second_disk old)) (first_disk new)
+      (second_disk new)
       (HoldsOneOf (IsContents (image, [])) (IsContents (was, bodies)))) → HoldsState device state old
       → BeginsAnew device state state old new
   installed_moments image depicts run holds =
@@ -85,7 +91,8 @@ module _ {D : Type 0} (device : Device D) (state : State) (old new : Journal D) 
 
   pub installs : (image : List ℕ) → IsImageOf image state
       → ((was : List ℕ) (bodies : List (List ℕ)) → Holds device old was bodies
-      → HoldsSince device (device.clock (first_disk old)) (device.clock (second_disk old)) (first_disk new) (second_disk new)
+      → HoldsSince device (device.clock (first_disk old)) (device.clock (second_disk old)) (first_disk new)
+      (second_disk new)
       (HoldsOneOf (IsContents (image, [])) (IsContents (was, bodies))))
       → ((was : List ℕ) (bodies : List (List ℕ)) → Holds device old was bodies → Holds device new image [])
       → IsReady new → generation new ≡ generation old + 1 → record_bytes new ≡ 0 → Disks ⊥
@@ -105,8 +112,10 @@ module _ {D : Type 0} (device : Device D) (state : State) (old new : Journal D) 
 
   pub installs_not : (image : List ℕ) → IsImageOf image state
       → ((was : List ℕ) (bodies : List (List ℕ)) → Holds device old was bodies
-      → HoldsSince device (device.clock (first_disk old)) (device.clock (second_disk old)) (first_disk new) (second_disk new)
-      (HoldsOneOf (IsContents (image, [])) (IsContents (was, bodies)))) → (generation old ≡ last_generation → ⊥) → HasFailed new
+      → HoldsSince device (device.clock (first_disk old)) (device.clock (second_disk old)) (first_disk new)
+      (second_disk new)
+      (HoldsOneOf (IsContents (image, [])) (IsContents (was, bodies)))) → (generation old ≡ last_generation → ⊥)
+      → HasFailed new
       → Disks (Unit {0}) → Installs device state old (Err the.DeviceFailed) new
   installs_not image depicts run more failed disks = record {
     outcome = (more, failed);

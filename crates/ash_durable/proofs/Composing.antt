@@ -3,7 +3,8 @@
 use Rattle.std.proofs.Common.{◌≡◌, inl, inr, ℕ, Some, None, Ok, refl, sym, ◌∙◌, subst, arith, IsTrue}
 use Rattle.ash_disk.specs.Device.{Device}
 use Rattle.ash_journal.specs.Failures.{CountsFailures}
-use Rattle.ash_meaning.specs.State.{State, Request}
+use Rattle.ash_steps.specs.Requests.{Request}
+use Rattle.ash_states.specs.States.{HostState}
 use Rattle.ash_durable.specs.States.{IsOne, IsEither, SettleSince, HoldsState, GoesOn}
 use Rattle.ash_durable.specs.Saving.{HasFailedBy}
 use Rattle.ash_durable.specs.Hosting.{Hosted, first, second, IsRunning, IsHonest, IsSaved, Settles, WantsInstall}
@@ -14,11 +15,11 @@ use Rattle.ash_durable.proofs.Settling.{settle_on_more, holds_now}
 -- ---- states
 
 -- a host runs in one state
-pub runs_in : {D : Type 0} (host : Hosted D) (a b : State) → IsRunning a host → IsRunning b host → a ≡ b
+pub runs_in : {D : Type 0} (host : Hosted D) (a b : HostState) → IsRunning a host → IsRunning b host → a ≡ b
 runs_in host a b one other = let h : Some a ≡ Some b = sym one.state_is ∙ other.state_is in cc
 
 -- a host that must be reopened runs in none
-pub stopped_runs : {D : Type 0} (host : Hosted D) (state : State) → host.state ≡ None → IsRunning state host → ⊥
+pub stopped_runs : {D : Type 0} (host : Hosted D) (state : HostState) → host.state ≡ None → IsRunning state host → ⊥
 stopped_runs host state none runs = let h : None ≡ Some state = sym none ∙ runs.state_is in cc
 
 -- ---- disks
@@ -63,15 +64,26 @@ counts_then F G a b c d e f not one other =
     let same = one.none not in
     subst (λ (n : ℕ). CountsFailures G n b e f) same.0 (subst (λ (n : ℕ). CountsFailures G c n e f) same.1 other)
 
+-- a call that touches no disk
+pub untouched_disks : {D : Type 0} (device : Device D) (host : Hosted D)
+    → PreservesDisks {T = Unit {0}} device host (Ok tt) host
+untouched_disks device host = record {
+  failures = counts_none (HasFailedBy {T = Unit {0}} (Ok tt)) (device.failures (first host))
+      (device.failures (second host)) (λ failed. failed);
+  honesty_first = refl;
+  honesty_second = refl;
+  registered = refl;
+}
+
 -- ---- what files settle on
 
-either_same : (state other : State) → IsEither state state other → IsOne state other
+either_same : (state other : HostState) → IsEither state state other → IsOne state other
 either_same state other either = elim either [ inl is ↦ is | inr is ↦ is ]
 
 -- ---- the first part
 
 -- A host that runs has room for a request: since the request began its files settle on its state.
-pub record HadRoom {D : Type 0} (device : Device D) (request : Request) (state : State)
+pub record HadRoom {D : Type 0} (device : Device D) (request : Request) (state : HostState)
     (old between : Hosted D) : Type 0 where
   pub began : IsRunning state old
   pub room : HasRoom device request state old between
@@ -84,7 +96,7 @@ pub record HadRoom {D : Type 0} (device : Device D) (request : Request) (state :
 
 module _ {D : Type 0} (device : Device D) where
   -- no new generation was wanted
-  pub room_as_it_is : (request : Request) (state : State) (host : Hosted D) → (WantsInstall request host → ⊥)
+  pub room_as_it_is : (request : Request) (state : HostState) (host : Hosted D) → (WantsInstall request host → ⊥)
       → IsRunning state host → HadRoom device request state host host
   room_as_it_is request state host not runs = record {
     began = runs;
@@ -92,17 +104,11 @@ module _ {D : Type 0} (device : Device D) where
     running = runs;
     saved = λ was. was;
     settled = λ honest was. holds_now device state host.journal (was honest state runs);
-    disks = record {
-      failures = counts_none (HasFailedBy {T = Unit {0}} (Ok tt)) (device.failures (first host))
-          (device.failures (second host)) (λ failed. failed);
-      honesty_first = refl;
-      honesty_second = refl;
-      registered = refl;
-    };
+    disks = untouched_disks device host;
   }
 
   -- one was, and was installed
-  pub room_installed : (request : Request) (state : State) (old between : Hosted D) → WantsInstall request old
+  pub room_installed : (request : Request) (state : HostState) (old between : Hosted D) → WantsInstall request old
       → IsRunning state old → TriesInstall device old (Ok tt) between → HadRoom device request state old between
   room_installed request state old between wanted runs tries =
       let installs = tries.installs state runs in
@@ -119,7 +125,7 @@ module _ {D : Type 0} (device : Device D) where
 
 -- ---- the second part
 
-module _ {D : Type 0} (device : Device D) (request : Request) (state : State) (old between : Hosted D)
+module _ {D : Type 0} (device : Device D) (request : Request) (state : HostState) (old between : Hosted D)
     (room : HadRoom device request state old between) where
   honest_between : IsHonest device old → IsHonest device between
   honest_between honest = honest_after device old between room.disks.honesty_first room.disks.honesty_second honest
@@ -136,7 +142,7 @@ module _ {D : Type 0} (device : Device D) (request : Request) (state : State) (o
 
   -- One record more was written, or not. Since the request began the files settle on the state before it, and then on
   -- this or the one after it.
-  pub settles_added : (after : State) (new : Hosted D)
+  pub settles_added : (after : HostState) (new : Hosted D)
       → (HoldsState device state between.journal → GoesOn device state after between.journal new.journal)
       → Settles device state after old new
   settles_added after new goes_on = λ honest was.

@@ -4,7 +4,7 @@ use Rattle.std.specs.Bool.{IsTrue}
 use Rattle.ash_disk.specs.Device.{Device}
 use Rattle.ash_disk.specs.Moments.{LeftSince}
 use Rattle.ash_journal.proofs.SettleLaws.{settle_turned}
-use Rattle.ash_meaning.specs.State.{State}
+use Rattle.ash_states.specs.States.{HostState}
 use Rattle.ash_durable.specs.Hosting.{Hosted, first, second, IsRunning, IsSaved, IsHonest}
 use Rattle.ash_durable.specs.States.{AreHonest, SettleSince, SettleNow, IsOne, HaveState}
 use Rattle.ash_durable.specs.Store.{WereOnlyRead}
@@ -13,7 +13,7 @@ use Rattle.ash_durable.proofs.Settling.{holds_now}
 
 -- ---- files
 
-pub runs_once : {D : Type 0} (host : Hosted D) (state other : State) → IsRunning state host → IsRunning other host
+pub runs_once : {D : Type 0} (host : Hosted D) (state other : HostState) → IsRunning state host → IsRunning other host
     → state ≡ other
 runs_once host state other one two = let same : Some state ≡ Some other = sym one.state_is ∙ two.state_is in cc
 
@@ -26,7 +26,7 @@ module _ {D : Type 0} (device : Device D) where
   }
 
   -- what files settled on since earlier times, the disks settle on that take their place after a crash
-  pub settle_crashed : (a b : ℕ) (x y x' y' : D) (P : State → Type 0) → SettleSince device a b x y P
+  pub settle_crashed : (a b : ℕ) (x y x' y' : D) (P : HostState → Type 0) → SettleSince device a b x y P
       → Crashed device a b x y x' y' → SettleNow device x' y' P
   settle_crashed a b x y x' y' P run crash = record {
     first_began = omega arith;
@@ -57,7 +57,7 @@ module _ {D : Type 0} (device : Device D) where
   }
 
   -- disks that are only read settle on what they did
-  pub settle_read : (x y x' y' : D) (P : State → Type 0) → AreHonest device x y → WereOnlyRead device x y x' y'
+  pub settle_read : (x y x' y' : D) (P : HostState → Type 0) → AreHonest device x y → WereOnlyRead device x y x' y'
       → SettleNow device x y P → SettleSince device (device.clock x) (device.clock y) x' y' P
   settle_read x y x' y' P honest read run =
       let one = read.read_first.moments honest.honest_first in
@@ -71,7 +71,7 @@ module _ {D : Type 0} (device : Device D) where
       }
 
   -- nor does it matter which disk is the first
-  pub settle_swapped : (x y : D) (P : State → Type 0) → SettleNow device x y P → SettleNow device y x P
+  pub settle_swapped : (x y : D) (P : HostState → Type 0) → SettleNow device x y P → SettleNow device y x P
   settle_swapped x y P run = record {
     first_began = run.second_began;
     second_began = run.first_began;
@@ -80,6 +80,6 @@ module _ {D : Type 0} (device : Device D) where
   }
 
   -- the files of a host that runs settle on its state alone
-  pub held : (host : Hosted D) (state : State) → IsHonest device host → IsSaved device host → IsRunning state host
+  pub held : (host : Hosted D) (state : HostState) → IsHonest device host → IsSaved device host → IsRunning state host
       → SettleNow device (first host) (second host) (IsOne state)
   held host state honest saved running = holds_now device state host.journal (saved honest state running)

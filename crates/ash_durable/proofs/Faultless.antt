@@ -2,7 +2,8 @@
 use Rattle.std.proofs.Common.{◌≡◌, ◌≢◌, ◌⊎◌, inl, inr, ℕ, ◌<◌, ◌^◌, List, [], ◌∷◌, ◌++◌, length, sym, ◌∙◌, ap, arith}
 use Rattle.std.proofs.Common.{append_assoc, length-append}
 use Rattle.ash_journal.specs.Current.{Contents, IsOlder, IsCurrent, Represent}
-use Rattle.ash_journal.specs.Layout.{four_bytes, mark, block, records, committed_bytes, AreShort, IsFile, IsClosed, IsCut}
+use Rattle.ash_journal.specs.Layout.{four_bytes, mark, block, records, committed_bytes, AreShort, IsFile, IsClosed}
+use Rattle.ash_journal.specs.Layout.{IsCut}
 use Rattle.ash_journal.specs.Layout.{LacksMark, IsCutAt}
 use Rattle.ash_journal.specs.Opening.{IsUnsound, IsCutCurrent, HasCurrent}
 use Rattle.ash_journal.proofs.LayoutLaws.{length-four, four_read, same_parts, length-mark, block_same, records-nil}

@@ -13,7 +13,7 @@ use Rattle.ash_journal.specs.Opening.{FaultIs}
 use Rattle.ash_journal.specs.Reading.{AreAt, bodies_of}
 use Rattle.ash_journal.specs.Runs.{Extends, NoContents}
 use Rattle.ash_journal.proofs.RunLaws.{same_extends}
-use Rattle.ash_meaning.specs.State.{State}
+use Rattle.ash_states.specs.States.{HostState}
 use Rattle.ash_registry.specs.Registrations.{Registration}
 use Rattle.ash_durable.specs.Contents.{after_image, ReadsAs}
 use Rattle.ash_durable.specs.Faults.{opening_fault}
@@ -111,7 +111,8 @@ failed_is faults.DeviceFailed failed = refl
 failed_is _ failed = absurd failed
 
 -- what an image and records are read as, what the journal holds is read as
-pub read_as : {D : Type 0} (opened : OpenedJournal D) (registered : List Registration) (result : Result State StoreFault)
+pub read_as : {D : Type 0} (opened : OpenedJournal D) (registered : List Registration)
+    (result : Result HostState StoreFault)
     (image : List ℕ) (records : List Record) → image ≡ opened.image.items → records ≡ opened.records.items
     → (AreAt (after_image image) records → ReadsAs registered (image, bodies_of records) result) → AreInPlace opened
     → ReadsAs registered (contents_of opened) result
@@ -135,7 +136,8 @@ module _ {D : Type 0} (device : Device D) where
   -- ---- what an opened journal holds is read
 
   -- as no state
-  pub not_read : (registered : List Registration) (opened : OpenedJournal D) (fault : StoreFault) (refused : OpenRefused D)
+  pub not_read : (registered : List Registration) (opened : OpenedJournal D) (fault : StoreFault)
+      (refused : OpenRefused D)
       → refused.fault ≡ fault → refused.a ≡ first_disk opened.journal → refused.b ≡ second_disk opened.journal
       → (fault ≡ faults.DeviceFailed → ⊥) → (AreInPlace opened → ReadsAs registered (contents_of opened) (Err fault))
       → WasNotSettled device registered opened refused
@@ -162,7 +164,8 @@ module _ {D : Type 0} (device : Device D) where
       }
 
   -- as a state, and the gates are written over
-  pub settled_on : (registered : List Registration) (opened : OpenedJournal D) (state : State) (journal : Journal D) (failed : Type 0)
+  pub settled_on : (registered : List Registration) (opened : OpenedJournal D) (state : HostState) (journal : Journal D)
+      (failed : Type 0)
       → (failed → ⊥) → state.registered ≡ registered
       → (AreInPlace opened → ReadsAs registered (contents_of opened) (Ok state))
       → ((HasFailed opened.journal → ⊥) → IsReady journal) → OnlySettled device opened.journal journal
@@ -193,7 +196,8 @@ module _ {D : Type 0} (device : Device D) where
       }
 
   -- as a state, and a device failed then
-  pub not_settled : (registered : List Registration) (opened : OpenedJournal D) (journal : Journal D) (refused : OpenRefused D)
+  pub not_settled : (registered : List Registration) (opened : OpenedJournal D) (journal : Journal D)
+      (refused : OpenRefused D)
       (failed : Type 0) → failed → refused.fault ≡ faults.DeviceFailed → refused.a ≡ first_disk journal
       → refused.b ≡ second_disk journal → OnlySettled device opened.journal journal
       → (HoldsRead device opened → Extends device (first_disk opened.journal) (second_disk opened.journal)
@@ -254,7 +258,8 @@ module _ {D : Type 0} (device : Device D) where
     honesty_second = is.read.read_second.honesty;
   }
 
-  found : (registered : List Registration) (a b : D) (opened : OpenedJournal D) (state : State) (journal : Journal D)
+  found : (registered : List Registration) (a b : D) (opened : OpenedJournal D) (state : HostState)
+      (journal : Journal D)
       → IsOpened a b opened → WasSettled device registered opened state journal
       → WasFound device registered a b state journal
   found registered a b opened state journal is settled = record {
@@ -278,7 +283,8 @@ module _ {D : Type 0} (device : Device D) where
         (second_disk journal) (opened_back a b opened is) settled.disks;
   }
 
-  not_found : (registered : List Registration) (a b : D) (opened : OpenedJournal D) (refused : OpenRefused D) → IsOpened a b opened
+  not_found : (registered : List Registration) (a b : D) (opened : OpenedJournal D) (refused : OpenRefused D)
+      → IsOpened a b opened
       → WasNotSettled device registered opened refused → WasNotFound device registered a b refused
   not_found registered a b opened refused is settled = record {
     cause = λ honest. reading_cause registered refused.fault (contents_of opened) (device.seen a) (device.seen b)
@@ -308,7 +314,8 @@ module _ {D : Type 0} (device : Device D) where
         refused.a refused.b (opened_back a b opened is) settled.disks;
   }
 
-  pub finds : (registered : List Registration) (a b : D) (opened : OpenedJournal D) (result : Result (Found D) (OpenRefused D))
+  pub finds : (registered : List Registration) (a b : D) (opened : OpenedJournal D)
+      (result : Result (Found D) (OpenRefused D))
       → IsOpened a b opened → Settled device registered opened result → Finds device registered a b result
   finds registered a b opened (Ok one) is settled = found registered a b opened one.state one.journal is settled
   finds registered a b opened (Err refused) is settled = not_found registered a b opened refused is settled

@@ -1,65 +1,55 @@
--- What a request of a host does that finds room: one that is not answered, and one that is, if the answer is stored.
+-- What a request of a host does that finds room: one that is not answered, one that is, if the answer is stored, and one
+-- that loses the state.
 use Rattle.std.proofs.Common.{◌≡◌, inl, inr, ℕ, Option, Some, None, unwrap_or, Result, Ok, Err}
 use Rattle.std.proofs.Common.{refl, sym, ◌∙◌, ap, subst}
 use Rattle.ash_disk.specs.Device.{Device}
-use Rattle.ash_host.specs.declared.word.Word.{Word}
 use Rattle.ash_journal.specs.declared.journal.Journal.{Journal}
 use Rattle.ash_journal.specs.Failures.{CountsFailures}
-use Rattle.ash_meaning.specs.declared.refusal.Refusal as code
-use Rattle.ash_meaning.specs.declared.refusal.Refusal.TheVariants as the
-use Rattle.ash_meaning.specs.Refusals.{Refusal, refusal_of}
-use Rattle.ash_meaning.specs.Refusals as refusals
-use Rattle.ash_meaning.specs.declared.request.Answer.{Answer}
-use Rattle.ash_meaning.specs.State.{State, Request, Seq, Reply, Answered, Refused, answered, answer_of, word_of}
-use Rattle.ash_meaning.specs.Step.{Steps}
+use Rattle.ash_steps.specs.Requests.{Request, Seq, Reply, Refused, NoMemory}
+use Rattle.ash_plain_steps.specs.declared.request.Refusal.TheVariants as the
+use Rattle.ash_plain_steps.specs.StepViews.{IsChange}
+use Rattle.ash_meaning.specs.SourceFaults.{SourceFault}
+use Rattle.ash_states.specs.States.{HostState}
+use Rattle.ash_states.specs.Steps.{Steps, task_of}
 use Rattle.ash_durable.specs.States.{HoldsState}
-use Rattle.ash_durable.specs.Saving.{IsFailure}
+use Rattle.ash_durable.specs.Saving.{HostRefusal, IsFailure}
 use Rattle.ash_durable.specs.Hosting.{Hosted, first, second, state_unless, IsRunning, IsSaved, IsHonest, Settles}
-use Rattle.ash_durable.specs.Hosting.{IsAnswer, IsDeviceFailed, Replies, Handles, reply_stopped}
-use Rattle.ash_durable.specs.Requests.{CommitsAnswer}
-use Rattle.ash_durable.proofs.Answering.{LeavesState, steps-fine, steps-registered, answer_commits}
+use Rattle.ash_durable.specs.Hosting.{IsAnswer, IsDeviceFailed, HasStopped, Replies, Handles, reply_stopped}
+use Rattle.ash_durable.specs.Replies.{refused_by}
+use Rattle.ash_durable.specs.Requests.{Commits}
+use Rattle.ash_durable.proofs.Answering.{leaves, steps-fine, steps-registered, answer_changes}
 use Rattle.ash_durable.proofs.Composing.{runs_in, stopped_runs, honest_before, counts_as, counts_none, counts_then}
 use Rattle.ash_durable.proofs.Composing.{HadRoom, held_between, settles_as_it_is, settles_added}
 
 -- a host as it is seen
-abbrev pub seen_host : {D : Type 0} → Option ℕ → State → Journal D → Hosted D
+abbrev pub seen_host : {D : Type 0} → Option ℕ → HostState → Journal D → Hosted D
 seen_host stopped state journal = record {
   registered = state.registered;
   state = state_unless stopped state;
-  seq = unwrap_or stopped state.seq;
+  seq = unwrap_or stopped state.state.seq;
   journal = journal;
 }
 
-pub running_seen : {D : Type 0} (state : State) (journal : Journal D) → IsRunning state (seen_host None state journal)
+pub running_seen : {D : Type 0} (state : HostState) (journal : Journal D)
+    → IsRunning state (seen_host None state journal)
 running_seen state journal = record { registered_is = refl; state_is = refl; seq_is = refl }
 
 -- ---- failures
 
 -- a refusal of a call is that a device failed where the reply is
 
-failed_reply : (refusal : code.Refusal) → IsFailure refusal → IsDeviceFailed (Refused (refusal_of refusal))
+failed_reply : (refusal : HostRefusal) → IsFailure refusal → IsDeviceFailed (refused_by refusal)
 failed_reply the.DeviceFailed failed = tt
 failed_reply _ failed = absurd failed
 
-failed_call : (refusal : code.Refusal) → IsDeviceFailed (Refused (refusal_of refusal)) → IsFailure refusal
+failed_call : (refusal : HostRefusal) → IsDeviceFailed (refused_by refusal) → IsFailure refusal
 failed_call the.DeviceFailed failed = tt
 failed_call _ failed = absurd failed
 
-pub counts_replied : (refusal : code.Refusal) (a b c d : ℕ) → CountsFailures (IsFailure refusal) a b c d
-    → CountsFailures (IsDeviceFailed (Refused (refusal_of refusal))) a b c d
-counts_replied refusal a b c d counts = counts_as (IsFailure refusal) (IsDeviceFailed (Refused (refusal_of refusal)))
+pub counts_replied : (refusal : HostRefusal) (a b c d : ℕ) → CountsFailures (IsFailure refusal) a b c d
+    → CountsFailures (IsDeviceFailed (refused_by refusal)) a b c d
+counts_replied refusal a b c d counts = counts_as (IsFailure refusal) (IsDeviceFailed (refused_by refusal))
     a b c d (failed_reply refusal) (failed_call refusal) counts
-
--- no step is refused for a device
-
-refused_none : (old : State) (refusal : Refusal) (new : State) → LeavesState old (Refused refusal) new
-    → IsDeviceFailed (Refused refusal) → ⊥
-refused_none old refusals.DeviceFailed new leaves failed = leaves
-refused_none old _ new leaves failed = failed
-
-none_failed : (old : State) (reply : Reply) (new : State) → LeavesState old reply new → IsDeviceFailed reply → ⊥
-none_failed old (Refused refusal) new leaves failed = refused_none old refusal new leaves failed
-none_failed old _ new leaves failed = failed
 
 -- ---- a host that must be reopened
 
@@ -68,10 +58,12 @@ stopped_none Seq seq failed = failed
 stopped_none _ seq failed = failed
 
 -- nothing is done
-pub handles_stopped : {D : Type 0} (device : Device D) (budget : ℕ) (request : Request) (host : Hosted D) (reply : Reply)
-    → host.state ≡ None → reply ≡ reply_stopped request host.seq → Handles device budget request host reply host
+pub handles_stopped : {D : Type 0} (device : Device D) (budget : ℕ) (request : Request) (host : Hosted D)
+    (reply : Reply SourceFault) → host.state ≡ None → reply ≡ reply_stopped request host.seq
+    → Handles device budget request host reply host
 handles_stopped device budget request host reply none is = record {
-  replies = subst (λ (known : Option State). Replies device budget request known host reply host) (sym none) (is, refl);
+  replies = subst (λ (known : Option HostState). Replies device budget request known host reply host) (sym none)
+      (is, refl);
   saved = λ was. was;
   failures = counts_none (IsDeviceFailed reply) (device.failures (first host)) (device.failures (second host))
       (λ failed. stopped_none request host.seq (subst IsDeviceFailed is failed));
@@ -80,26 +72,24 @@ handles_stopped device budget request host reply none is = record {
   registered = refl;
 }
 
+-- the same of a host as it is seen
+pub handles_seen_stopped : {D : Type 0} (device : Device D) (budget : ℕ) (request : Request) (stopped : Option ℕ)
+    (state : HostState) (journal : Journal D) (host : Hosted D) (seq : ℕ) (reply : Reply SourceFault)
+    → stopped ≡ Some seq → seen_host stopped state journal ≡ host → reply ≡ reply_stopped request seq
+    → Handles device budget request host reply host
+handles_seen_stopped device budget request None state journal host seq reply stops seen is = absurd (cc)
+handles_seen_stopped {D} device budget request (Some n) state journal host seq reply stops seen is =
+    let same : n ≡ seq = cc in
+    subst (λ (h : Hosted D). Handles device budget request h reply h) seen
+    (handles_stopped device budget request (seen_host (Some n) state journal) reply refl
+    (is ∙ ap (λ (k : ℕ). reply_stopped request k) (sym same)))
+
 -- ---- a request that is not answered
 
-pub word_no_answer : (result : Result Word code.Refusal) → IsAnswer (word_of result) → ⊥
-word_no_answer (Ok word) given = given
-word_no_answer (Err refusal) given = given
-
-refused_same : (old : State) (refusal : Refusal) (new : State) → LeavesState old (Refused refusal) new → new ≡ old
-refused_same old refusals.DeviceFailed new leaves = absurd leaves
-refused_same old refusals.Reopen new leaves = absurd leaves
-refused_same old refusals.GenerationSpent new leaves = absurd leaves
-refused_same old _ new leaves = leaves
-
-leaves_same : (old : State) (reply : Reply) (new : State) → (IsAnswer reply → ⊥) → LeavesState old reply new → new ≡ old
-leaves_same old (Answered end seq) new not leaves = absurd (not tt)
-leaves_same old (Refused refusal) new not leaves = refused_same old refusal new leaves
-leaves_same old _ new not leaves = leaves
-
-replies_as_it_is : {D : Type 0} (device : Device D) (budget : ℕ) (request : Request) (state : State)
-    (old between : Hosted D) (reply : Reply) → HadRoom device request state old between → (IsAnswer reply → ⊥)
-    → Steps budget request state reply state → Replies device budget request (Some state) old reply between
+replies_as_it_is : {D : Type 0} (device : Device D) (budget : ℕ) (request : Request) (state : HostState)
+    (old between : Hosted D) (reply : Reply SourceFault) → HadRoom device request state old between
+    → (IsAnswer reply → ⊥) → Steps budget request state reply state
+    → Replies device budget request (Some state) old reply between
 replies_as_it_is device budget request state old between reply room not (inl stepped) = inl (record {
   between = between;
   room = room.room;
@@ -117,73 +107,77 @@ replies_as_it_is device budget request state old between reply room not (inr out
   settles = settles_as_it_is device request state old between room;
 }))
 
-pub handles_as_it_is : {D : Type 0} (device : Device D) (budget : ℕ) (request : Request) (state : State)
-    (old between : Hosted D) (reply : Reply) → HadRoom device request state old between → (IsAnswer reply → ⊥)
-    → Steps budget request state reply state → Handles device budget request old reply between
-handles_as_it_is device budget request state old between reply room not steps =
-    let none : (IsDeviceFailed reply → ⊥) = none_failed state reply state
-    (steps-fine budget request state state reply steps) in
-    record {
-      replies = subst (λ (known : Option State). Replies device budget request known old reply between)
-          (sym room.began.state_is) (replies_as_it_is device budget request state old between reply room not steps);
-      saved = room.saved;
-      failures = counts_as ⊥ (IsDeviceFailed reply) (device.failures (first old)) (device.failures (second old))
-          (device.failures (first between)) (device.failures (second between)) (λ no. absurd no)
-          none room.disks.failures;
-      honesty_first = room.disks.honesty_first;
-      honesty_second = room.disks.honesty_second;
-      registered = room.disks.registered;
-    }
+pub handles_as_it_is : {D : Type 0} (device : Device D) (budget : ℕ) (request : Request) (state : HostState)
+    (old between : Hosted D) (reply : Reply SourceFault) → HadRoom device request state old between
+    → (IsAnswer reply → ⊥) → Steps budget request state reply state
+    → Handles device budget request old reply between
+handles_as_it_is device budget request state old between reply room not steps = record {
+  replies = subst (λ (known : Option HostState). Replies device budget request known old reply between)
+      (sym room.began.state_is) (replies_as_it_is device budget request state old between reply room not steps);
+  saved = room.saved;
+  failures = counts_as ⊥ (IsDeviceFailed reply) (device.failures (first old)) (device.failures (second old))
+      (device.failures (first between)) (device.failures (second between)) (λ no. absurd no)
+      (steps-fine budget request state state reply steps) room.disks.failures;
+  honesty_first = room.disks.honesty_first;
+  honesty_second = room.disks.honesty_second;
+  registered = room.disks.registered;
+}
 
 -- a host that has room runs in the state that it is seen in
-room_seen : {D : Type 0} (device : Device D) (request : Request) (state seen : State) (journal : Journal D)
-    (old : Hosted D) → HadRoom device request state old (seen_host None seen journal)
+room_seen : {D : Type 0} (device : Device D) (request : Request) (state seen : HostState) (journal : Journal D)
+    (old between : Hosted D) → seen_host None seen journal ≡ between → HadRoom device request state old between
     → HadRoom device request seen old (seen_host None seen journal)
-room_seen device request state seen journal old room =
-    subst (λ (s : State). HadRoom device request s old (seen_host None seen journal))
-    (runs_in (seen_host None seen journal) state seen room.running (running_seen seen journal)) room
+room_seen {D} device request state seen journal old between is room =
+    let here : HadRoom device request state old (seen_host None seen journal) =
+    subst (λ (host : Hosted D). HadRoom device request state old host) (sym is) room in
+    subst (λ (s : HostState). HadRoom device request s old (seen_host None seen journal))
+    (runs_in (seen_host None seen journal) state seen here.running (running_seen seen journal)) here
+
+-- a host that has room has not stopped
+never_stopped : {D : Type 0} (device : Device D) (request : Request) (seq : ℕ) (state seen : HostState)
+    (journal : Journal D) (old between : Hosted D) → seen_host (Some seq) seen journal ≡ between
+    → HadRoom device request state old between → ⊥
+never_stopped {D} device request seq state seen journal old between is room =
+    stopped_runs between state (ap (λ (host : Hosted D). host.state) (sym is)) room.running
 
 pub handles_untouched : {D : Type 0} (device : Device D) (budget : ℕ) (request : Request) (stopped : Option ℕ)
-    (seen after : State) (journal : Journal D) (state : State) (old between : Hosted D) (reply : Reply)
-    → seen_host stopped seen journal ≡ between → HadRoom device request state old between → (IsAnswer reply → ⊥)
-    → Steps budget request seen reply after → Handles device budget request old reply (seen_host stopped after journal)
-handles_untouched {D} device budget request (Some seq) seen after journal state old between reply is room not steps =
-    absurd (stopped_runs between state (ap (λ (host : Hosted D). host.state) (sym is)) room.running)
-handles_untouched {D} device budget request None seen after journal state old between reply is room not steps =
-    let here : HadRoom device request seen old (seen_host None seen journal) =
-    room_seen device request state seen journal old
-    (subst (λ (host : Hosted D). HadRoom device request state old host) (sym is) room) in
-    let same : after ≡ seen = leaves_same seen reply after not (steps-fine budget request seen after reply steps) in
-    subst (λ (s : State). Handles device budget request old reply (seen_host None s journal)) (sym same)
-    (handles_as_it_is device budget request seen old (seen_host None seen journal) reply here not
-    (subst (λ (s : State). Steps budget request seen reply s) same steps))
+    (seen after : HostState) (journal : Journal D) (state : HostState) (old between : Hosted D)
+    (reply : Reply SourceFault) → seen_host stopped seen journal ≡ between → HadRoom device request state old between
+    → (IsAnswer reply → ⊥) → Steps budget request seen reply after
+    → Handles device budget request old reply (seen_host stopped after journal)
+handles_untouched device budget request (Some seq) seen after journal state old between reply is room not steps =
+    absurd (never_stopped device request seq state seen journal old between is room)
+handles_untouched device budget request None seen after journal state old between reply is room not steps =
+    let same : after ≡ seen = leaves budget request seen after reply steps not in
+    subst (λ (s : HostState). Handles device budget request old reply (seen_host None s journal)) (sym same)
+    (handles_as_it_is device budget request seen old (seen_host None seen journal) reply
+    (room_seen device request state seen journal old between is room) not
+    (subst (λ (s : HostState). Steps budget request seen reply s) same steps))
 
--- ---- a request that is answered, if the answer is kept
+-- ---- a request that is answered, if the answer is stored
 
-module _ {D : Type 0} (device : Device D) (budget : ℕ) (request : Request) (state after : State) (journal : Journal D)
-    (old : Hosted D) (answer : Answer) (room : HadRoom device request state old (seen_host None state journal))
-    (steps : Steps budget request state (answered answer) after) where
-  -- what every outcome of keeping it leaves
+module _ {D : Type 0} (device : Device D) (budget : ℕ) (request : Request) (state after : HostState)
+    (journal : Journal D) (old : Hosted D) (reply : Reply SourceFault) (answers : IsAnswer reply)
+    (room : HadRoom device request state old (seen_host None state journal))
+    (steps : Steps budget request state reply after) where
+  -- what every outcome of storing it leaves
   registered_same : state.registered ≡ after.registered
-  registered_same = sym (steps-registered budget request state after (answered answer) steps)
+  registered_same = sym (steps-registered budget request state after reply steps)
 
-  commits_registered : (result : Result Answer code.Refusal) (new : Hosted D)
-      → CommitsAnswer device state.seq answer (seen_host None after journal) result new
-      → new.registered ≡ old.registered
+  commits_registered : (result : Result (Unit {0}) HostRefusal) (new : Hosted D)
+      → Commits device state.state.seq (seen_host None after journal) result new → new.registered ≡ old.registered
   commits_registered result new committed = committed.disks.registered ∙ sym registered_same ∙ room.disks.registered
 
-  settles_stored : (result : Result Answer code.Refusal) (new : Hosted D)
-      → CommitsAnswer device state.seq answer (seen_host None after journal) result new
+  settles_stored : (result : Result (Unit {0}) HostRefusal) (new : Hosted D)
+      → Commits device state.state.seq (seen_host None after journal) result new
       → Settles device state after old new
   settles_stored result new committed =
       settles_added device request state old (seen_host None state journal) room after new
       (λ held. committed.moments state after (running_seen after journal) registered_same held)
 
-  replies_stored : (returned : Answer) (new : Hosted D)
-      → CommitsAnswer device state.seq answer (seen_host None after journal) (Ok returned) new
-      → Steps budget request state (answered returned) after
-      → Replies device budget request (Some state) old (answered returned) new
-  replies_stored returned new committed (inl stepped) =
+  replies_stored : (new : Hosted D) → Commits device state.state.seq (seen_host None after journal) (Ok tt) new
+      → Steps budget request state reply after → Replies device budget request (Some state) old reply new
+  replies_stored new committed (inl stepped) =
       let outcome = committed.outcome after (running_seen after journal) in
       inl (record {
         between = seen_host None state journal;
@@ -192,74 +186,70 @@ module _ {D : Type 0} (device : Device D) (budget : ℕ) (request : Request) (st
         stepped = stepped;
         running = outcome.0;
         added = λ _. outcome.1;
-        untouched = λ not. absurd (not tt);
-        settles = settles_stored (Ok returned) new committed;
+        untouched = λ not. absurd (not answers);
+        settles = settles_stored (Ok tt) new committed;
       })
-  replies_stored returned new committed (inr out) =
-      let h : answered returned ≡ Refused refusals.NoMemory = out.reply_is in absurd (cc)
+  replies_stored new committed (inr out) = absurd (subst IsAnswer out.reply_is answers)
 
-  replies_lost : (refusal : code.Refusal) (new : Hosted D)
-      → CommitsAnswer device state.seq answer (seen_host None after journal) (Err refusal) new
-      → Steps budget request state (answered answer) after
-      → Replies device budget request (Some state) old (Refused (refusal_of refusal)) new
+  replies_lost : (refusal : HostRefusal) (new : Hosted D)
+      → Commits device state.state.seq (seen_host None after journal) (Err refusal) new
+      → Steps budget request state reply after
+      → Replies device budget request (Some state) old (refused_by refusal) new
   replies_lost refusal new committed (inl stepped) =
       let outcome = committed.outcome after (running_seen after journal) in
       inr (inr (inl (record {
         between = seen_host None state journal;
         room = room.room;
-        commits = answer_commits budget request state after _ _ (inl stepped);
-        answer = answered answer;
+        changes = answer_changes budget request state after reply answers (inl stepped);
+        answer = reply;
         after = after;
         stepped = stepped;
         lost = outcome.2;
         stopped = record { stopped = outcome.0; seq_same = outcome.1 ∙ sym room.began.seq_is };
         settles = settles_stored (Err refusal) new committed;
       })))
-  replies_lost refusal new committed (inr out) =
-      let h : answered answer ≡ Refused refusals.NoMemory = out.reply_is in absurd (cc)
+  replies_lost refusal new committed (inr out) = absurd (subst IsAnswer out.reply_is answers)
 
-  saved_stored : (returned : Answer) (new : Hosted D)
-      → CommitsAnswer device state.seq answer (seen_host None after journal) (Ok returned) new → IsSaved device old
-      → IsSaved device new
-  saved_stored returned new committed = λ was honest other runs.
+  saved_stored : (new : Hosted D) → Commits device state.state.seq (seen_host None after journal) (Ok tt) new
+      → IsSaved device old → IsSaved device new
+  saved_stored new committed = λ was honest other runs.
       let outcome = committed.outcome after (running_seen after journal) in
       let honest_then : IsHonest device (seen_host None state journal) =
       honest_before device (seen_host None after journal)
       new committed.disks.honesty_first committed.disks.honesty_second honest in
       let held : HoldsState device state journal =
       held_between device request state old (seen_host None state journal) room honest_then was in
-      subst (λ (s : State). HoldsState device s new.journal) (runs_in new after other outcome.0 runs)
+      subst (λ (s : HostState). HoldsState device s new.journal) (runs_in new after other outcome.0 runs)
       (committed.holds state after (running_seen after journal) registered_same held)
 
-  handles_stored : (returned : Answer) (new : Hosted D)
-      → CommitsAnswer device state.seq answer (seen_host None after journal) (Ok returned) new
-      → Handles device budget request old (answered returned) new
-  handles_stored returned new committed =
-      let same : answer ≡ returned = sym (committed.answer_same returned refl) in
-      record {
-        replies = subst (λ (known : Option State). Replies device budget request known old (answered returned) new)
-            (sym room.began.state_is) (replies_stored returned new committed
-            (subst (λ (a : Answer). Steps budget request state (answered a) after) same steps));
-        saved = saved_stored returned new committed;
-        failures = counts_then ⊥ ⊥ (device.failures (first old)) (device.failures (second old))
-            (device.failures (first (seen_host None state journal)))
-            (device.failures (second (seen_host None state journal))) (device.failures (first new))
-            (device.failures (second new)) (λ no. no) room.disks.failures committed.disks.failures;
-        honesty_first = committed.disks.honesty_first ∙ room.disks.honesty_first;
-        honesty_second = committed.disks.honesty_second ∙ room.disks.honesty_second;
-        registered = commits_registered (Ok returned) new committed;
-      }
+  handles_stored : (new : Hosted D) → Commits device state.state.seq (seen_host None after journal) (Ok tt) new
+      → Handles device budget request old reply new
+  handles_stored new committed = record {
+    replies = subst (λ (known : Option HostState). Replies device budget request known old reply new)
+        (sym room.began.state_is) (replies_stored new committed steps);
+    saved = saved_stored new committed;
+    failures = counts_as ⊥ (IsDeviceFailed reply) (device.failures (first old)) (device.failures (second old))
+        (device.failures (first new)) (device.failures (second new)) (λ no. absurd no)
+        (steps-fine budget request state after reply steps)
+        (counts_then ⊥ ⊥ (device.failures (first old)) (device.failures (second old))
+        (device.failures (first (seen_host None state journal)))
+        (device.failures (second (seen_host None state journal))) (device.failures (first new))
+        (device.failures (second new)) (λ no. no) room.disks.failures committed.disks.failures);
+    honesty_first = committed.disks.honesty_first ∙ room.disks.honesty_first;
+    honesty_second = committed.disks.honesty_second ∙ room.disks.honesty_second;
+    registered = commits_registered (Ok tt) new committed;
+  }
 
-  handles_lost : (refusal : code.Refusal) (new : Hosted D)
-      → CommitsAnswer device state.seq answer (seen_host None after journal) (Err refusal) new
-      → Handles device budget request old (Refused (refusal_of refusal)) new
+  handles_lost : (refusal : HostRefusal) (new : Hosted D)
+      → Commits device state.state.seq (seen_host None after journal) (Err refusal) new
+      → Handles device budget request old (refused_by refusal) new
   handles_lost refusal new committed =
       let outcome = committed.outcome after (running_seen after journal) in
       record {
-        replies = subst (λ (known : Option State). Replies device budget request known old
-            (Refused (refusal_of refusal)) new) (sym room.began.state_is) (replies_lost refusal new committed steps);
+        replies = subst (λ (known : Option HostState). Replies device budget request known old
+            (refused_by refusal) new) (sym room.began.state_is) (replies_lost refusal new committed steps);
         saved = λ was honest other runs. absurd (stopped_runs new other outcome.0 runs);
-        failures = counts_then ⊥ (IsDeviceFailed (Refused (refusal_of refusal))) (device.failures (first old))
+        failures = counts_then ⊥ (IsDeviceFailed (refused_by refusal)) (device.failures (first old))
             (device.failures (second old)) (device.failures (first (seen_host None state journal)))
             (device.failures (second (seen_host None state journal))) (device.failures (first new))
             (device.failures (second new)) (λ no. no) room.disks.failures
@@ -271,29 +261,76 @@ module _ {D : Type 0} (device : Device D) (budget : ℕ) (request : Request) (st
         registered = commits_registered (Err refusal) new committed;
       }
 
-handles_either : {D : Type 0} (device : Device D) (budget : ℕ) (request : Request) (state after : State)
-    (journal : Journal D) (old : Hosted D) (answer : Answer) (result : Result Answer code.Refusal) (new : Hosted D)
-    → HadRoom device request state old (seen_host None state journal)
-    → Steps budget request state (answered answer) after
-    → CommitsAnswer device state.seq answer (seen_host None after journal) result new
-    → Handles device budget request old (answer_of result) new
-handles_either device budget request state after journal old answer (Ok returned) new room steps committed =
-    handles_stored device budget request state after journal old answer room steps returned new committed
-handles_either device budget request state after journal old answer (Err refusal) new room steps committed =
-    handles_lost device budget request state after journal old answer room steps refusal new committed
+-- The answer is returned where it is stored, else the refusal.
+abbrev pub reply_unless : Reply SourceFault → Result (Unit {0}) HostRefusal → Reply SourceFault
+reply_unless reply (Ok done) = reply
+reply_unless reply (Err refusal) = refused_by refusal
+
+handles_either : {D : Type 0} (device : Device D) (budget : ℕ) (request : Request) (state after : HostState)
+    (journal : Journal D) (old : Hosted D) (reply : Reply SourceFault) (result : Result (Unit {0}) HostRefusal)
+    (new : Hosted D) → IsAnswer reply → HadRoom device request state old (seen_host None state journal)
+    → Steps budget request state reply after
+    → Commits device state.state.seq (seen_host None after journal) result new
+    → Handles device budget request old (reply_unless reply result) new
+handles_either device budget request state after journal old reply (Ok done) new answers room steps committed =
+    handles_stored device budget request state after journal old reply answers room steps new committed
+handles_either device budget request state after journal old reply (Err refusal) new answers room steps committed =
+    handles_lost device budget request state after journal old reply answers room steps refusal new committed
 
 pub handles_answer : {D : Type 0} (device : Device D) (budget : ℕ) (request : Request) (stopped : Option ℕ)
-    (seen after : State) (journal : Journal D) (state : State) (old between : Hosted D) (seq : ℕ) (answer : Answer)
-    (result : Result Answer code.Refusal) (new : Hosted D) → seen_host stopped seen journal ≡ between
-    → HadRoom device request state old between → Steps budget request seen (answered answer) after → seq ≡ seen.seq
-    → CommitsAnswer device seq answer (seen_host stopped after journal) result new
-    → Handles device budget request old (answer_of result) new
-handles_answer {D} device budget request (Some number)
-    seen after journal state old between seq answer result new is room steps seq_is committed =
-    absurd (stopped_runs between state (ap (λ (host : Hosted D). host.state) (sym is)) room.running)
-handles_answer {D} device budget request None seen after journal state old between seq answer result new is room steps
-    seq_is committed =
-    handles_either device budget request seen after journal old answer result new
-    (room_seen device request state seen journal old
-    (subst (λ (host : Hosted D). HadRoom device request state old host) (sym is) room))
-    steps (subst (λ (n : ℕ). CommitsAnswer device n answer (seen_host None after journal) result new) seq_is committed)
+    (seen after : HostState) (journal : Journal D) (state : HostState) (old between : Hosted D) (seq : ℕ)
+    (reply : Reply SourceFault) (result : Result (Unit {0}) HostRefusal) (new : Hosted D)
+    → seen_host stopped seen journal ≡ between → HadRoom device request state old between → IsAnswer reply
+    → Steps budget request seen reply after → seq ≡ seen.state.seq
+    → Commits device seq (seen_host stopped after journal) result new
+    → Handles device budget request old (reply_unless reply result) new
+handles_answer device budget request (Some number) seen after journal state old between seq reply result new is room
+    answers steps seq_is committed =
+    absurd (never_stopped device request number state seen journal old between is room)
+handles_answer {D} device budget request None seen after journal state old between seq reply result new is room answers
+    steps seq_is committed =
+    handles_either device budget request seen after journal old reply result new answers
+    (room_seen device request state seen journal old between is room) steps
+    (subst (λ (n : ℕ). Commits device n (seen_host None after journal) result new) seq_is committed)
+
+-- ---- a request that loses the state
+
+lost_between : {D : Type 0} (device : Device D) (budget : ℕ) (request : Request) (state left : HostState)
+    (journal : Journal D) (old : Hosted D) → HadRoom device request state old (seen_host None state journal)
+    → IsChange (task_of request state) → left.registered ≡ state.registered
+    → Handles device budget request old (Refused NoMemory) (seen_host (Some state.state.seq) left journal)
+lost_between {D} device budget request state left journal old room changes same = record {
+  replies = subst (λ (known : Option HostState). Replies device budget request known old (Refused NoMemory)
+      (seen_host (Some state.state.seq) left journal)) (sym room.began.state_is)
+      (inr (inr (inr (inl (record {
+        between = seen_host None state journal;
+        room = room.room;
+        changes = changes;
+        reply_is = refl;
+        journal_same = refl;
+        stopped = record { stopped = refl; seq_same = sym room.began.seq_is };
+        settles = settles_as_it_is device request state old (seen_host None state journal) room;
+      })))));
+  saved = λ was honest other runs.
+      absurd (stopped_runs (seen_host (Some state.state.seq) left journal) other refl runs);
+  failures = counts_as ⊥ (IsDeviceFailed (Refused NoMemory)) (device.failures (first old))
+      (device.failures (second old)) (device.failures (first (seen_host None state journal)))
+      (device.failures (second (seen_host None state journal))) (λ no. absurd no) (λ failed. failed)
+      room.disks.failures;
+  honesty_first = room.disks.honesty_first;
+  honesty_second = room.disks.honesty_second;
+  registered = same ∙ room.disks.registered;
+}
+
+pub handles_lost_state : {D : Type 0} (device : Device D) (budget : ℕ) (request : Request) (stopped : Option ℕ)
+    (seen left : HostState) (journal : Journal D) (state : HostState) (old between : Hosted D) (seq : ℕ)
+    → seen_host stopped seen journal ≡ between → HadRoom device request state old between
+    → IsChange (task_of request seen) → left.registered ≡ seen.registered → seq ≡ seen.state.seq
+    → Handles device budget request old (Refused NoMemory) (seen_host (Some seq) left journal)
+handles_lost_state device budget request (Some number) seen left journal state old between seq is room changes same
+    seq_is = absurd (never_stopped device request number state seen journal old between is room)
+handles_lost_state {D} device budget request None seen left journal state old between seq is room changes same seq_is =
+    subst (λ (n : ℕ). Handles device budget request old (Refused NoMemory) (seen_host (Some n) left journal))
+        (sym seq_is)
+    (lost_between device budget request seen left journal old
+    (room_seen device request state seen journal old between is room) changes same)

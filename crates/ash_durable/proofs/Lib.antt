@@ -1,4 +1,5 @@
 pub mod Answering
+pub mod Changing
 pub mod Committing
 pub mod Composing
 pub mod ContentsStates
@@ -16,7 +17,6 @@ pub mod Making
 pub mod Mishaps
 pub mod Opened
 pub mod Outcomes
-pub mod Parts
 pub mod Reading
 pub mod Refusing
 pub mod RequestOutcomes

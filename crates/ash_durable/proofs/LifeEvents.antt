@@ -5,8 +5,11 @@ use Rattle.ash_disk.specs.Device.{Device}
 use Rattle.ash_journal.specs.Current.{SettleOn}
 use Rattle.ash_journal.specs.Layout.{IsOpen}
 use Rattle.ash_journal.proofs.LayoutLaws.{open_closed}
-use Rattle.ash_subset.specs.Meaning.{End}
-use Rattle.ash_meaning.specs.State.{State, Request, Reply, Answered, empty}
+use Rattle.ash_host.specs.declared.event.Event.{Event as HostEvent}
+use Rattle.ash_phrases.specs.Ends.{End}
+use Rattle.ash_steps.specs.Requests.{Request, Reply, Answered}
+use Rattle.ash_meaning.specs.SourceFaults.{SourceFault}
+use Rattle.ash_states.specs.States.{HostState, empty}
 use Rattle.ash_registry.specs.Registrations.{Registration}
 use Rattle.ash_durable.specs.Hosting.{Hosted, first, second, IsRunning, IsSaved, IsHonest, IsAnswer, Handles}
 use Rattle.ash_durable.specs.States.{AreHonest, SettleNow, IsOne, IsEither, HaveState}
@@ -17,14 +20,15 @@ use Rattle.ash_durable.specs.Lives.{Crashed, AreFresh, IsOneOpen, first_of, seco
 use Rattle.ash_durable.specs.Lives.{OnDisks, first_at, second_at, IsWhole, Outlives}
 use Rattle.ash_durable.specs.declared.fault.OpenRefused.{OpenRefused}
 use Rattle.ash_durable.proofs.Settling.{settle_on_more, settle_now, settle_still}
-use Rattle.ash_durable.proofs.RequestOutcomes.{leaves, lead_registered, handled_or_stopped, stopped_answer}
+use Rattle.ash_durable.proofs.Answering.{leaves}
+use Rattle.ash_durable.proofs.RequestOutcomes.{lead_registered, handled_or_stopped, stopped_answer}
 use Rattle.ash_durable.proofs.CrashedDisks.{runs_once, same_honesty, settle_crashed, settle_read, settle_swapped, held}
 
 module _ {D : Type 0} (device : Device D) (registered : List Registration) where
   -- ---- a host
 
   -- A host that runs in a state to which events lead.
-  pub runs_in : (events : List Event) (host : Hosted D) (state : State) → host.registered ≡ registered
+  pub runs_in : (events : List Event) (host : Hosted D) (state : HostState) → host.registered ≡ registered
       → IsHonest device host → IsSaved device host → IsRunning state host → LeadTo events (empty registered) state
       → Outlives device registered events (UnderHost host)
   runs_in events host state with_it honest saved running led = record {
@@ -42,7 +46,7 @@ module _ {D : Type 0} (device : Device D) (registered : List Registration) where
     runs = record {
       registered_is = with_it;
       running = λ other is. let same : Some state ≡ Some other = sym running.state_is ∙ is in let one : state ≡ other =
-          cc in subst (λ (s : State). IsRunning s host) one running;
+          cc in subst (λ (s : HostState). IsRunning s host) one running;
       led = λ other runs. subst (LeadTo events (empty registered)) (runs_once host state other running runs) led;
       saved = saved;
       settles = λ other runs. held device host other honest saved runs;
@@ -65,7 +69,7 @@ module _ {D : Type 0} (device : Device D) (registered : List Registration) where
     };
   }
     where
-      never : (state : State) → host.state ≡ Some state → ⊥
+      never : (state : HostState) → host.state ≡ Some state → ⊥
       never state is = let h : None ≡ Some state = sym none ∙ is in absurd (cc)
 
   -- Two disks that no host has.
@@ -92,7 +96,7 @@ module _ {D : Type 0} (device : Device D) (registered : List Registration) where
   }
 
   -- a request is in doubt, handled or not
-  in_doubt : (events : List Event) (budget : ℕ) (request : Request) (state after : State) (a b : D)
+  in_doubt : (events : List Event) (budget : ℕ) (request : Request) (state after : HostState) (a b : D)
       → LeadTo events (empty registered) state → Takes (InDoubt budget request) state after
       → SettleNow device a b (IsEither state after) → IsWhole device registered (InDoubt budget request ∷ events) a b
   in_doubt events budget request state after a b led may settled = record {
@@ -109,7 +113,7 @@ module _ {D : Type 0} (device : Device D) (registered : List Registration) where
   abbrev pub Before : List Event → Hosted D → Type 0
   Before events old = Outlives device registered events (UnderHost old)
 
-  handled_honest : (budget : ℕ) (request : Request) (old : Hosted D) (reply : Reply) (new : Hosted D)
+  handled_honest : (budget : ℕ) (request : Request) (old : Hosted D) (reply : Reply SourceFault) (new : Hosted D)
       → IsHonest device old → Handles device budget request old reply new → IsHonest device new
   handled_honest budget request old reply new honest handled =
       same_honesty device (first old) (second old) (first new) (second new)
@@ -121,16 +125,17 @@ module _ {D : Type 0} (device : Device D) (registered : List Registration) where
       (sym same) before
 
   pub replied : (events : List Event) (budget : ℕ) (request : Request) (old : Hosted D) (end : End) (seq : ℕ)
-      (new : Hosted D) → Before events old → Handles device budget request old (Answered end seq) new
-      → Outlives device registered (Acknowledged budget request end seq ∷ events) (UnderHost new)
-  replied events budget request old end seq new before handled =
-      elim (handled_or_stopped device budget request old (Answered end seq) new handled) [
+      (happened : List HostEvent)
+      (new : Hosted D) → Before events old → Handles device budget request old (Answered end seq happened) new
+      → Outlives device registered (Acknowledged budget request end seq happened ∷ events) (UnderHost new)
+  replied events budget request old end seq happened new before handled =
+      elim (handled_or_stopped device budget request old (Answered end seq happened) new handled) [
         | inl stopped ↦ absurd (stopped_answer request old.seq (subst IsAnswer stopped.1 tt))
         | inr some ↦ elim some.2.ending [
           | inl on ↦
-              runs_in (Acknowledged budget request end seq ∷ events) new some.2.after
+              runs_in (Acknowledged budget request end seq happened ∷ events) new some.2.after
               (handled.registered ∙ before.runs.registered_is)
-              (handled_honest budget request old (Answered end seq) new before.honest handled)
+              (handled_honest budget request old (Answered end seq happened) new before.honest handled)
               (handled.saved before.runs.saved) on.0
               (some.0, before.runs.led some.0 (before.runs.running some.0 some.1), on.1)
           | inr (inl none) ↦ absurd (none.0 tt)
@@ -138,7 +143,8 @@ module _ {D : Type 0} (device : Device D) (registered : List Registration) where
         ]
       ]
 
-  pub stored : (events : List Event) (budget : ℕ) (request : Request) (old : Hosted D) (reply : Reply) (new : Hosted D)
+  pub stored : (events : List Event) (budget : ℕ) (request : Request) (old : Hosted D) (reply : Reply SourceFault)
+      (new : Hosted D)
       → Before events old → Handles device budget request old reply new → (IsAnswer reply → ⊥)
       → (new.state ≡ None → old.state ≡ None) → Before events new
   stored events budget request old reply new before handled not only =
@@ -155,7 +161,8 @@ module _ {D : Type 0} (device : Device D) (registered : List Registration) where
         ]
       ]
 
-  pub failed : (events : List Event) (budget : ℕ) (request : Request) (old : Hosted D) (reply : Reply) (new : Hosted D)
+  pub failed : (events : List Event) (budget : ℕ) (request : Request) (old : Hosted D) (reply : Reply SourceFault)
+      (new : Hosted D)
       → Before events old → Handles device budget request old reply new → (old.state ≡ None → ⊥) → new.state ≡ None
       → Outlives device registered (InDoubt budget request ∷ events) (UnderHost new)
   failed events budget request old reply new before handled ran none =
@@ -170,7 +177,8 @@ module _ {D : Type 0} (device : Device D) (registered : List Registration) where
             (IsEither some.0 some.2.after) (some.2.moments before.honest before.runs.saved)))
       ]
 
-  pub crashed_handling : (events : List Event) (budget : ℕ) (request : Request) (old : Hosted D) (reply : Reply)
+  pub crashed_handling : (events : List Event) (budget : ℕ) (request : Request) (old : Hosted D)
+      (reply : Reply SourceFault)
       (new : Hosted D) (a b : D) → Before events old → Handles device budget request old reply new
       → Crashed device (device.clock (first old)) (device.clock (second old)) (first new) (second new) a b
       → Outlives device registered (InDoubt budget request ∷ events) (OnDisks a b)
@@ -178,7 +186,8 @@ module _ {D : Type 0} (device : Device D) (registered : List Registration) where
       elim (handled_or_stopped device budget request old reply new handled) [
         | inl stopped ↦
             let crash_old : Crashed device (device.clock (first old)) (device.clock (second old)) (first old)
-            (second old) a b = subst (λ (host : Hosted D). Crashed device (device.clock (first old)) (device.clock (second old))
+            (second old) a b = subst (λ (host : Hosted D). Crashed device (device.clock (first old))
+            (device.clock (second old))
             (first host) (second host) a b) stopped.2 crash in
             rests_on (InDoubt budget request ∷ events) a b crash.honest
             (not_done events budget request a b (still_whole events (first old) (second old) a b before.whole

@@ -4,7 +4,7 @@ use Rattle.std.specs.Bool.{IsTrue}
 use Rattle.ash_disk.specs.Device.{Device}
 use Rattle.ash_journal.specs.Current.{Contents, Represent}
 use Rattle.ash_journal.proofs.SettleLaws.{represent_now, represent_once}
-use Rattle.ash_meaning.specs.State.{State, empty}
+use Rattle.ash_states.specs.States.{HostState, empty}
 use Rattle.ash_registry.specs.Registrations.{Registration}
 use Rattle.ash_durable.specs.Hosting.{Hosted, first, second}
 use Rattle.ash_durable.specs.States.{AreHonest, SettleSince, SettleNow, IsOne, IsEither, IsStateOf, HaveState}
@@ -32,14 +32,15 @@ use Rattle.ash_durable.proofs.LifeEvents.{crashed_opening, looked, turned, creat
 module _ {D : Type 0} (device : Device D) (stays : (disk : D) → IsTrue (device.honest disk)
     → device.leaves disk (device.clock disk) (device.seen disk)) (registered : List Registration) where
   -- a store's files, as they read, represent a state of those that they settle on
-  reads_one : (a b : D) (P : State → Type 0) → AreHonest device a b → SettleNow device a b P → (contents : Contents)
+  reads_one : (a b : D) (P : HostState → Type 0) → AreHonest device a b → SettleNow device a b P → (contents : Contents)
       × HaveState P contents × Represent contents (device.seen a) (device.seen b)
   reads_one a b P honest run =
       represent_now (HaveState P) (device.seen a) (device.seen b)
       (run.moments (device.clock a) (device.clock b) (device.seen a) (device.seen b) (omega arith) (omega arith)
       (omega arith) (omega arith) (stays a honest.honest_first) (stays b honest.honest_second))
 
-  never_closed : (a b : D) (P : State → Type 0) → AreHonest device a b → SettleNow device a b P → AreClosed device a b
+  never_closed : (a b : D) (P : HostState → Type 0) → AreHonest device a b → SettleNow device a b P
+      → AreClosed device a b
       → ⊥
   never_closed a b P honest run closed =
       let one = reads_one a b P honest run in
@@ -64,7 +65,8 @@ module _ {D : Type 0} (device : Device D) (stays : (disk : D) → IsTrue (device
       (only_read r.fault a b r.a r.b was.cause before.honest
       (never_closed a b (IsEither before.whole.s before.whole.t) before.honest before.whole.settled))
 
-  still_there : (others : List Registration) (a b : D) (P : State → Type 0) (result : Result (Hosted D) (OpenRefused D))
+  still_there : (others : List Registration) (a b : D) (P : HostState → Type 0)
+      (result : Result (Hosted D) (OpenRefused D))
       → AreHonest device a b → SettleNow device a b P → Creates device others a b result
       → SettleSince device (device.clock a) (device.clock b) (first_of result) (second_of result) P
   still_there others a b P (Ok host) honest run was = absurd (never_closed a b P honest run (was.made.closed honest))
@@ -84,7 +86,7 @@ module _ {D : Type 0} (device : Device D) (stays : (disk : D) → IsTrue (device
       result before.honest before.whole.settled creates) crash))
 
   -- what is read of files of which none is open, or that settle on the state before any request, is that state
-  first_state : (contents : Contents) (state : State) (x y : List ℕ) → state.registered ≡ registered
+  first_state : (contents : Contents) (state : HostState) (x y : List ℕ) → state.registered ≡ registered
       → Represent contents x y → IsStateOf state contents → IsClosedOrHasState (empty registered) x y
       → state ≡ empty registered
   first_state contents state x y with_it is is_state (inl closed) = absurd (represent_open contents x y is closed)
@@ -93,7 +95,7 @@ module _ {D : Type 0} (device : Device D) (stays : (disk : D) → IsTrue (device
       let other : IsStateOf one.1.0 contents =
       subst (IsStateOf one.1.0) (represent_once one.0 contents x y one.2 is) one.1.2 in
       state_of_one state (empty registered) contents with_it is_state
-      (subst (λ (s : State). IsStateOf s contents) one.1.1 other)
+      (subst (λ (s : HostState). IsStateOf s contents) one.1.1 other)
 
   opened_creating : (a b : D) (result : Result (Hosted D) (OpenRefused D)) (a' b' : D) (host : Hosted D)
       → AreFresh device a b → Creates device registered a b result
@@ -123,8 +125,8 @@ module _ {D : Type 0} (device : Device D) (stays : (disk : D) → IsTrue (device
       crashed_creating device registered a b result a' b' fresh creates crash is_open
   outlives _ _ (lives.OpenedCreating a b result a' b' host fresh creates crash was) =
       opened_creating a b result a' b' host fresh creates crash was
-  outlives _ _ (lives.Replied events budget request old end seq new life handled) =
-      replied device registered events budget request old end seq new (outlives events (UnderHost old) life) handled
+  outlives _ _ (lives.Replied events budget request old end seq happened new life handled) =
+      replied device registered events budget request old end seq happened new (outlives events (UnderHost old) life) handled
   outlives _ _ (lives.Unanswered events budget request old reply new life handled not only) =
       stored device registered events budget request old reply new (outlives events (UnderHost old) life)
       handled not only
@@ -176,8 +178,8 @@ module _ {D : Type 0} (device : Device D) (stays : (disk : D) → IsTrue (device
       let before = outlives events (OnDisks a b) life in
       let one = reads_one a b (IsEither before.whole.s before.whole.t) before.honest before.whole.settled in
       let with_it : one.1.0.registered ≡ registered = elim one.1.1 [
-        | inl s_is ↦ ap (λ (s : State). s.registered) s_is ∙ s_registered device registered events a b before.whole
-        | inr t_is ↦ ap (λ (s : State). s.registered) t_is ∙ t_registered device registered events a b before.whole
+        | inl s_is ↦ ap (λ (s : HostState). s.registered) s_is ∙ s_registered device registered events a b before.whole
+        | inr t_is ↦ ap (λ (s : HostState). s.registered) t_is ∙ t_registered device registered events a b before.whole
       ] in
       only_mishaps registered one.1.0 one.0 r.fault (device.seen a) (device.seen b) with_it one.2 one.1.2
       (was.cause before.honest)

@@ -2,7 +2,9 @@
 use Rattle.std.proofs.Common.{◌≡◌, ◌⊎◌, inl, inr, ℕ, List, [], ◌∷◌, ◌++◌, Option, Some, None, refl, sym, ◌∙◌, ap, subst}
 use Rattle.std.proofs.Common.{append_assoc}
 use Rattle.ash_disk.specs.Device.{Device}
-use Rattle.ash_meaning.specs.State.{State, Request, Reply, Answered, Value, Number, Done, Refused}
+use Rattle.ash_steps.specs.Requests.{Request, Reply, Answered, Value, ShownAs, Number, Done, Refused}
+use Rattle.ash_meaning.specs.SourceFaults.{SourceFault}
+use Rattle.ash_states.specs.States.{HostState}
 use Rattle.ash_registry.specs.Registrations.{Registration}
 use Rattle.ash_durable.specs.Hosting.{Hosted, IsAnswer, Handles, HandlesAll}
 use Rattle.ash_durable.specs.Running.{IsFailure}
@@ -11,17 +13,19 @@ use Rattle.ash_durable.specs.Lives.{LivesOn}
 use Rattle.ash_durable.proofs.RequestOutcomes.{handled_or_stopped}
 
 -- the events of a request that is not answered
-abbrev MayRecord : ℕ → Request → Reply → List Event → Type 0
+abbrev MayRecord : ℕ → Request → Reply SourceFault → List Event → Type 0
 MayRecord budget request reply events = (events ≡ []) ⊎ (IsFailure reply × (events ≡ InDoubt budget request ∷ []))
 
-records_other : (budget : ℕ) (request : Request) (reply : Reply) (events : List Event) → (IsAnswer reply → ⊥)
+records_other : (budget : ℕ) (request : Request) (reply : Reply SourceFault) (events : List Event)
+    → (IsAnswer reply → ⊥)
     → MayRecord budget request reply events → Records budget request reply events
-records_other budget request (Answered end seq) events not may = absurd (not tt)
+records_other budget request (Answered end seq happened) events not may = absurd (not tt)
 records_other budget request _ events not may = may
 
 -- a host that ran and has stopped had a failure
-stops_by : {D : Type 0} (device : Device D) (budget : ℕ) (request : Request) (old : Hosted D) (reply : Reply)
-    (new : Hosted D) (state : State) → old.state ≡ Some state → new.state ≡ None
+stops_by : {D : Type 0} (device : Device D) (budget : ℕ) (request : Request) (old : Hosted D)
+    (reply : Reply SourceFault)
+    (new : Hosted D) (state : HostState) → old.state ≡ Some state → new.state ≡ None
     → Handles device budget request old reply new → IsFailure reply
 stops_by device budget request old reply new state ran none handled =
     elim (handled_or_stopped device budget request old reply new handled) [
@@ -35,12 +39,13 @@ stops_by device budget request old reply new state ran none handled =
     ]
 
 -- a life that goes on with one request
-abbrev LivesOnce : {D : Type 0} → Device D → List Registration → ℕ → Request → List Event → Reply → Hosted D → Type 0
+abbrev LivesOnce : {D : Type 0} → Device D → List Registration → ℕ → Request → List Event → Reply SourceFault → Hosted D
+    → Type 0
 LivesOnce device registered budget request events reply new =
     (one : List Event) × Life device registered (one ++ events) (UnderHost new) × Records budget request reply one
 
 other_once : {D : Type 0} (device : Device D) (registered : List Registration) (budget : ℕ) (request : Request)
-    (events : List Event) (old : Hosted D) (reply : Reply) (new : Hosted D)
+    (events : List Event) (old : Hosted D) (reply : Reply SourceFault) (new : Hosted D)
     → Life device registered events (UnderHost old) → Handles device budget request old reply new → (IsAnswer reply → ⊥)
     → LivesOnce device registered budget request events reply new
 other_once {D} device registered budget request events old reply new life handled not = by new.state old.state refl refl
@@ -52,7 +57,7 @@ other_once {D} device registered budget request events old reply new life handle
       records_other budget request reply [] not (inl refl),
     )
 
-    by : (is was : Option State) → new.state ≡ is → old.state ≡ was
+    by : (is was : Option HostState) → new.state ≡ is → old.state ≡ was
         → LivesOnce device registered budget request events reply new
     by (Some state) was runs before = goes_on (λ none. let h : None ≡ Some state = sym none ∙ runs in absurd (cc))
     by None None none before = goes_on (λ again. before)
@@ -65,13 +70,15 @@ other_once {D} device registered budget request events old reply new life handle
         )
 
 lives_once : {D : Type 0} (device : Device D) (registered : List Registration) (budget : ℕ) (request : Request)
-    (events : List Event) (old : Hosted D) (reply : Reply) (new : Hosted D)
+    (events : List Event) (old : Hosted D) (reply : Reply SourceFault) (new : Hosted D)
     → Life device registered events (UnderHost old) → Handles device budget request old reply new
     → LivesOnce device registered budget request events reply new
-lives_once device registered budget request events old (Answered end seq) new life handled =
-    (Acknowledged budget request end seq ∷ [], Replied events budget request old end seq new life handled, refl)
+lives_once device registered budget request events old (Answered end seq happened) new life handled =
+    (Acknowledged budget request end seq happened ∷ [], Replied events budget request old end seq happened new life handled, refl)
 lives_once device registered budget request events old (Value word) new life handled =
     other_once device registered budget request events old (Value word) new life handled (λ no. no)
+lives_once device registered budget request events old (ShownAs shown) new life handled =
+    other_once device registered budget request events old (ShownAs shown) new life handled (λ no. no)
 lives_once device registered budget request events old (Number seq) new life handled =
     other_once device registered budget request events old (Number seq) new life handled (λ no. no)
 lives_once device registered budget request events old Done new life handled =
@@ -80,7 +87,7 @@ lives_once device registered budget request events old (Refused refusal) new lif
     other_once device registered budget request events old (Refused refusal) new life handled (λ no. no)
 
 pub lives_on : {D : Type 0} (device : Device D) (budget : ℕ) (old : Hosted D) (requests : List Request)
-    (replies : List Reply) (new : Hosted D) → HandlesAll device budget old requests replies new
+    (replies : List (Reply SourceFault)) (new : Hosted D) → HandlesAll device budget old requests replies new
     → LivesOn device budget old requests replies new
 lives_on {D} device budget old [] [] new all =
     λ registered events life. (

@@ -1,15 +1,28 @@
 -- A source that is too long is no module, and so is what begins it.
-use Rattle.std.proofs.Common.{◌≡◌, inl, inr, ◌<◌, ◌≤◌, ℕ, nat_lt, Bool, true, false, List, length, take, refl, sym, ap}
-use Rattle.std.proofs.Common.{◌∙◌, subst, arith, Option, Some, None, Err}
+use Rattle.std.proofs.Common.{◌≡◌, inl, inr, ◌<◌, ◌≤◌, ℕ, nat_lt, Bool, true, false, not, List, [], length, take, refl}
+use Rattle.std.proofs.Common.{sym}
+use Rattle.std.proofs.Common.{ap, ◌∙◌, subst, arith, Option, Some, None, Result, Err, is_some, option_map}
 use Rattle.std.proofs.lemmas.Bool.Decides.{nat_tests}
 use Rattle.std.proofs.lemmas.Grind.{common_steps}
 use Rattle.ash_disk.specs.Device.{Device}
-use Rattle.ash_meaning.specs.State.{State, Load, Reply}
-use Rattle.ash_meaning.specs.Step.{Demand, TakesMemory, task_of, unless_refused}
-use Rattle.ash_meaning.specs.Refusals as refusals
-use Rattle.ash_meaning.specs.Reading.{read_source}
-use Rattle.ash_meaning.proofs.ReadingLaws.{read_source-long}
-use Rattle.ash_durable.specs.Hosting.{Hosted, Commits, Replies, Handles}
+use Rattle.ash_lex.specs.declared.faults.LexFault.TheVariants.{SourceTooLong}
+use Rattle.ash_registry.specs.Registrations.{Registration}
+use Rattle.ash_typed.specs.Modules.{Module}
+use Rattle.ash_steps.specs.States.{State, find_module}
+use Rattle.ash_steps.specs.Requests.{Load, Reply, BadName, ModuleTaken, TooManyModules}
+use Rattle.ash_steps.specs.Tasks.{TaskResult, numbered, require, initialize, is_module_name, max_modules}
+use Rattle.ash_steps.specs.Steps.{unless_refused}
+use Rattle.ash_plain_steps.specs.TaskViews.{TakesMemoryToFind}
+use Rattle.ash_plain_steps.specs.StepViews.{IsChange}
+use Rattle.ash_meaning.specs.SourceFaults.{SourceFault, Lexical}
+use Rattle.ash_meaning.specs.SourceFaults as sources
+use Rattle.ash_meaning.specs.TypedSource.{TypedResult, typed_if_checked, typed_source}
+use Rattle.ash_meaning.specs.Sources.{admitted_as}
+use Rattle.ash_meaning.specs.declared.sources.AdmittedScripts.TheVariants.{UsingNothingRegistered}
+use Rattle.ash_meaning.proofs.CheckedSourceLaws.{of_no_tokens}
+use Rattle.ash_states.specs.States.{HostState, embedding_for}
+use Rattle.ash_states.specs.Steps.{task_of, step, outcome_of, no_hosts}
+use Rattle.ash_durable.specs.Hosting.{Hosted, Replies, Handles}
 
 take-all : (n : ℕ) (xs : List ℕ) → length xs ≤ n → take n xs ≡ xs
 take-all n xs h = grind (arith, common_steps)
@@ -17,33 +30,63 @@ take-all n xs h = grind (arith, common_steps)
 length-most : (n : ℕ) (xs : List ℕ) → n ≤ length xs → length (take n xs) ≡ n
 length-most n xs h = grind (arith, common_steps)
 
-long-task : (name prefix source : List ℕ) (state : State)
-    → read_source state.registered prefix ≡ Err refusals.SourceTooLong
-    → read_source state.registered source ≡ Err refusals.SourceTooLong
-    → task_of (Load name prefix) state ≡ task_of (Load name source) state
-long-task name prefix source state e f = rw (e, f) refl
+-- a source that is too long is read as none
 
-by-length : (name source : List ℕ) (state : State) (t : Bool) → nat_lt 65536 (length source) ≡ t
+typed_long : (registered : List Registration) (source : List ℕ) → 65536 < length source
+    → typed_source registered source ≡ Err (Lexical SourceTooLong)
+unfolding typed_source
+typed_long registered source long =
+    ap (typed_if_checked registered) (of_no_tokens registered source SourceTooLong long)
+
+read_long : (registered : List Registration) (source : List ℕ) → 65536 < length source
+    → (embedding_for registered).read source ≡ Err (Lexical SourceTooLong)
+read_long registered source long =
+    ap (λ (typed : TypedResult). admitted_as UsingNothingRegistered typed (typed_source [] source))
+    (typed_long registered source long)
+
+-- what a load asks for, by what its source is read as
+abbrev load_task : List ℕ → List ℕ → State → Result Module SourceFault → TaskResult SourceFault
+load_task name source s reading =
+    numbered s (require (is_module_name name) BadName
+    (require (not (is_some (find_module name s))) ModuleTaken
+    (require (nat_lt (length s.modules) max_modules) TooManyModules (initialize name source reading))))
+
+long_task : (name prefix source : List ℕ) (state : HostState) → 65536 < length prefix → 65536 < length source
+    → task_of (Load name prefix) state ≡ task_of (Load name source) state
+long_task name prefix source state prefix_long source_long =
+    let one : load_task name prefix state.state ((embedding_for state.registered).read prefix)
+    ≡ load_task name prefix state.state (Err (Lexical SourceTooLong)) =
+    ap (load_task name prefix state.state) (read_long state.registered prefix prefix_long) in
+    let other : load_task name source state.state ((embedding_for state.registered).read source)
+    ≡ load_task name source state.state (Err (Lexical SourceTooLong)) =
+    ap (load_task name source state.state) (read_long state.registered source source_long) in
+    one ∙ sym other
+
+by-length : (name source : List ℕ) (state : HostState) (t : Bool) → nat_lt 65536 (length source) ≡ t
     → task_of (Load name (take 65537 source)) state ≡ task_of (Load name source) state
 by-length name source state true e =
     let l : 65536 < length source = grind (arith, nat_tests, e) in
     let m = length-most 65537 source (omega arith) in
-    long-task name (take 65537 source) source state
-    (read_source-long state.registered (take 65537 source) (omega (arith, m)))
-    (read_source-long state.registered source l)
+    long_task name (take 65537 source) source state (omega (arith, m)) l
 by-length name source state false e =
     let l : length source ≤ 65536 = grind (arith, nat_tests, e) in
     ap (λ (x : List ℕ). task_of (Load name x) state) (take-all 65537 source (omega arith))
 
 -- a load of the first 65,537 bytes asks for what a load of the source does
-pub task_of_prefix : (name prefix source : List ℕ) (state : State) → prefix ≡ take 65537 source
+pub task_of_prefix : (name prefix source : List ℕ) (state : HostState) → prefix ≡ take 65537 source
     → task_of (Load name prefix) state ≡ task_of (Load name source) state
 task_of_prefix name prefix source state e = ap (λ (x : List ℕ). task_of (Load name x) state) e
     ∙ by-length name source state (nat_lt 65536 (length source)) refl
 
-replies_of_prefix : {D : Type 0} (device : Device D) (budget : ℕ) (name prefix source : List ℕ) (state : Option State)
-    (old : Hosted D) (reply : Reply) (new : Hosted D) → prefix ≡ take 65537 source
-    → Replies device budget (Load name prefix) state old reply new
+step_of_prefix : (budget : ℕ) (name prefix source : List ℕ) (state : HostState) → prefix ≡ take 65537 source
+    → step budget (Load name source) state ≡ step budget (Load name prefix) state
+step_of_prefix budget name prefix source state e =
+    ap (λ (result : TaskResult SourceFault). option_map (outcome_of state.registered)
+    (unless_refused budget result state.state no_hosts)) (sym (task_of_prefix name prefix source state e))
+
+replies_of_prefix : {D : Type 0} (device : Device D) (budget : ℕ) (name prefix source : List ℕ)
+    (state : Option HostState) (old : Hosted D) (reply : Reply SourceFault) (new : Hosted D)
+    → prefix ≡ take 65537 source → Replies device budget (Load name prefix) state old reply new
     → Replies device budget (Load name source) state old reply new
 replies_of_prefix device budget name prefix source None old reply new e h = h
 replies_of_prefix device budget name prefix source (Some state) old reply new e (inl h) =
@@ -51,8 +94,7 @@ replies_of_prefix device budget name prefix source (Some state) old reply new e 
       between = h.between;
       room = h.room;
       after = h.after;
-      stepped = ap (λ (d : Demand). unless_refused budget d state) (sym (task_of_prefix name prefix source state e))
-          ∙ h.stepped;
+      stepped = step_of_prefix budget name prefix source state e ∙ h.stepped;
       running = h.running;
       added = h.added;
       untouched = h.untouched;
@@ -62,7 +104,9 @@ replies_of_prefix device budget name prefix source (Some state) old reply new e 
     inr (inl (record {
       room = out.room;
       ran_out = record {
-        takes = subst TakesMemory (task_of_prefix name prefix source state e) out.ran_out.takes;
+        takes = tt;
+        finds = subst (TakesMemoryToFind sources.TakesMemoryToFind) (task_of_prefix name prefix source state e)
+            out.ran_out.finds;
         reply_is = out.ran_out.reply_is;
         unchanged = out.ran_out.unchanged;
       };
@@ -73,21 +117,30 @@ replies_of_prefix device budget name prefix source (Some state) old reply new e 
     inr (inr (inl (record {
       between = lost.between;
       room = lost.room;
-      commits = subst Commits (task_of_prefix name prefix source state e) lost.commits;
+      changes = subst IsChange (task_of_prefix name prefix source state e) lost.changes;
       answer = lost.answer;
       after = lost.after;
-      stepped = ap (λ (d : Demand). unless_refused budget d state) (sym (task_of_prefix name prefix source state e))
-          ∙ lost.stepped;
+      stepped = step_of_prefix budget name prefix source state e ∙ lost.stepped;
       lost = lost.lost;
       stopped = lost.stopped;
       settles = lost.settles;
     })))
-replies_of_prefix device budget name prefix source (Some state) old reply new e (inr (inr (inr none))) =
-    inr (inr (inr (record { wanted = none.wanted; refused = none.refused; settles = none.settles })))
+replies_of_prefix device budget name prefix source (Some state) old reply new e (inr (inr (inr (inl lost)))) =
+    inr (inr (inr (inl (record {
+      between = lost.between;
+      room = lost.room;
+      changes = subst IsChange (task_of_prefix name prefix source state e) lost.changes;
+      reply_is = lost.reply_is;
+      journal_same = lost.journal_same;
+      stopped = lost.stopped;
+      settles = lost.settles;
+    }))))
+replies_of_prefix device budget name prefix source (Some state) old reply new e (inr (inr (inr (inr none)))) =
+    inr (inr (inr (inr (record { wanted = none.wanted; refused = none.refused; settles = none.settles }))))
 
 -- and so does a host
 pub handles_prefix : {D : Type 0} (device : Device D) (budget : ℕ) (name prefix source : List ℕ) (old : Hosted D)
-    (reply : Reply) (new : Hosted D) → prefix ≡ take 65537 source
+    (reply : Reply SourceFault) (new : Hosted D) → prefix ≡ take 65537 source
     → Handles device budget (Load name prefix) old reply new → Handles device budget (Load name source) old reply new
 handles_prefix device budget name prefix source old reply new e h = record {
   replies = replies_of_prefix device budget name prefix source old.state old reply new e h.replies;

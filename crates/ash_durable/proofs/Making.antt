@@ -17,9 +17,10 @@ use Rattle.ash_journal.specs.Writes.{AreUnused, WasUnused}
 use Rattle.ash_journal.proofs.LayoutLaws.{open_closed}
 use Rattle.ash_journal.proofs.ReadLaws.{rested_read}
 use Rattle.ash_journal.proofs.SettleLaws.{settle_more}
-use Rattle.ash_meaning.specs.State.{State}
+use Rattle.ash_states.specs.States.{HostState}
 use Rattle.ash_durable.specs.Faults.{creating_fault}
-use Rattle.ash_durable.specs.States.{AreHonest, IsImageOf, IsOne, IsStateOf, HaveState}
+use Rattle.ash_states.specs.Images.{IsImageOf}
+use Rattle.ash_durable.specs.States.{AreHonest, IsOne, IsStateOf, HaveState}
 use Rattle.ash_durable.specs.Store.{IsFailed, HandsBack, WereOnlyRead, AreClosed, MakesOrNot, WasMade, NotMadeFor}
 use Rattle.ash_durable.specs.Store.{WasNotMade}
 use Rattle.ash_durable.specs.declared.fault.StoreFault.{StoreFault}
@@ -87,7 +88,8 @@ module _ {D : Type 0} (device : Device D) where
   }
 
   -- disks that were only read have no file open where they have rested
-  pub read_makes : (state : State) (a b a' b' : D) → WereOnlyRead device a b a' b' → MakesOrNot device state a b a' b'
+  pub read_makes : (state : HostState) (a b a' b' : D) → WereOnlyRead device a b a' b'
+      → MakesOrNot device state a b a' b'
   read_makes state a b a' b' read p q honest rested_a rested_b s t x y from_p to_a from_q to_b left_x left_y =
       let one = rested_read device p a a' honest.honest_first read.read_first rested_a in
       let two = rested_read device q b b' honest.honest_second read.read_second rested_b in
@@ -97,7 +99,7 @@ module _ {D : Type 0} (device : Device D) where
       )
 
   -- and then a journal was created, or it was not
-  module _ (state : State) (image : List ℕ) (depicts : IsImageOf image state) (a b one two : D)
+  module _ (state : HostState) (image : List ℕ) (depicts : IsImageOf image state) (a b one two : D)
       (read : WereOnlyRead device a b one two) (back : HandsBack device ⊥ a b one two)
       (closed : AreHonest device a b → AreClosed device a b) where
     creates : (a' b' : D) → ((p q : ℕ) → IsTrue (device.honest one) → IsTrue (device.honest two)

@@ -2,7 +2,7 @@
 use Rattle.std.proofs.Common.{◌≡◌, inl, inr, ℕ, List, Err, subst}
 use Rattle.ash_journal.specs.Current.{Contents, Represent}
 use Rattle.ash_journal.proofs.SettleLaws.{represent_once}
-use Rattle.ash_meaning.specs.State.{State}
+use Rattle.ash_states.specs.States.{HostState}
 use Rattle.ash_registry.specs.Registrations.{Registration}
 use Rattle.ash_durable.specs.Contents.{ReadsAs}
 use Rattle.ash_durable.specs.States.{IsStateOf}
@@ -13,14 +13,16 @@ use Rattle.ash_durable.proofs.Faultless.{represent_open, represent_sound, repres
 use Rattle.ash_durable.proofs.Reading.{only_memory}
 
 -- contents of a state that were read as a fault, where the files represent others
-misread : (registered : List Registration) (state : State) (contents other : Contents) (fault : StoreFault) (x y : List ℕ)
+misread : (registered : List Registration) (state : HostState) (contents other : Contents) (fault : StoreFault)
+    (x y : List ℕ)
     → state.registered ≡ registered → Represent contents x y → IsStateOf state contents → Represent other x y
     → ReadsAs registered other (Err fault) → fault ≡ faults.NoMemory
 misread registered state contents other fault x y with_it is is_state other_is reads =
     only_memory registered contents state fault with_it is_state
     (subst (λ (c : Contents). ReadsAs registered c (Err fault)) (represent_once other contents x y other_is is) reads)
 
-pub only_mishaps : (registered : List Registration) (state : State) (contents : Contents) (fault : StoreFault) (x y : List ℕ)
+pub only_mishaps : (registered : List Registration) (state : HostState) (contents : Contents) (fault : StoreFault)
+    (x y : List ℕ)
     → state.registered ≡ registered → Represent contents x y → IsStateOf state contents
     → StoreFaultIs registered fault x y → IsMishap fault
 only_mishaps registered state contents faults.NoMemory x y with_it is is_state cause = tt

@@ -5,7 +5,7 @@ use Rattle.ash_disk.specs.Device.{Device}
 use Rattle.ash_journal.specs.declared.journal.Journal.{Journal}
 use Rattle.ash_journal.specs.Current.{Contents, Represent}
 use Rattle.ash_journal.specs.Journal.{first_disk, second_disk}
-use Rattle.ash_meaning.specs.State.{State, empty}
+use Rattle.ash_states.specs.States.{HostState, empty}
 use Rattle.ash_registry.specs.Registrations.{Registration}
 use Rattle.ash_durable.specs.Hosting.{Hosted, first, second, IsRunning}
 use Rattle.ash_durable.specs.States.{AreHonest, HoldsState, IsOne, IsEither}
@@ -15,7 +15,7 @@ use Rattle.ash_durable.proofs.Mishaps.{only_mishaps}
 use Rattle.ash_durable.proofs.Settling.{settle_on_more, settled_state, holds_now}
 
 -- a host runs in one state
-pub runs_once : {D : Type 0} (host : Hosted D) (s t : State) → IsRunning s host → IsRunning t host → s ≡ t
+pub runs_once : {D : Type 0} (host : Hosted D) (s t : HostState) → IsRunning s host → IsRunning t host → s ≡ t
 runs_once host s t one other = let same : Some s ≡ Some t = sym one.state_is ∙ other.state_is in cc
 
 -- disks are as honest as those that were handed over
@@ -33,13 +33,13 @@ created device registered a b host running made = record {
   running = running;
   made = made;
   saved = λ honest state runs.
-      subst (λ (s : State). HoldsState device s host.journal) (runs_once host (empty registered) state running runs)
+      subst (λ (s : HostState). HoldsState device s host.journal) (runs_once host (empty registered) state running runs)
       (made.holds (honest_before device ⊥ a b (first host) (second host) made.disks honest));
 }
 
 module _ {D : Type 0} (device : Device D) (stays : (disk : D) → IsTrue (device.honest disk)
     → device.leaves disk (device.clock disk) (device.seen disk)) where
-  pub opened : (registered : List Registration) (a b : D) (state : State) (host : Hosted D) → IsRunning state host
+  pub opened : (registered : List Registration) (a b : D) (state : HostState) (host : Hosted D) → IsRunning state host
       → WasFound device registered a b state host.journal → WasOpened device registered a b host
   opened registered a b state host running found = record {
     state = state;
@@ -51,17 +51,18 @@ module _ {D : Type 0} (device : Device D) (stays : (disk : D) → IsTrue (device
         (device.seen b) (stays a honest.honest_first) (stays b honest.honest_second)
         settle holds.represented holds.is_state
         (λ u either. elim either [
-          | inl is ↦ ap (λ (q : State). q.registered) is ∙ s_with ∙ sym found.registered_is
-          | inr is ↦ ap (λ (q : State). q.registered) is ∙ t_with ∙ sym found.registered_is
+          | inl is ↦ ap (λ (q : HostState). q.registered) is ∙ s_with ∙ sym found.registered_is
+          | inr is ↦ ap (λ (q : HostState). q.registered) is ∙ t_with ∙ sym found.registered_is
         ]);
     saved = λ honest still other runs.
         let holds = found.holds honest in
-        subst (λ (s : State). HoldsState device s host.journal) (runs_once host state other running runs)
+        subst (λ (s : HostState). HoldsState device s host.journal) (runs_once host state other running runs)
         (record { contents = holds.contents; holds = holds.holds; is_state = holds.is_state });
   }
 
   -- the files of a journal that holds contents represent them as they read
-  held : (state : State) (journal : Journal D) (honest : AreHonest device (first_disk journal) (second_disk journal))
+  held : (state : HostState) (journal : Journal D)
+      (honest : AreHonest device (first_disk journal) (second_disk journal))
       (holds : HoldsState device state journal)
       → Represent holds.contents (device.seen (first_disk journal)) (device.seen (second_disk journal))
   held state journal honest holds =
@@ -84,7 +85,7 @@ module _ {D : Type 0} (device : Device D) (stays : (disk : D) → IsTrue (device
         (holds_now device state host.journal (saved honest state runs)) (λ s is. inl is) in
         let same : opens.state ≡ state = elim (opens.same state state honest with_it with_it now)
         [ inl is ↦ is | inr is ↦ is ] in
-        (subst (λ (s : State). IsRunning s new) same opens.running, opens.saved honest),
+        (subst (λ (s : HostState). IsRunning s new) same opens.running, opens.saved honest),
   )
   opens_again host (Err refused) opens = λ state honest runs saved.
       let holds = saved honest state runs in

@@ -1,24 +1,26 @@
 -- Reading the state of an image and records, step by step.
-use Rattle.std.proofs.Common.{◌≡◌, ◌⊎◌, inl, inr, ℕ, ◌+◌, ◌<◌, ◌∙◌, List, [], ◌∷◌, length, drop, get_or, Result, Ok}
-use Rattle.std.proofs.Common.{Err, refl, sym, ap, subst}
+use Rattle.std.proofs.Common.{◌≡◌, ◌⊎◌, ◌↔◌, inl, inr, ℕ, ◌+◌, ◌<◌, ◌∙◌, Bool, false, IsTrue, List, [], ◌∷◌, length}
+use Rattle.std.proofs.Common.{drop, get_or, Option, Some, None, option_map, Result, Ok, Err, refl, sym, ap, subst}
 use Rattle.std.specs.Prelude.{IfOk}
 use Rattle.std.specs.List.{AllByRecursion}
 use Rattle.std.proofs.lemmas.List.{drop_more}
-use Rattle.ash_image.specs.Image.{Snapshot, Depicts, IsBody}
-use Rattle.ash_image.proofs.ImageLaws.{depicts_once}
-use Rattle.ash_image.proofs.BodyLaws.{body_once}
 use Rattle.ash_journal.specs.declared.record.Record.{Record}
 use Rattle.ash_journal.specs.Current.{Contents}
 use Rattle.ash_journal.specs.Reading.{AreAt, bodies_of}
-use Rattle.ash_meaning.specs.StoredModules.{Admits}
-use Rattle.ash_meaning.specs.State.{State}
 use Rattle.ash_registry.specs.Registrations.{Registration}
 use Rattle.ash_registry.specs.Text.{text_of}
-use Rattle.ash_durable.specs.States.{IsImageOf, LeadAll, IsStateOf, snapshot_of}
+use Rattle.ash_state_image.specs.declared.stored.StoredImage.{StoredImage}
+use Rattle.ash_state_image.specs.declared.version.Version.{Version}
+use Rattle.ash_state_image.specs.Snapshots.{Snapshot}
+use Rattle.ash_state_image.specs.Rules.{IsImage, IsBody, IsShaped}
+use Rattle.ash_state_image.specs.Views.{image_read}
+use Rattle.ash_states.specs.States.{HostState}
+use Rattle.ash_states.specs.Images.{IsDepicted, IsImageOf, IsBodyOf, IsRestored, state_of}
+use Rattle.ash_durable.specs.States.{Leads, LeadAll, IsStateOf}
 use Rattle.ash_durable.specs.Contents.{IsImageWith, IsBodyWith, AreShaped, IsAdmittedImage, IsAdmittedBody}
-use Rattle.ash_durable.specs.Contents.{FirstWithout, after_image, IsMisshapen, IsNotAdmitted, ReadsAs}
-use Rattle.ash_durable.specs.Contents.{ReportsDamage, FirstRecordWithout, stored_state, Restores, LeadsOn, LeadsThrough}
-use Rattle.ash_durable.proofs.ContentsStates.{lead_all_registered}
+use Rattle.ash_durable.specs.Contents.{IsNoImage, FirstWithout, after_image, IsMisshapen, IsNotAdmitted, ReadsAs}
+use Rattle.ash_durable.specs.Contents.{ReportsDamage, FirstRecordWithout, Restores, LeadsOn, LeadsThrough}
+use Rattle.ash_durable.proofs.ContentsStates.{image_once, body_once, lead_all_registered}
 use Rattle.ash_durable.specs.declared.fault.StoreFault.{StoreFault}
 use Rattle.ash_durable.specs.declared.fault.StoreFault.TheVariants as faults
 
@@ -53,58 +55,85 @@ first_at P offset at (r ∷ records) placed first = elim first [
 
 -- ---- states that were stored
 
--- a state is the one that was stored as its snapshot
-stored_once : (registered : List Registration) (s : Snapshot) (state : State) → state.registered ≡ registered
-    → snapshot_of state ≡ s → state ≡ stored_state registered s
-stored_once registered s state same is =
-    let under : List Registration → State = λ r. record { registered = r; modules = state.modules; seq = state.seq } in
-    ap under same ∙ ap (stored_state registered) is
+-- what an image is of has a shape
+pub image_shaped : (image : List ℕ) (version : Version) (s : Snapshot) → IsImage image version s → IsShaped s
+image_shaped image version s is = (version, is.0.0, is.1)
 
--- what was stored with the text of what is registered is the snapshot of its state
-snapshot_again : (registered : List Registration) (s : Snapshot) → s.registered ≡ text_of registered
-    → s ≡ snapshot_of (stored_state registered s)
-snapshot_again registered s text =
-    let with_text : List ℕ → Snapshot = λ t. record { registered = t; modules = s.modules; seq = s.seq } in
-    ap with_text text
+none_is_some : {A : Type 0} (x : A) → None ≡ Some x → ⊥
+none_is_some x is = cc
 
-admits_image : (registered : List Registration) (image : List ℕ) (s : Snapshot) → Depicts image s
-    → IsAdmittedImage registered image → Admits (stored_state registered s)
-admits_image registered image s depicts stored =
-    subst Admits (stored_once registered s stored.0 stored.1
-    (depicts_once image (snapshot_of stored.0) s stored.2.depicts depicts)) stored.2.admitted
+-- bytes of which no image is read are the image of nothing
+pub reads_nothing : (image : List ℕ) (found : Option StoredImage) → found ≡ None
+    → ((version : Version) (s : Snapshot) → IsImage image version s → option_map image_read found ≡ Some (version, s))
+    → IsNoImage image
+reads_nothing image (Some stored) is only = absurd (cc)
+reads_nothing image None is only = λ version s image_is.
+    none_is_some {A = Version × Snapshot} (version, s) (only version s image_is)
 
-admits_body : (registered : List Registration) (body : List ℕ) (s : Snapshot) → IsBody body s → IsAdmittedBody registered body
-    → Admits (stored_state registered s)
-admits_body registered body s is_body stored =
-    subst Admits (stored_once registered s stored.0 stored.1 (body_once body (snapshot_of stored.0) s stored.2 is_body))
-    stored.3
+-- bytes have a text of what was registered by the body that is read of them
+pub has_body : (text body : List ℕ) (version : Version) (s : Snapshot) (has_it : Bool) → IsBody body version s
+    → IsTrue has_it ↔ (s.registered ≡ text) → IsTrue has_it ↔ IsBodyWith text body
+has_body text body version s has_it is same = (
+  λ yes. (version, s, is, same.0 yes),
+  λ with. same.1 (ap (λ (t : Snapshot). t.registered) (body_once body version with.0 s with.1 is with.2) ∙ with.3),
+)
+
+-- bytes of which no body is read have none
+pub no_body_with : (text body : List ℕ) (found : Option StoredImage) → found ≡ None
+    → ((version : Version) (s : Snapshot) → IsBody body version s → option_map image_read found ≡ Some (version, s))
+    → IsTrue false ↔ IsBodyWith text body
+no_body_with text body (Some stored) is only = absurd (cc)
+no_body_with text body None is only = (
+  λ no. absurd (cc),
+  λ with. absurd (none_is_some {A = Version × Snapshot} (with.0, with.1) (only with.0 with.1 with.2)),
+)
+
+-- what was restored of a snapshot is the state that the snapshot is of
+depicted : (registered : List Registration) (s : Snapshot) (state : HostState) → s.registered ≡ text_of registered
+    → IsRestored registered s (Some state) → IsDepicted s state
+depicted registered s state text restored = record {
+  text_is = text ∙ ap text_of (sym restored.0);
+  no_services = restored.2;
+  state_is = restored.1;
+  admitted = restored.3;
+}
+
+-- a snapshot of which nothing is restored is of no state with this registered
+undepicted : (registered : List Registration) (s t : Snapshot) (state : HostState) → IsRestored registered s None
+    → t ≡ s → state.registered ≡ registered → IsDepicted t state → ⊥
+undepicted registered s t state none same with_it is =
+    none state with_it (subst (λ (x : Snapshot). state_of x ≡ state.state) same is.state_is)
+    (subst (λ (x : Snapshot). x.services ≡ []) same is.no_services) is.admitted
+
+no_image : (registered : List Registration) (image : List ℕ) (version : Version) (s : Snapshot)
+    → IsImage image version s → IsRestored registered s None → IsAdmittedImage registered image → ⊥
+no_image registered image version s is none (state, with_it, (other, (t, is_too, depicts))) =
+    undepicted registered s t state none (image_once image other version t s is_too is) with_it depicts
+
+no_body : (registered : List Registration) (body : List ℕ) (version : Version) (s : Snapshot)
+    → IsBody body version s → IsRestored registered s None → IsAdmittedBody registered body → ⊥
+no_body registered body version s is none (state, with_it, (image, body_is, (other, (t, is_too, depicts)))) =
+    undepicted registered s t state none
+    (body_once body other version t s (image, body_is, is_too) is) with_it depicts
 
 -- an image is that of the state which was restored
-pub image_restored : (registered : List Registration) (image : List ℕ) (s : Snapshot) (offset : ℕ) (state : State)
-    → Depicts image s → s.registered ≡ text_of registered → Restores registered s offset (Ok state)
-    → (state.registered ≡ registered) × IsImageOf image state
-image_restored registered image s offset state depicts text restore = (
-  ap (λ (x : State). x.registered) restore.0,
-  record {
-    depicts = subst (λ (x : State). Depicts image (snapshot_of x)) (sym restore.0)
-        (subst (Depicts image) (snapshot_again registered s text) depicts);
-    admitted = restore.1;
-  },
-)
+pub image_restored : (registered : List Registration) (image : List ℕ) (version : Version) (s : Snapshot) (offset : ℕ)
+    (state : HostState) → IsImage image version s → s.registered ≡ text_of registered
+    → Restores registered s offset (Ok state) → (state.registered ≡ registered) × IsImageOf image state
+image_restored registered image version s offset state is text restore =
+    (restore.0, (version, (s, is, depicted registered s state text restore)))
 
 -- a record leads to the state that was restored of it
-pub leads_on : (registered : List Registration) (body : List ℕ) (s : Snapshot) (gate : ℕ) (result : Result State StoreFault)
-    → IsBody body s → s.registered ≡ text_of registered → Restores registered s gate result
-    → LeadsOn registered body gate result
-leads_on registered body s gate (Ok state) is_body text restore = (
-  ap (λ (x : State). x.registered) restore.0,
-  subst (λ (x : State). IsBody body (snapshot_of x)) (sym restore.0)
-      (subst (IsBody body) (snapshot_again registered s text) is_body),
-  restore.1,
+pub leads_on : (registered : List Registration) (body : List ℕ) (version : Version) (s : Snapshot) (gate : ℕ)
+    (result : Result HostState StoreFault) → IsBody body version s → s.registered ≡ text_of registered
+    → Restores registered s gate result → LeadsOn registered body gate result
+leads_on registered body version s gate (Ok state) is text restore = (
+  restore.0,
+  (is.0, is.1, (version, (s, is.2, depicted registered s state text restore))),
 )
-leads_on registered body s gate (Err fault) is_body text restore =
+leads_on registered body version s gate (Err fault) is text restore =
     damage_is _ (λ at. (IsAdmittedBody registered body → ⊥) × (at ≡ gate))
-    (λ at not. (λ stored. not.0 (admits_body registered body s is_body stored), not.1)) fault restore
+    (λ at not. (no_body registered body version s is not.0, not.1)) fault restore
 
 -- ---- from record to record
 
@@ -114,22 +143,22 @@ pub left_from : (records : List Record) (i : ℕ) (r : Record) → i < length re
 left_from records i r within is = drop_more records i r within ∙ ap (λ (x : Record). x ∷ drop (i + 1) records) (sym is)
 
 -- a record leads to a state, and those after it on from there
-pub through_more : (before next : State) (r : Record) (records : List Record) (result : Result State StoreFault)
+pub through_more : (before next : HostState) (r : Record) (records : List Record) (result : Result HostState StoreFault)
     → LeadsOn before.registered r.body.items r.gate (Ok next) → LeadsThrough next records result
     → LeadsThrough before (r ∷ records) result
 through_more before next r records (Ok after) on through =
-    (next, record { registered = on.0; is_body = on.1; admitted = on.2 }, through)
+    (next, record { registered = on.0; is_body = on.1 }, through)
 through_more before next r records (Err fault) on through =
     damage_is _ (FirstRecordWithout (IsAdmittedBody before.registered) (r ∷ records))
     (λ at later. inr (
-      (next, on.0, on.1, on.2),
+      (next, on.0, on.1),
       subst (λ (of : List Registration). FirstRecordWithout (IsAdmittedBody of) records at) on.0 later,
     ))
     fault through
 
 -- what is registered is the same after records that were read as before
-pub through_registered : (registered : List Registration) (before : State) (records : List Record)
-    (result : Result State StoreFault) → before.registered ≡ registered → LeadsThrough before records result
+pub through_registered : (registered : List Registration) (before : HostState) (records : List Record)
+    (result : Result HostState StoreFault) → before.registered ≡ registered → LeadsThrough before records result
     → IfOk result (λ after. after.registered ≡ registered)
 through_registered registered before records (Ok after) same through =
     lead_all_registered (bodies_of records) before after through ∙ same
@@ -138,7 +167,8 @@ through_registered registered before records (Err fault) same through = tt
 -- ---- all of it
 
 -- the image has this text of what was registered, and a record is none with that text
-pub reads_misshapen : (registered : List Registration) (text image : List ℕ) (records : List Record) (fault : StoreFault)
+pub reads_misshapen : (registered : List Registration) (text image : List ℕ) (records : List Record)
+    (fault : StoreFault)
     → IsImageWith text image → AreAt (after_image image) records
     → ReportsDamage (FirstRecordWithout (IsBodyWith text) records) fault
     → ReadsAs registered (image, bodies_of records) (Err fault)
@@ -147,18 +177,19 @@ reads_misshapen registered text image records fault is_image placed reported =
     (λ at without. inl (inr (text, is_image, first_at (IsBodyWith text) (after_image image) at records placed without)))
     reported
 
--- a host with this registered may not keep the state of the image
-pub reads_unadmitted : (registered : List Registration) (image : List ℕ) (s : Snapshot) (bodies : List (List ℕ))
-    (fault : StoreFault) → Depicts image s → AreShaped (text_of registered) (image, bodies)
-    → Restores registered s 0 (Err fault) → ReadsAs registered (image, bodies) (Err fault)
-reads_unadmitted registered image s bodies fault depicts shaped reported =
-    reads_damage (λ at. (Admits (stored_state registered s) → ⊥) × (at ≡ 0)) registered (image, bodies) fault
-    (λ at not. inr (shaped, inl (λ stored. not.0 (admits_image registered image s depicts stored), not.1)))
+-- a host with this registered may not be in the state of the image
+pub reads_unadmitted : (registered : List Registration) (image : List ℕ) (version : Version) (s : Snapshot)
+    (bodies : List (List ℕ)) (fault : StoreFault) → IsImage image version s
+    → AreShaped (text_of registered) (image, bodies) → Restores registered s 0 (Err fault)
+    → ReadsAs registered (image, bodies) (Err fault)
+reads_unadmitted registered image version s bodies fault is shaped reported =
+    reads_damage (λ at. IsRestored registered s None × (at ≡ 0)) registered (image, bodies) fault
+    (λ at not. inr (shaped, inl (no_image registered image version s is not.0, not.1)))
     reported
 
 -- the state to which records lead from that of the image
-pub reads_through : (registered : List Registration) (image : List ℕ) (records : List Record) (first : State)
-    (result : Result State StoreFault) → AreShaped (text_of registered) (image, bodies_of records)
+pub reads_through : (registered : List Registration) (image : List ℕ) (records : List Record) (first : HostState)
+    (result : Result HostState StoreFault) → AreShaped (text_of registered) (image, bodies_of records)
     → first.registered ≡ registered → IsImageOf image first → AreAt (after_image image) records
     → LeadsThrough first records result → ReadsAs registered (image, bodies_of records) result
 reads_through registered image records first (Ok after) shaped same is_image placed through =
@@ -188,37 +219,45 @@ none_without P offset at (body ∷ bodies) all without = elim without [
   | inr later ↦ none_without P (offset + 5 + length body) at bodies all.1 later.1
 ]
 
--- records that lead from a state have the text of what is registered in it
-led_shaped : (bodies : List (List ℕ)) (before after : State) → LeadAll bodies before after
+-- a record that leads from a state has the text of what is registered in it
+body_with : (body : List ℕ) (before after : HostState) → Leads body before after
+    → IsBodyWith (text_of before.registered) body
+body_with body before after leads =
+    let is = leads.is_body in
+    (is.2.0, is.2.1.0, (is.0, is.1, is.2.1.1), is.2.1.2.text_is ∙ ap text_of leads.registered)
+
+-- and so have records, one after the other
+led_shaped : (bodies : List (List ℕ)) (before after : HostState) → LeadAll bodies before after
     → AllByRecursion (IsBodyWith (text_of before.registered)) bodies
 led_shaped [] before after led = tt
 led_shaped (body ∷ bodies) before after led = (
-  (snapshot_of led.0, led.1.is_body, ap text_of led.1.registered),
+  body_with body before led.0 led.1,
   subst (λ (of : List Registration). AllByRecursion (IsBodyWith (text_of of)) bodies) led.1.registered
       (led_shaped bodies led.0 after led.2),
 )
 
--- they lead to states that a host with the same registered may keep
-led_stored : (bodies : List (List ℕ)) (before after : State) → LeadAll bodies before after
+-- they lead to states that a host with the same registered may be in
+led_stored : (bodies : List (List ℕ)) (before after : HostState) → LeadAll bodies before after
     → AllByRecursion (IsAdmittedBody before.registered) bodies
 led_stored [] before after led = tt
 led_stored (body ∷ bodies) before after led = (
-  (led.0, led.1.registered, led.1.is_body, led.1.admitted),
+  (led.0, led.1.registered, led.1.is_body),
   subst (λ (of : List Registration). AllByRecursion (IsAdmittedBody of) bodies) led.1.registered
       (led_stored bodies led.0 after led.2),
 )
 
 -- an image of a state has one text of what was registered
-text_once : (text image : List ℕ) (state : State) → IsImageOf image state → IsImageWith text image
+text_once : (text image : List ℕ) (state : HostState) → IsImageOf image state → IsImageWith text image
     → text ≡ text_of state.registered
-text_once text image state is_image with =
-    sym with.2 ∙ ap (λ (s : Snapshot). s.registered)
-    (depicts_once image with.0 (snapshot_of state) with.1 is_image.depicts)
+text_once text image state is with =
+    sym with.3 ∙ ap (λ (s : Snapshot). s.registered) (image_once image with.0 is.0 with.1 is.1.0 with.2 is.1.1)
+    ∙ is.1.2.text_is
 
 -- contents of a state are not misshapen
-not_misshapen : (contents : Contents) (state : State) (at : ℕ) → IsStateOf state contents → IsMisshapen contents at → ⊥
+not_misshapen : (contents : Contents) (state : HostState) (at : ℕ) → IsStateOf state contents → IsMisshapen contents at
+    → ⊥
 not_misshapen contents state at is_state misshapen = elim misshapen [
-  | inl none ↦ none.0 (snapshot_of is_state.first) is_state.image.depicts
+  | inl none ↦ none.0 is_state.image.0 is_state.image.1.0 is_state.image.1.1
   | inr some ↦
       none_without (IsBodyWith (text_of is_state.first.registered)) (after_image contents.0) at contents.1
       (led_shaped contents.1 is_state.first state is_state.records)
@@ -226,8 +265,8 @@ not_misshapen contents state at is_state misshapen = elim misshapen [
       (text_once some.0 contents.0 is_state.first is_state.image some.1) some.2)
 ]
 
--- the host that has the state may keep each state on the way to it
-all_admitted : (contents : Contents) (state : State) (at : ℕ) → IsStateOf state contents
+-- the host that has the state may be in each state on the way to it
+all_admitted : (contents : Contents) (state : HostState) (at : ℕ) → IsStateOf state contents
     → IsNotAdmitted state.registered contents at → ⊥
 all_admitted contents state at is_state not_admitted = elim not_admitted.1 [
   | inl image ↦ image.0 (is_state.first, is_state.registered, is_state.image)
@@ -239,7 +278,7 @@ all_admitted contents state at is_state not_admitted = elim not_admitted.1 [
 ]
 
 -- Where contents are of a state of a host with this registered, out of memory is the one fault that they are read as.
-pub only_memory : (registered : List Registration) (contents : Contents) (state : State) (fault : StoreFault)
+pub only_memory : (registered : List Registration) (contents : Contents) (state : HostState) (fault : StoreFault)
     → state.registered ≡ registered → IsStateOf state contents → ReadsAs registered contents (Err fault)
     → fault ≡ faults.NoMemory
 only_memory registered contents state (faults.Damaged at) same is_state reads = elim reads [

@@ -1,12 +1,11 @@
 -- What a request of a host comes to, and which events lead to which states.
-use Rattle.std.proofs.Common.{◌≡◌, ◌⊎◌, inl, inr, ℕ, List, [], ◌∷◌, ◌++◌, Option, Some, None, Ok, Err, refl}
-use Rattle.std.proofs.Common.{sym, ◌∙◌, ap, subst}
+use Rattle.std.proofs.Common.{◌≡◌, ◌⊎◌, inl, inr, ℕ, List, [], ◌∷◌, ◌++◌, Option, Some, None, refl, sym, ◌∙◌, ap, subst}
 use Rattle.ash_disk.specs.Device.{Device}
 use Rattle.ash_journal.specs.declared.journal.Journal.{Journal}
-use Rattle.ash_meaning.specs.Refusals as refusals
-use Rattle.ash_meaning.specs.State.{State, Request, Seq, Reply, Answered, Refused}
-use Rattle.ash_meaning.specs.Step.{Demand, Initialize, Run, Remove, Read, Count, Rewrite, Steps, task_of}
-use Rattle.ash_meaning.specs.Step.{unless_refused}
+use Rattle.ash_steps.specs.Requests.{Request, Seq, Reply, Answered, Refused, DeviceFailed, NoMemory, GenerationSpent}
+use Rattle.ash_meaning.specs.SourceFaults.{SourceFault}
+use Rattle.ash_states.specs.States.{HostState}
+use Rattle.ash_states.specs.Steps.{Steps}
 use Rattle.ash_durable.specs.Hosting.{Hosted, first, second, IsRunning, IsSaved, IsHonest, IsAnswer, InstallRefused}
 use Rattle.ash_durable.specs.Hosting.{WasLost, Replies, reply_stopped, Handles}
 use Rattle.ash_durable.specs.Running.{IsFailure}
@@ -14,45 +13,26 @@ use Rattle.ash_durable.specs.States.{SettleSince, IsEither}
 use Rattle.ash_durable.specs.Lives.{Event, Acknowledged, InDoubt, Found, Takes, LeadTo, LeadBy}
 use Rattle.ash_durable.proofs.Answering.{steps-registered}
 
--- ---- steps
-
--- a step that is not an answer leaves the state
-leaves_by : (budget : ℕ) (demand : Demand) (old new : State) (reply : Reply)
-    → unless_refused budget demand old ≡ (reply, new) → (IsAnswer reply → ⊥) → new ≡ old
-leaves_by budget (Err refusal) old new reply is not = sym (ap (λ (x : Reply × State). x.1) is)
-leaves_by budget (Ok (Initialize name source tree)) old new reply is not =
-    absurd (not (subst IsAnswer (ap (λ (x : Reply × State). x.0) is) tt))
-leaves_by budget (Ok (Run loaded function words)) old new reply is not =
-    absurd (not (subst IsAnswer (ap (λ (x : Reply × State). x.0) is) tt))
-leaves_by budget (Ok (Remove name)) old new reply is not =
-    absurd (not (subst IsAnswer (ap (λ (x : Reply × State). x.0) is) tt))
-leaves_by budget (Ok (Read word)) old new reply is not = sym (ap (λ (x : Reply × State). x.1) is)
-leaves_by budget (Ok Count) old new reply is not = sym (ap (λ (x : Reply × State). x.1) is)
-leaves_by budget (Ok Rewrite) old new reply is not = sym (ap (λ (x : Reply × State). x.1) is)
-
-pub leaves : (budget : ℕ) (request : Request) (old new : State) (reply : Reply) → Steps budget request old reply new
-    → (IsAnswer reply → ⊥) → new ≡ old
-leaves budget request old new reply (inl stepped) not = leaves_by budget (task_of request old) old new reply stepped not
-leaves budget request old new reply (inr out) not = out.unchanged
+-- ---- events
 
 -- no event changes what is registered
-take_registered : (event : Event) (before after : State) → Takes event before after
+take_registered : (event : Event) (before after : HostState) → Takes event before after
     → after.registered ≡ before.registered
-take_registered (Acknowledged budget request end seq) before after steps =
-    steps-registered budget request before after (Answered end seq) steps
-take_registered (InDoubt budget request) before after (inl same) = ap (λ (s : State). s.registered) same
+take_registered (Acknowledged budget request end seq happened) before after steps =
+    steps-registered budget request before after (Answered end seq happened) steps
+take_registered (InDoubt budget request) before after (inl same) = ap (λ (s : HostState). s.registered) same
 take_registered (InDoubt budget request) before after (inr some) =
     steps-registered budget request before after some.0 some.1
-take_registered (Found state) before after found = ap (λ (s : State). s.registered) (found.1 ∙ sym found.0)
+take_registered (Found state) before after found = ap (λ (s : HostState). s.registered) (found.1 ∙ sym found.0)
 
-pub lead_registered : (events : List Event) (start state : State) → LeadTo events start state
+pub lead_registered : (events : List Event) (start state : HostState) → LeadTo events start state
     → state.registered ≡ start.registered
-lead_registered [] start state led = ap (λ (s : State). s.registered) led
+lead_registered [] start state led = ap (λ (s : HostState). s.registered) led
 lead_registered (event ∷ earlier) start state led = take_registered event led.0 state led.2
     ∙ lead_registered earlier start led.0 led.1
 
 -- events lead by way of each of them
-pub lead_by : (later : List Event) (event : Event) (earlier : List Event) (start state : State)
+pub lead_by : (later : List Event) (event : Event) (earlier : List Event) (start state : HostState)
     → LeadTo (later ++ event ∷ earlier) start state → LeadBy later event earlier start state
 lead_by [] event earlier start state led =
     record { before = led.0; after = state; led = led.1; stepped = led.2; leads_on = refl }
@@ -70,7 +50,8 @@ lead_by (newest ∷ later) event earlier start state led =
 
 -- What becomes of a host that ran in a state, by what came of a request: it runs in the state that the request led to;
 -- it is as it was; or it has stopped.
-abbrev pub Ending : {D : Type 0} → ℕ → Request → State → State → Hosted D → Reply → Hosted D → Type 0
+abbrev pub Ending : {D : Type 0} → ℕ → Request → HostState → HostState → Hosted D → Reply SourceFault → Hosted D
+    → Type 0
 Ending budget request state after old reply new =
     (IsRunning after new × Steps budget request state reply after)
     ⊎ (((IsAnswer reply → ⊥) × (new ≡ old))
@@ -78,29 +59,32 @@ Ending budget request state after old reply new =
 
 -- What a request of a host comes to that ran in a state: a state that it may lead to, on which or on the one before it
 -- the files settled at every moment.
-pub record Outcome {D : Type 0} (device : Device D) (budget : ℕ) (request : Request) (state : State) (old : Hosted D)
-    (reply : Reply) (new : Hosted D) : Type 0 where
-  pub after : State
+pub record Outcome {D : Type 0} (device : Device D) (budget : ℕ) (request : Request) (state : HostState)
+    (old : Hosted D)
+    (reply : Reply SourceFault) (new : Hosted D) : Type 0 where
+  pub after : HostState
   pub may : Takes (InDoubt budget request) state after
   pub moments : IsHonest device old → IsSaved device old
       → SettleSince device (device.clock (first old)) (device.clock (second old)) (first new) (second new)
       (IsEither state after)
   pub ending : Ending budget request state after old reply new
 
-was_lost : {D : Type 0} (old : Journal D) (reply : Reply) (new : Journal D) → WasLost old reply new → IsFailure reply
-was_lost old (Refused refusals.DeviceFailed) new lost = tt
-was_lost old (Refused refusals.NoMemory) new lost = tt
+was_lost : {D : Type 0} (old : Journal D) (reply : Reply SourceFault) (new : Journal D) → WasLost old reply new
+    → IsFailure reply
+was_lost old (Refused DeviceFailed) new lost = tt
+was_lost old (Refused NoMemory) new lost = tt
 was_lost old _ new lost = absurd lost
 
-not_installed : {D : Type 0} (budget : ℕ) (request : Request) (state : State) (old : Hosted D) (reply : Reply)
+not_installed : {D : Type 0} (budget : ℕ) (request : Request) (state : HostState) (old : Hosted D)
+    (reply : Reply SourceFault)
     (new : Hosted D) → InstallRefused old reply new → Ending budget request state state old reply new
-not_installed budget request state old (Refused refusals.GenerationSpent) new refused = inr (inl (λ no. no, refused.1))
-not_installed budget request state old (Refused refusals.NoMemory) new refused = inr (inl (λ no. no, refused.1))
-not_installed budget request state old (Refused refusals.DeviceFailed) new refused = inr (inr (refused.1.stopped, tt))
+not_installed budget request state old (Refused GenerationSpent) new refused = inr (inl (λ no. no, refused.1))
+not_installed budget request state old (Refused NoMemory) new refused = inr (inl (λ no. no, refused.1))
+not_installed budget request state old (Refused DeviceFailed) new refused = inr (inr (refused.1.stopped, tt))
 not_installed budget request state old _ new refused = absurd refused
 
-outcome_of : {D : Type 0} (device : Device D) (budget : ℕ) (request : Request) (state : State) (old : Hosted D)
-    (reply : Reply) (new : Hosted D) → Replies device budget request (Some state) old reply new
+outcome_of : {D : Type 0} (device : Device D) (budget : ℕ) (request : Request) (state : HostState) (old : Hosted D)
+    (reply : Reply SourceFault) (new : Hosted D) → Replies device budget request (Some state) old reply new
     → Outcome device budget request state old reply new
 outcome_of device budget request state old reply new (inl stepped) = record {
   after = stepped.after;
@@ -120,7 +104,13 @@ outcome_of device budget request state old reply new (inr (inr (inl lost))) = re
   moments = lost.settles;
   ending = inr (inr (lost.stopped.stopped, was_lost lost.between.journal reply new.journal lost.lost));
 }
-outcome_of device budget request state old reply new (inr (inr (inr none))) = record {
+outcome_of device budget request state old reply new (inr (inr (inr (inl lost)))) = record {
+  after = state;
+  may = inl refl;
+  moments = lost.settles;
+  ending = inr (inr (lost.stopped.stopped, subst IsFailure (sym lost.reply_is) tt));
+}
+outcome_of device budget request state old reply new (inr (inr (inr (inr none)))) = record {
   after = state;
   may = inl refl;
   moments = none.settles;
@@ -128,24 +118,24 @@ outcome_of device budget request state old reply new (inr (inr (inr none))) = re
 }
 
 -- a request comes to nothing where the host had to be reopened, else to a state
-abbrev pub HandledOrStopped : {D : Type 0} → Device D → ℕ → Request → Hosted D → Reply → Hosted D → Type 0
+abbrev pub HandledOrStopped : {D : Type 0} → Device D → ℕ → Request → Hosted D → Reply SourceFault → Hosted D → Type 0
 HandledOrStopped device budget request old reply new =
     ((old.state ≡ None) × (reply ≡ reply_stopped request old.seq) × (new ≡ old))
-    ⊎ ((state : State) × (old.state ≡ Some state) × Outcome device budget request state old reply new)
+    ⊎ ((state : HostState) × (old.state ≡ Some state) × Outcome device budget request state old reply new)
 
 pub handled_or_stopped : {D : Type 0} (device : Device D) (budget : ℕ) (request : Request) (old : Hosted D)
-    (reply : Reply) (new : Hosted D) → Handles device budget request old reply new
+    (reply : Reply SourceFault) (new : Hosted D) → Handles device budget request old reply new
     → HandledOrStopped device budget request old reply new
 handled_or_stopped {D} device budget request old reply new handled = from old.state refl
   where
-    from : (was : Option State) → old.state ≡ was → HandledOrStopped device budget request old reply new
+    from : (was : Option HostState) → old.state ≡ was → HandledOrStopped device budget request old reply new
     from None none =
         let replies : Replies device budget request None old reply new =
-        subst (λ (s : Option State). Replies device budget request s old reply new) none handled.replies in
+        subst (λ (s : Option HostState). Replies device budget request s old reply new) none handled.replies in
         inl (none, replies.0, replies.1)
     from (Some state) some =
         let replies : Replies device budget request (Some state) old reply new =
-        subst (λ (s : Option State). Replies device budget request s old reply new) some handled.replies in
+        subst (λ (s : Option HostState). Replies device budget request s old reply new) some handled.replies in
         inr (state, some, outcome_of device budget request state old reply new replies)
 
 pub stopped_answer : (request : Request) (seq : ℕ) → IsAnswer (reply_stopped request seq) → ⊥

@@ -2,51 +2,57 @@
 use Rattle.std.proofs.Common.{◌≡◌, ◌⊎◌, inl, inr, ℕ, List, [], ◌∷◌, Option, Some, None, refl, sym, ap, ◌∙◌, subst}
 use Rattle.ash_disk.specs.Device.{Device}
 use Rattle.ash_journal.specs.declared.journal.Journal.{Journal}
-use Rattle.ash_meaning.specs.Refusals.{Refusal}
-use Rattle.ash_meaning.specs.Refusals as refusals
-use Rattle.ash_meaning.specs.State.{State, Request, Global, Seq, Reply, Refused}
-use Rattle.ash_meaning.specs.Step.{task_of}
-use Rattle.ash_durable.specs.Hosting.{Hosted, IsRunning, Commits, WantsInstall, InstallRefused, WasLost, HasStopped}
+use Rattle.ash_steps.specs.Requests.{Request, Get, Object, Seq, Refusal, Reply, Refused, DeviceFailed, NoMemory}
+use Rattle.ash_steps.specs.Requests.{GenerationSpent}
+use Rattle.ash_plain_steps.specs.StepViews.{IsChange}
+use Rattle.ash_meaning.specs.SourceFaults.{SourceFault}
+use Rattle.ash_states.specs.States.{HostState}
+use Rattle.ash_states.specs.Steps.{task_of}
+use Rattle.ash_durable.specs.Hosting.{Hosted, IsRunning, WantsInstall, InstallRefused, WasLost, HasStopped}
 use Rattle.ash_durable.specs.Hosting.{Replies, HandlesAll, reply_stopped}
 use Rattle.ash_durable.specs.Running.{MayInstall, HostSteps, replies_until_reopened, IsFailure, RunsThrough}
 use Rattle.ash_durable.specs.Running.{RunsUntilFailure, RunsToFailure}
 
-is_failure : {D : Type 0} (old : Journal D) (reply : Reply) (new : Journal D) → WasLost old reply new → IsFailure reply
-is_failure old (Refused refusals.DeviceFailed) new lost = tt
-is_failure old (Refused refusals.NoMemory) new lost = tt
+is_failure : {D : Type 0} (old : Journal D) (reply : Reply SourceFault) (new : Journal D) → WasLost old reply new
+    → IsFailure reply
+is_failure old (Refused DeviceFailed) new lost = tt
+is_failure old (Refused NoMemory) new lost = tt
 is_failure old _ new lost = absurd lost
 
 wants_may : {D : Type 0} (request : Request) (host : Hosted D) → WantsInstall request host → MayInstall request
-wants_may (Global module_name name) host wants = wants
+wants_may (Get module_name name) host wants = wants
+wants_may (Object number) host wants = wants
 wants_may Seq host wants = wants
 wants_may _ host wants = tt
 
 -- a host that must be reopened
 while_stopped : {D : Type 0} (device : Device D) (budget : ℕ) (old : Hosted D) (requests : List Request)
-    (replies : List Reply) (new : Hosted D) → old.state ≡ None → HandlesAll device budget old requests replies new
+    (replies : List (Reply SourceFault)) (new : Hosted D) → old.state ≡ None
+    → HandlesAll device budget old requests replies new
     → (replies ≡ replies_until_reopened requests old.seq) × (new ≡ old)
 while_stopped device budget old [] [] new none all = (refl, all)
 while_stopped {D} device budget old (request ∷ requests) (reply ∷ replies) new none all =
     let one : (reply ≡ reply_stopped request old.seq) × (all.0 ≡ old) =
-    subst (λ (state : Option State). Replies device budget request state old reply all.0) none all.1.replies in
+    subst (λ (state : Option HostState). Replies device budget request state old reply all.0) none all.1.replies in
     let more = while_stopped device budget all.0 requests replies new
     (ap (λ (host : Hosted D). host.state) one.1 ∙ none) all.2 in
     let rest : replies ≡ replies_until_reopened requests old.seq = more.0
     ∙ ap (λ (host : Hosted D). replies_until_reopened requests host.seq) one.1 in (
-      ap (λ (first : Reply). first ∷ replies) one.0
-          ∙ ap (λ (later : List Reply). reply_stopped request old.seq ∷ later) rest,
+      ap (λ (first : Reply SourceFault). first ∷ replies) one.0
+          ∙ ap (λ (later : List (Reply SourceFault)). reply_stopped request old.seq ∷ later) rest,
       more.1 ∙ one.1,
     )
 while_stopped device budget old [] (reply ∷ replies) new none all = absurd all
 while_stopped device budget old (request ∷ requests) [] new none all = absurd all
 
 -- what a host that runs did
-abbrev Ran : {D : Type 0} → ℕ → State → List Request → List Reply → Hosted D → Type 0
+abbrev Ran : {D : Type 0} → ℕ → HostState → List Request → List (Reply SourceFault) → Hosted D → Type 0
 Ran budget state requests replies new = RunsThrough budget state requests replies new
     ⊎ RunsUntilFailure budget state requests replies new
 
-one_step : {D : Type 0} (budget : ℕ) (request : Request) (reply : Reply) (state next : State) (requests : List Request)
-    (replies : List Reply) (new : Hosted D) → HostSteps budget request state reply next
+one_step : {D : Type 0} (budget : ℕ) (request : Request) (reply : Reply SourceFault) (state next : HostState)
+    (requests : List Request)
+    (replies : List (Reply SourceFault)) (new : Hosted D) → HostSteps budget request state reply next
     → Ran budget next requests replies new → Ran budget state (request ∷ requests) (reply ∷ replies) new
 one_step budget request reply state next requests replies new step (inl through) = inl (record {
   last = through.last;
@@ -61,7 +67,7 @@ one_step budget request reply state next requests replies new step (inr until) =
   failure = until.failure;
   last = until.last;
   requests_are = ap (λ (more : List Request). request ∷ more) until.requests_are;
-  replies_are = ap (λ (more : List Reply). reply ∷ more) until.replies_are;
+  replies_are = ap (λ (more : List (Reply SourceFault)). reply ∷ more) until.replies_are;
   run = (next, step, until.run);
   cause = until.cause;
   is_failure = until.is_failure;
@@ -70,15 +76,17 @@ one_step budget request reply state next requests replies new step (inr until) =
 })
 
 -- a request after which the host must be reopened
-failed_first : {D : Type 0} (device : Device D) (budget : ℕ) (request : Request) (reply : Reply) (state : State)
-    (old next : Hosted D) (requests : List Request) (replies : List Reply) (new : Hosted D) → IsRunning state old
-    → HasStopped old next → Commits (task_of request state)
-    ⊎ (MayInstall request × (reply ≡ Refused refusals.DeviceFailed)) → IsFailure reply
+failed_first : {D : Type 0} (device : Device D) (budget : ℕ) (request : Request) (reply : Reply SourceFault)
+    (state : HostState)
+    (old next : Hosted D) (requests : List Request) (replies : List (Reply SourceFault)) (new : Hosted D)
+    → IsRunning state old
+    → HasStopped old next → IsChange (task_of request state)
+    ⊎ (MayInstall request × (reply ≡ Refused DeviceFailed)) → IsFailure reply
     → HandlesAll device budget next requests replies new
     → RunsUntilFailure budget state (request ∷ requests) (reply ∷ replies) new
 failed_first {D} device budget request reply state old next requests replies new runs stops cause failure all =
     let after = while_stopped device budget next requests replies new stops.stopped all in
-    let seq : next.seq ≡ state.seq = stops.seq_same ∙ runs.seq_is in
+    let seq : next.seq ≡ state.state.seq = stops.seq_same ∙ runs.seq_is in
     record {
       before = [];
       failed = request;
@@ -87,7 +95,7 @@ failed_first {D} device budget request reply state old next requests replies new
       failure = reply;
       last = state;
       requests_are = refl;
-      replies_are = ap (λ (more : List Reply). reply ∷ more)
+      replies_are = ap (λ (more : List (Reply SourceFault)). reply ∷ more)
           (after.0 ∙ ap (λ (n : ℕ). replies_until_reopened requests n) seq);
       run = refl;
       cause = cause;
@@ -97,30 +105,34 @@ failed_first {D} device budget request reply state old next requests replies new
     }
 
 -- a request for which there was no room, by what it was refused with
-put_off_for : {D : Type 0} (device : Device D) (budget : ℕ) (request : Request) (refusal : Refusal) (state : State)
-    (old next : Hosted D) (requests : List Request) (replies : List Reply) (new : Hosted D) → IsRunning state old
+put_off_for : {D : Type 0} (device : Device D) (budget : ℕ) (request : Request) (refusal : Refusal SourceFault)
+    (state : HostState)
+    (old next : Hosted D) (requests : List Request) (replies : List (Reply SourceFault)) (new : Hosted D)
+    → IsRunning state old
     → MayInstall request → InstallRefused old (Refused refusal) next
     → HandlesAll device budget next requests replies new
     → (IsRunning state next → Ran budget state requests replies new)
     → Ran budget state (request ∷ requests) (Refused refusal ∷ replies) new
-put_off_for {D} device budget request refusals.GenerationSpent state old next requests replies new runs may refused all
+put_off_for {D} device budget request GenerationSpent state old next requests replies new runs may refused all
     goes_on =
-    one_step budget request (Refused refusals.GenerationSpent) state state requests replies new
+    one_step budget request (Refused GenerationSpent) state state requests replies new
     (inr (record { may_install = may; reply_is = inl refl; unchanged = refl }))
     (goes_on (subst (λ (host : Hosted D). IsRunning state host) (sym refused.1) runs))
-put_off_for {D} device budget request refusals.NoMemory state old next requests replies new runs may refused all
+put_off_for {D} device budget request NoMemory state old next requests replies new runs may refused all
     goes_on =
-    one_step budget request (Refused refusals.NoMemory) state state requests replies new
+    one_step budget request (Refused NoMemory) state state requests replies new
     (inr (record { may_install = may; reply_is = inr refl; unchanged = refl }))
     (goes_on (subst (λ (host : Hosted D). IsRunning state host) (sym refused.1) runs))
-put_off_for device budget request refusals.DeviceFailed state old next requests replies new runs may refused all
+put_off_for device budget request DeviceFailed state old next requests replies new runs may refused all
     goes_on =
-    inr (failed_first device budget request (Refused refusals.DeviceFailed)
+    inr (failed_first device budget request (Refused DeviceFailed)
     state old next requests replies new runs refused.1 (inr (may, refl)) tt all)
 put_off_for device budget request _ state old next requests replies new runs may refused all goes_on = absurd refused
 
-put_off : {D : Type 0} (device : Device D) (budget : ℕ) (request : Request) (reply : Reply) (state : State)
-    (old next : Hosted D) (requests : List Request) (replies : List Reply) (new : Hosted D) → IsRunning state old
+put_off : {D : Type 0} (device : Device D) (budget : ℕ) (request : Request) (reply : Reply SourceFault)
+    (state : HostState)
+    (old next : Hosted D) (requests : List Request) (replies : List (Reply SourceFault)) (new : Hosted D)
+    → IsRunning state old
     → MayInstall request → InstallRefused old reply next → HandlesAll device budget next requests replies new
     → (IsRunning state next → Ran budget state requests replies new)
     → Ran budget state (request ∷ requests) (reply ∷ replies) new
@@ -128,8 +140,10 @@ put_off device budget request (Refused refusal) state old next requests replies 
     put_off_for device budget request refusal state old next requests replies new runs may refused all goes_on
 put_off device budget request _ state old next requests replies new runs may refused all goes_on = absurd refused
 
-while_running : {D : Type 0} (device : Device D) (budget : ℕ) (state : State) (old : Hosted D) (requests : List Request)
-    (replies : List Reply) (new : Hosted D) → IsRunning state old → HandlesAll device budget old requests replies new
+while_running : {D : Type 0} (device : Device D) (budget : ℕ) (state : HostState) (old : Hosted D)
+    (requests : List Request)
+    (replies : List (Reply SourceFault)) (new : Hosted D) → IsRunning state old
+    → HandlesAll device budget old requests replies new
     → Ran budget state requests replies new
 while_running {D} device budget state old [] [] new runs all =
     inl (record {
@@ -140,15 +154,17 @@ while_running {D} device budget state old [] [] new runs all =
     })
 while_running device budget state old (request ∷ requests) (reply ∷ replies) new runs all =
     let one : Replies device budget request (Some state) old reply all.0 =
-    subst (λ (s : Option State). Replies device budget request s old reply all.0) runs.state_is all.1.replies in
+    subst (λ (s : Option HostState). Replies device budget request s old reply all.0) runs.state_is all.1.replies in
     elim one [
       | inl stepped ↦ one_step budget request reply state stepped.after requests replies new (inl (inl stepped.stepped))
           (while_running device budget stepped.after all.0 requests replies new stepped.running all.2)
       | inr (inl out) ↦ one_step budget request reply state state requests replies new (inl (inr out.ran_out))
           (while_running device budget state all.0 requests replies new out.running all.2)
       | inr (inr (inl lost)) ↦ inr (failed_first device budget request reply state old all.0 requests replies new runs
-          lost.stopped (inl lost.commits) (is_failure lost.between.journal reply all.0.journal lost.lost) all.2)
-      | inr (inr (inr none)) ↦ put_off device budget request reply state old all.0 requests replies new runs
+          lost.stopped (inl lost.changes) (is_failure lost.between.journal reply all.0.journal lost.lost) all.2)
+      | inr (inr (inr (inl lost))) ↦ inr (failed_first device budget request reply state old all.0 requests replies new
+          runs lost.stopped (inl lost.changes) (subst IsFailure (sym lost.reply_is) tt) all.2)
+      | inr (inr (inr (inr none))) ↦ put_off device budget request reply state old all.0 requests replies new runs
           (wants_may request old none.wanted) none.refused all.2
           (λ still. while_running device budget state all.0 requests replies new still all.2)
     ]
@@ -156,7 +172,7 @@ while_running device budget state old [] (reply ∷ replies) new runs all = absu
 while_running device budget state old (request ∷ requests) [] new runs all = absurd all
 
 pub runs_to_failure : {D : Type 0} (device : Device D) (budget : ℕ) (old : Hosted D) (requests : List Request)
-    (replies : List Reply) (new : Hosted D) → HandlesAll device budget old requests replies new
+    (replies : List (Reply SourceFault)) (new : Hosted D) → HandlesAll device budget old requests replies new
     → RunsToFailure budget old requests replies new
 runs_to_failure device budget old requests replies new all = record {
   running = λ state runs. while_running device budget state old requests replies new runs all;

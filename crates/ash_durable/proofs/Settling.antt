@@ -8,8 +8,9 @@ use Rattle.ash_journal.specs.Journal.{first_disk, second_disk}
 use Rattle.ash_journal.specs.Runs.{HoldsSince, Extends, NoContents}
 use Rattle.ash_journal.proofs.RunLaws.{run_extends, represented}
 use Rattle.ash_journal.proofs.SettleLaws.{Property, Implies, settle_more, further}
-use Rattle.ash_meaning.specs.State.{State}
-use Rattle.ash_durable.specs.States.{IsImageOf, Leads, IsStateOf, HaveState, IsOne, IsEither, SettleSince, SettleNow}
+use Rattle.ash_states.specs.States.{HostState}
+use Rattle.ash_states.specs.Images.{IsImageOf}
+use Rattle.ash_durable.specs.States.{Leads, IsStateOf, HaveState, IsOne, IsEither, SettleSince, SettleNow}
 use Rattle.ash_durable.specs.States.{HoldsState, GoesOn, BeginsAnew}
 use Rattle.ash_durable.proofs.ContentsStates.{state_of_one, state_of_alone, state_of_push}
 
@@ -33,13 +34,13 @@ module _ {D : Type 0} (device : Device D) where
   }
 
   -- and what files settle on
-  pub settle_on_more : (a b : ℕ) (first second : D) (P Q : State → Type 0) → SettleSince device a b first second P
-      → ((s : State) → P s → Q s) → SettleSince device a b first second Q
+  pub settle_on_more : (a b : ℕ) (first second : D) (P Q : HostState → Type 0) → SettleSince device a b first second P
+      → ((s : HostState) → P s → Q s) → SettleSince device a b first second Q
   settle_on_more a b first second P Q run more =
       run_more a b first second (HaveState P) (HaveState Q) run (λ contents one. (one.0, more one.0 one.1, one.2))
 
   -- what files settle on since two times, they settle on since later ones
-  pub settle_later : (a b c d : ℕ) (first second : D) (P : State → Type 0) → a ≤ c → b ≤ d → c ≤ device.clock first
+  pub settle_later : (a b c d : ℕ) (first second : D) (P : HostState → Type 0) → a ≤ c → b ≤ d → c ≤ device.clock first
       → d ≤ device.clock second → SettleSince device a b first second P → SettleSince device c d first second P
   settle_later a b c d first second P a_c b_d first_began second_began run = record {
     first_began = first_began;
@@ -49,14 +50,14 @@ module _ {D : Type 0} (device : Device D) where
   }
 
   -- and now
-  pub settle_now : (a b : ℕ) (first second : D) (P : State → Type 0) → SettleSince device a b first second P
+  pub settle_now : (a b : ℕ) (first second : D) (P : HostState → Type 0) → SettleSince device a b first second P
       → SettleNow device first second P
   settle_now a b first second P run =
       settle_later a b (device.clock first) (device.clock second) first second P run.first_began run.second_began
       (omega arith) (omega arith) run
 
   -- what files settle on, they settle on after calls that add no new contents
-  pub settle_still : (a b : ℕ) (first second first' second' : D) (P : State → Type 0)
+  pub settle_still : (a b : ℕ) (first second first' second' : D) (P : HostState → Type 0)
       → Extends device first second first' second' NoContents → SettleSince device a b first second P
       → SettleSince device a b first' second' P
   settle_still a b first second first' second' P call run =
@@ -65,7 +66,8 @@ module _ {D : Type 0} (device : Device D) where
       (λ contents one. elim one [ inl new ↦ absurd new | inr was ↦ was ])
 
   -- calls that add no new contents, after calls that add none
-  pub extends_on : (a b a' b' a'' b'' : D) → Extends device a b a' b' NoContents → Extends device a' b' a'' b'' NoContents
+  pub extends_on : (a b a' b' a'' b'' : D) → Extends device a b a' b' NoContents
+      → Extends device a' b' a'' b'' NoContents
       → Extends device a b a'' b'' NoContents
   extends_on a b a' b' a'' b'' one two = record {
     first_later = omega (arith, one.first_later, two.first_later);
@@ -89,16 +91,16 @@ module _ {D : Type 0} (device : Device D) where
   }
 
   -- files that settle on states with P, and represent a state as they read: it has P
-  pub settled_state : (a b : ℕ) (first second : D) (P : State → Type 0) (contents : Contents) (state : State)
+  pub settled_state : (a b : ℕ) (first second : D) (P : HostState → Type 0) (contents : Contents) (state : HostState)
       (x y : List ℕ) → device.leaves first (device.clock first) x → device.leaves second (device.clock second) y
       → SettleSince device a b first second P → Represent contents x y → IsStateOf state contents
-      → ((s : State) → P s → s.registered ≡ state.registered) → P state
+      → ((s : HostState) → P s → s.registered ≡ state.registered) → P state
   settled_state a b first second P contents state x y left_x left_y run is is_state alike =
       let one = represented device a b first second (HaveState P) contents x y left_x left_y run is in
       subst P (state_of_one one.0 state contents (alike one.0 one.1) one.2 is_state) one.1
 
   -- a journal that holds a state settles on it alone
-  pub holds_now : (state : State) (journal : Journal D) → HoldsState device state journal
+  pub holds_now : (state : HostState) (journal : Journal D) → HoldsState device state journal
       → SettleNow device (first_disk journal) (second_disk journal) (IsOne state)
   holds_now state journal holds =
       run_more (device.clock (first_disk journal)) (device.clock (second_disk journal)) (first_disk journal)
@@ -106,19 +108,20 @@ module _ {D : Type 0} (device : Device D) where
       (λ contents is. (state, refl, subst (IsStateOf state) (sym is) holds.is_state))
 
   -- a journal that was not touched goes on
-  pub still_goes_on : (before after : State) (journal : Journal D) → GoesOn device before after journal journal
+  pub still_goes_on : (before after : HostState) (journal : Journal D) → GoesOn device before after journal journal
   still_goes_on before after journal a b run =
       settle_on_more a b (first_disk journal) (second_disk journal) (IsOne before) (IsEither before after) run
       (λ s is. inl is)
 
   -- a record more, that leads from one state to the next, takes a journal from the one to the other
-  pub record_goes_on : (before after : State) (image body : List ℕ) (bodies : List (List ℕ)) (old new : Journal D)
+  pub record_goes_on : (before after : HostState) (image body : List ℕ) (bodies : List (List ℕ)) (old new : Journal D)
       → IsStateOf before (image, bodies) → Leads body before after
       → Extends device (first_disk old) (second_disk old) (first_disk new) (second_disk new)
       (IsContents (image, bodies ++ body ∷ [])) → GoesOn device before after old new
   record_goes_on before after image body bodies old new is_state leads call a b run =
       run_more a b (first_disk new) (second_disk new)
-      (HoldsOneOf (IsContents (image, bodies ++ body ∷ [])) (HaveState (IsOne before))) (HaveState (IsEither before after))
+      (HoldsOneOf (IsContents (image, bodies ++ body ∷ [])) (HaveState (IsOne before)))
+      (HaveState (IsEither before after))
       (run_extends device a b (first_disk old) (second_disk old) (first_disk new) (second_disk new)
       (HaveState (IsOne before)) (IsContents (image, bodies ++ body ∷ [])) run call)
       (λ contents one. elim one [
@@ -132,21 +135,22 @@ module _ {D : Type 0} (device : Device D) where
       ])
 
   -- what goes on from a journal that holds a state begins anew there
-  pub goes_on_anew : (before after : State) (old new : Journal D) → HoldsState device before old
+  pub goes_on_anew : (before after : HostState) (old new : Journal D) → HoldsState device before old
       → GoesOn device before after old new → BeginsAnew device before after old new
   goes_on_anew before after old new holds goes =
       goes (device.clock (first_disk old)) (device.clock (second_disk old)) (holds_now before old holds)
 
   -- a journal that was not touched begins anew
-  pub still_begins_anew : (before after : State) (journal : Journal D) → HoldsState device before journal
+  pub still_begins_anew : (before after : HostState) (journal : Journal D) → HoldsState device before journal
       → BeginsAnew device before after journal journal
   still_begins_anew before after journal holds =
       goes_on_anew before after journal journal holds (still_goes_on before after journal)
 
   -- an image of the state that the journal holds, in place of what it holds
-  pub image_begins_anew : (state : State) (image was : List ℕ) (bodies : List (List ℕ)) (old new : Journal D)
+  pub image_begins_anew : (state : HostState) (image was : List ℕ) (bodies : List (List ℕ)) (old new : Journal D)
       → IsStateOf state (was, bodies) → IsImageOf image state
-      → HoldsSince device (device.clock (first_disk old)) (device.clock (second_disk old)) (first_disk new) (second_disk new)
+      → HoldsSince device (device.clock (first_disk old)) (device.clock (second_disk old)) (first_disk new)
+      (second_disk new)
       (HoldsOneOf (IsContents (image, [])) (IsContents (was, bodies))) → BeginsAnew device state state old new
   image_begins_anew state image was bodies old new is_state depicts run =
       run_more (device.clock (first_disk old)) (device.clock (second_disk old)) (first_disk new) (second_disk new)
@@ -157,7 +161,8 @@ module _ {D : Type 0} (device : Device D) where
       ])
 
   -- a new generation of a state, and then calls that go on from there
-  pub anew_goes_on : (before after : State) (old between new : Journal D) → BeginsAnew device before before old between
+  pub anew_goes_on : (before after : HostState) (old between new : Journal D)
+      → BeginsAnew device before before old between
       → GoesOn device before after between new → BeginsAnew device before after old new
   anew_goes_on before after old between new anew goes =
       let a = device.clock (first_disk old) in
@@ -166,6 +171,6 @@ module _ {D : Type 0} (device : Device D) where
       anew (λ s either. elim either [ inl is ↦ is | inr is ↦ is ]))
 
   -- while a state was written into a journal anew, two states are one of them
-  pub anew_either : (before after : State) (old new : Journal D) → BeginsAnew device before before old new
+  pub anew_either : (before after : HostState) (old new : Journal D) → BeginsAnew device before before old new
       → BeginsAnew device before after old new
   anew_either before after old new anew = anew_goes_on before after old new new anew (still_goes_on before after new)

@@ -1,39 +1,45 @@
 -- Which state an image and records are read as, and what is wrong with those that are read as none.
-use Rattle.std.specs.Prelude.{◌≡◌, ◌⊎◌, ℕ, ◌+◌, List, [], ◌∷◌, length, Result, Ok, Err, MatchResult}
+use Rattle.std.specs.Prelude.{◌≡◌, ◌⊎◌, ℕ, ◌+◌, List, [], ◌∷◌, length, Some, None, Result, Ok, Err, MatchResult}
 use Rattle.std.specs.List.{AllByRecursion}
-use Rattle.ash_image.specs.declared.image.StoredState.{StoredState}
-use Rattle.ash_image.specs.Image.{Snapshot, Depicts, IsBody, snapshot_read}
 use Rattle.ash_journal.specs.declared.record.Record.{Record}
 use Rattle.ash_journal.specs.Current.{Contents}
 use Rattle.ash_journal.specs.Reading.{bodies_of}
-use Rattle.ash_meaning.specs.StoredModules.{Admits}
-use Rattle.ash_meaning.specs.State.{State}
 use Rattle.ash_registry.specs.Registrations.{Registration}
 use Rattle.ash_registry.specs.Text.{text_of}
-use Rattle.ash_durable.specs.States.{IsImageOf, LeadAll, IsStateOf, snapshot_of}
+use Rattle.ash_state_image.specs.declared.stored.StoredState.{StoredState}
+use Rattle.ash_state_image.specs.declared.version.Version.{Version}
+use Rattle.ash_state_image.specs.Snapshots.{Snapshot}
+use Rattle.ash_state_image.specs.Rules.{IsImage, IsBody}
+use Rattle.ash_state_image.specs.Views.{snapshot_of}
+use Rattle.ash_states.specs.States.{HostState}
+use Rattle.ash_states.specs.Images.{IsImageOf, IsBodyOf, IsRestored}
+use Rattle.ash_durable.specs.States.{LeadAll, IsStateOf}
 use Rattle.ash_durable.specs.declared.fault.StoreFault.{StoreFault}
 use Rattle.ash_durable.specs.declared.fault.StoreFault.TheVariants as faults
 
--- an image with this text of what was registered
+-- an image, in either version, with this text of what was registered
 abbrev pub IsImageWith : List ℕ → List ℕ → Type 0
-IsImageWith text image = (s : Snapshot) × Depicts image s × (s.registered ≡ text)
+IsImageWith text image = (version : Version) × (s : Snapshot) × IsImage image version s × (s.registered ≡ text)
 
--- the body of a record with this text of what was registered
+-- the body of a record, with an image in either version, that has this text of what was registered
 abbrev pub IsBodyWith : List ℕ → List ℕ → Type 0
-IsBodyWith text body = (s : Snapshot) × IsBody body s × (s.registered ≡ text)
+IsBodyWith text body = (version : Version) × (s : Snapshot) × IsBody body version s × (s.registered ≡ text)
+
+-- the image of nothing
+abbrev pub IsNoImage : List ℕ → Type 0
+IsNoImage image = (version : Version) (s : Snapshot) → IsImage image version s → ⊥
 
 -- an image and records, all with one text of what was registered
 abbrev pub AreShaped : List ℕ → Contents → Type 0
 AreShaped text contents = IsImageWith text contents.0 × AllByRecursion (IsBodyWith text) contents.1
 
--- the image of a state that a host with this registered may keep
+-- the image of a state that a host with this registered may be in
 abbrev pub IsAdmittedImage : List Registration → List ℕ → Type 0
-IsAdmittedImage registered image = (state : State) × (state.registered ≡ registered) × IsImageOf image state
+IsAdmittedImage registered image = (state : HostState) × (state.registered ≡ registered) × IsImageOf image state
 
--- the body of a record that leads to a state that a host with this registered may keep
+-- the body of a record that leads to a state that a host with this registered may be in
 abbrev pub IsAdmittedBody : List Registration → List ℕ → Type 0
-IsAdmittedBody registered body = (state : State) × (state.registered ≡ registered) × IsBody body (snapshot_of state)
-    × Admits state
+IsAdmittedBody registered body = (state : HostState) × (state.registered ≡ registered) × IsBodyOf body state
 
 -- the first of the records, of which the gate before the first is at an offset, whose body is not P: the gate
 -- before it is there
@@ -50,11 +56,11 @@ after_image image = 21 + length image
 -- that of the gate before it, and the image's is 0.
 abbrev pub IsMisshapen : Contents → ℕ → Type 0
 IsMisshapen contents at =
-    (((s : Snapshot) → Depicts contents.0 s → ⊥) × (at ≡ 0))
+    (IsNoImage contents.0 × (at ≡ 0))
     ⊎ ((text : List ℕ) × IsImageWith text contents.0
     × FirstWithout (IsBodyWith text) (after_image contents.0) contents.1 at)
 
--- All have their shape, and a host with this registered may not keep the state at an offset.
+-- All have their shape, and a host with this registered may not be in the state at an offset.
 abbrev pub IsNotAdmitted : List Registration → Contents → ℕ → Type 0
 IsNotAdmitted registered contents at =
     AreShaped (text_of registered) contents
@@ -68,7 +74,7 @@ AreOfOthers registered contents = (text : List ℕ) × AreShaped text contents �
 
 -- What contents are read as, with this registered: a state; or the first fault, all shapes before the text of what was
 -- registered, and this before sources and values.
-abbrev pub ReadsAs : List Registration → Contents → Result State StoreFault → Type 0
+abbrev pub ReadsAs : List Registration → Contents → Result HostState StoreFault → Type 0
 ReadsAs registered contents (Ok state) = (state.registered ≡ registered) × IsStateOf state contents
 ReadsAs registered contents (Err (faults.Damaged at)) = IsMisshapen contents at ⊎ IsNotAdmitted registered contents at
 ReadsAs registered contents (Err faults.OtherInterface) = AreOfOthers registered contents
@@ -83,11 +89,11 @@ ReportsDamage P (faults.Damaged at) = P at
 ReportsDamage P faults.NoMemory = Unit {0}
 ReportsDamage P _ = ⊥
 
--- an image is read as what it depicts, or it depicts nothing
+-- an image is read as what it is the image of, or it is the image of nothing
 abbrev pub ReadsImage : List ℕ → Result StoredState StoreFault → Type 0
 ReadsImage image result =
-    MatchResult result (λ stored. Depicts image (snapshot_read stored))
-    (ReportsDamage (λ at. ((s : Snapshot) → Depicts image s → ⊥) × (at ≡ 0)))
+    MatchResult result (λ stored. (version : Version) × IsImage image version (snapshot_of stored))
+    (ReportsDamage (λ at. IsNoImage image × (at ≡ 0)))
 
 -- the first of the records whose body is not P: the gate before it is at this offset
 abbrev pub FirstRecordWithout : (List ℕ → Type 0) → List Record → ℕ → Type 0
@@ -101,29 +107,24 @@ ChecksShapes text records result =
     MatchResult result (λ u. AllByRecursion (IsBodyWith text) (bodies_of records))
     (ReportsDamage (FirstRecordWithout (IsBodyWith text) records))
 
--- the state that was stored, in a host with this registered
-abbrev pub stored_state : List Registration → Snapshot → State
-stored_state registered s = record { registered = registered; modules = s.modules; seq = s.seq }
-
--- The state that was stored is one that a host with this registered may keep, and is given; or it is none, and damage
+-- The state that was stored is one that a host with this registered may be in, and is given; or it is none, and damage
 -- is reported at this offset.
-abbrev pub Restores : List Registration → Snapshot → ℕ → Result State StoreFault → Type 0
+abbrev pub Restores : List Registration → Snapshot → ℕ → Result HostState StoreFault → Type 0
 Restores registered s offset result =
-    MatchResult result
-    (λ state. (state ≡ stored_state registered s) × Admits state)
-    (ReportsDamage (λ at. (Admits (stored_state registered s) → ⊥) × (at ≡ offset)))
+    MatchResult result (λ state. IsRestored registered s (Some state))
+    (ReportsDamage (λ at. IsRestored registered s None × (at ≡ offset)))
 
--- A record leads to the given state, which a host with this registered may keep; or it leads to none, and damage is
+-- A record leads to the given state, which a host with this registered may be in; or it leads to none, and damage is
 -- reported at the offset of its gate.
-abbrev pub LeadsOn : List Registration → List ℕ → ℕ → Result State StoreFault → Type 0
+abbrev pub LeadsOn : List Registration → List ℕ → ℕ → Result HostState StoreFault → Type 0
 LeadsOn registered body gate result =
     MatchResult result
-    (λ state. (state.registered ≡ registered) × IsBody body (snapshot_of state) × Admits state)
+    (λ state. (state.registered ≡ registered) × IsBodyOf body state)
     (ReportsDamage (λ at. (IsAdmittedBody registered body → ⊥) × (at ≡ gate)))
 
 -- Records lead from a state to the given one; or the first of them is reported that leads to none which a host with the
--- same registered may keep.
-abbrev pub LeadsThrough : State → List Record → Result State StoreFault → Type 0
+-- same registered may be in.
+abbrev pub LeadsThrough : HostState → List Record → Result HostState StoreFault → Type 0
 LeadsThrough before records result =
     MatchResult result
     (λ after. LeadAll (bodies_of records) before after)

@@ -1,24 +1,26 @@
 -- A host over two disks, and what one request does to it.
-use Rattle.std.specs.Prelude.{◌≡◌, ◌⊎◌, ℕ, ◌+◌, ◌≤◌, ◌^◌, List, [], ◌∷◌, length, Option, Some, None, Ok}
+use Rattle.std.specs.Prelude.{◌≡◌, ◌⊎◌, ℕ, ◌+◌, ◌≤◌, ◌^◌, List, [], ◌∷◌, Option, Some, None, Ok, Err}
 use Rattle.ash_disk.specs.Device.{Device}
-use Rattle.ash_image.specs.Image.{body_of}
 use Rattle.ash_journal.specs.declared.journal.Journal.{Journal}
 use Rattle.ash_journal.specs.Failures.{CountsFailures}
 use Rattle.ash_journal.specs.Journal.{first_disk, second_disk, generation, record_bytes, IsReady}
 use Rattle.ash_registry.specs.Registrations.{Registration}
-use Rattle.ash_meaning.specs.Refusals.{Refusal as Cause, TakesMemoryToRefuse}
-use Rattle.ash_meaning.specs.Refusals as refusals
-use Rattle.ash_meaning.specs.State.{State, Request, Load, Call, Discard, Global, Seq, Snapshot, Reply, Answered, Number}
-use Rattle.ash_meaning.specs.State.{Refused}
-use Rattle.ash_meaning.specs.Step.{Demand, Initialize, Run, Remove, RanOut, task_of, first_refusal, step}
-use Rattle.ash_durable.specs.States.{AreHonest, HoldsState, BeginsAnew, snapshot_of}
-use Rattle.ash_durable.specs.Saving.{last_generation}
+use Rattle.ash_steps.specs.Requests.{Request, Load, Call, Discard, Get, Object, Seq, Snapshot, Refusal, Reply, Answered}
+use Rattle.ash_steps.specs.Requests.{Number, Refused, Reopen, DeviceFailed, NoMemory, GenerationSpent}
+use Rattle.ash_plain_steps.specs.TaskViews.{TakesMemoryToFind}
+use Rattle.ash_plain_steps.specs.StepViews.{IsChange}
+use Rattle.ash_meaning.specs.SourceFaults.{SourceFault}
+use Rattle.ash_meaning.specs.SourceFaults as sources
+use Rattle.ash_states.specs.States.{HostState}
+use Rattle.ash_states.specs.Steps.{RanOut, task_of, first_refusal, step}
+use Rattle.ash_durable.specs.States.{AreHonest, HoldsState, BeginsAnew}
+use Rattle.ash_durable.specs.Saving.{HasOneMore, last_generation}
 
 -- A host: what is registered; its state, or none where it must be reopened; the number after the last request that was
 -- answered; the journal that keeps its states on two disks.
 pub record Hosted (D : Type 0) : Type 0 where
   pub registered : List Registration
-  pub state : Option State
+  pub state : Option HostState
   pub seq : ℕ
   pub journal : Journal D
 
@@ -31,7 +33,7 @@ abbrev pub second : {D : Type 0} → Hosted D → D
 second host = second_disk host.journal
 
 -- the state of a host: none where it must be reopened, of which the number after the last answer is known
-abbrev pub state_unless : Option ℕ → State → Option State
+abbrev pub state_unless : Option ℕ → HostState → Option HostState
 state_unless None state = Some state
 state_unless (Some seq) state = None
 
@@ -41,10 +43,10 @@ IsReadyUnless None journal = IsReady journal
 IsReadyUnless (Some seq) journal = Unit {0}
 
 -- a host that runs, in this state, which has what is registered with the host
-pub record IsRunning {D : Type 0} (state : State) (host : Hosted D) : Type 0 where
+pub record IsRunning {D : Type 0} (state : HostState) (host : Hosted D) : Type 0 where
   pub registered_is : host.registered ≡ state.registered
   pub state_is : host.state ≡ Some state
-  pub seq_is : host.seq ≡ state.seq
+  pub seq_is : host.seq ≡ state.state.seq
 
 -- the disks of a host do what the disk model says
 abbrev pub IsHonest : {D : Type 0} → Device D → Hosted D → Type 0
@@ -52,12 +54,12 @@ IsHonest device host = AreHonest device (first host) (second host)
 
 -- Where a host runs on honest disks, its files hold its state, and settle on it alone, whatever a crash now does.
 abbrev pub IsSaved : {D : Type 0} → Device D → Hosted D → Type 0
-IsSaved device host = IsHonest device host → (state : State) → IsRunning state host
+IsSaved device host = IsHonest device host → (state : HostState) → IsRunning state host
     → HoldsState device state host.journal
 
 -- While a request was handled, at every moment since it began, what a crash may leave settled on one of two states,
 -- where the files held the first of them before.
-abbrev pub Settles : {D : Type 0} → Device D → State → State → Hosted D → Hosted D → Type 0
+abbrev pub Settles : {D : Type 0} → Device D → HostState → HostState → Hosted D → Hosted D → Type 0
 Settles device before after old new = IsHonest device old → IsSaved device old
     → BeginsAnew device before after old.journal new.journal
 
@@ -71,25 +73,33 @@ full_record_bytes = 2 ^ 24
 abbrev pub IsFull : {D : Type 0} → Hosted D → Type 0
 IsFull host = full_record_bytes ≤ record_bytes host.journal
 
+-- a request that may add a record
+abbrev pub MayAdd : Request → Type 0
+MayAdd (Load module_name source) = Unit {0}
+MayAdd (Call module_name function arguments) = Unit {0}
+MayAdd (Discard module_name) = Unit {0}
+MayAdd _ = ⊥
+
 -- A request before which the state is installed as a new generation: each snapshot, and where the records are long
 -- enough each request that may add one more.
 abbrev pub WantsInstall : {D : Type 0} → Request → Hosted D → Type 0
 WantsInstall Snapshot host = Unit {0}
-WantsInstall (Load name source) host = IsFull host
+WantsInstall (Load module_name source) host = IsFull host
 WantsInstall (Call module_name function arguments) host = IsFull host
-WantsInstall (Discard name) host = IsFull host
-WantsInstall (Global module_name name) host = ⊥
+WantsInstall (Discard module_name) host = IsFull host
+WantsInstall (Get module_name name) host = ⊥
+WantsInstall (Object number) host = ⊥
 WantsInstall Seq host = ⊥
 
 -- The state of a host became a new generation without records, and nothing else of the host has changed.
-pub record WasInstalled {D : Type 0} (device : Device D) (state : State) (old new : Hosted D) : Type 0 where
+pub record WasInstalled {D : Type 0} (device : Device D) (state : HostState) (old new : Hosted D) : Type 0 where
   pub running : IsRunning state new
   pub higher : generation new.journal ≡ generation old.journal + 1
   pub emptied : record_bytes new.journal ≡ 0
   pub saved : IsSaved device old → IsSaved device new
 
--- the host that a request is served by: where one is wanted, a new generation is installed first
-abbrev pub HasRoom : {D : Type 0} → Device D → Request → State → Hosted D → Hosted D → Type 0
+-- the host that handles a request: where one is wanted, a new generation is installed first
+abbrev pub HasRoom : {D : Type 0} → Device D → Request → HostState → Hosted D → Hosted D → Type 0
 HasRoom device request state old between =
     ((WantsInstall request old → ⊥) × (between ≡ old))
     ⊎ (WantsInstall request old × WasInstalled device state old between)
@@ -101,101 +111,105 @@ pub record HasStopped {D : Type 0} (old new : Hosted D) : Type 0 where
 
 -- Why no new generation was installed, by the reply: the number of the generation is the last, or memory was refused,
 -- and nothing changed; or a device failed.
-abbrev pub InstallRefused : {D : Type 0} → Hosted D → Reply → Hosted D → Type 0
-InstallRefused old (Refused refusals.GenerationSpent) new = (generation old.journal ≡ last_generation) × (new ≡ old)
-InstallRefused old (Refused refusals.NoMemory) new = (generation old.journal ≡ last_generation → ⊥) × (new ≡ old)
-InstallRefused old (Refused refusals.DeviceFailed) new = (generation old.journal ≡ last_generation → ⊥)
+abbrev pub InstallRefused : {D : Type 0} → Hosted D → Reply SourceFault → Hosted D → Type 0
+InstallRefused old (Refused GenerationSpent) new = (generation old.journal ≡ last_generation) × (new ≡ old)
+InstallRefused old (Refused NoMemory) new = (generation old.journal ≡ last_generation → ⊥) × (new ≡ old)
+InstallRefused old (Refused DeviceFailed) new = (generation old.journal ≡ last_generation → ⊥)
     × HasStopped old new
 InstallRefused old _ new = ⊥
 
 -- ---- what came of a request
 
 -- an answer, which raises the sequence number and is kept on the disks before it is given
-abbrev pub IsAnswer : Reply → Type 0
-IsAnswer (Answered end seq) = Unit {0}
+abbrev pub IsAnswer : Reply SourceFault → Type 0
+IsAnswer (Answered end seq events) = Unit {0}
 IsAnswer _ = ⊥
 
 -- the reply is that a device failed
-abbrev pub IsDeviceFailed : Reply → Type 0
-IsDeviceFailed (Refused refusals.DeviceFailed) = Unit {0}
+abbrev pub IsDeviceFailed : Reply SourceFault → Type 0
+IsDeviceFailed (Refused DeviceFailed) = Unit {0}
 IsDeviceFailed _ = ⊥
 
 -- why an answer was not kept: a device failed, or memory was refused before anything was written
-abbrev pub WasLost : {D : Type 0} → Journal D → Reply → Journal D → Type 0
-WasLost old (Refused refusals.DeviceFailed) new = Unit {0}
-WasLost old (Refused refusals.NoMemory) new = new ≡ old
+abbrev pub WasLost : {D : Type 0} → Journal D → Reply SourceFault → Journal D → Type 0
+WasLost old (Refused DeviceFailed) new = Unit {0}
+WasLost old (Refused NoMemory) new = new ≡ old
 WasLost old _ new = ⊥
 
--- The request is not refused, and its task is one that is answered: the answer is to be kept on the disks.
-abbrev pub Commits : Demand → Type 0
-Commits (Ok (Initialize name source tree)) = Unit {0}
-Commits (Ok (Run loaded function words)) = Unit {0}
-Commits (Ok (Remove name)) = Unit {0}
-Commits _ = ⊥
-
--- one record more, which leads to a state
-pub record HasOneMore {D : Type 0} (state : State) (old new : Journal D) : Type 0 where
-  pub same : generation new ≡ generation old
-  pub longer : record_bytes new ≡ record_bytes old + 5 + length (body_of (snapshot_of state))
-
 -- The step of a request was taken, and an answer is in one record more. What is not an answer touches no disk.
-pub record TookStep {D : Type 0} (device : Device D) (budget : ℕ) (request : Request) (state : State) (old : Hosted D)
-    (reply : Reply) (new : Hosted D) : Type 0 where
+pub record TookStep {D : Type 0} (device : Device D) (budget : ℕ) (request : Request) (state : HostState)
+    (old : Hosted D)
+    (reply : Reply SourceFault) (new : Hosted D) : Type 0 where
   pub between : Hosted D
   pub room : HasRoom device request state old between
-  pub after : State
-  pub stepped : step budget request state ≡ (reply, after)
+  pub after : HostState
+  pub stepped : step budget request state ≡ Some (reply, after)
   pub running : IsRunning after new
   pub added : IsAnswer reply → HasOneMore after between.journal new.journal
   pub untouched : (IsAnswer reply → ⊥) → new ≡ between
   pub settles : Settles device state after old new
 
 -- Memory was refused where the request takes it, and the host is as it was once it had room.
-pub record WasOutOfMemory {D : Type 0} (device : Device D) (request : Request) (state : State) (old : Hosted D)
-    (reply : Reply) (new : Hosted D) : Type 0 where
+pub record WasOutOfMemory {D : Type 0} (device : Device D) (request : Request) (state : HostState) (old : Hosted D)
+    (reply : Reply SourceFault) (new : Hosted D) : Type 0 where
   pub room : HasRoom device request state old new
   pub ran_out : RanOut request state reply state
   pub running : IsRunning state new
   pub settles : Settles device state state old new
 
--- A request that is not refused had an answer, and it could not be kept: the files settle on the state before it or
--- after it until the host is reopened.
-pub record WasNotCommitted {D : Type 0} (device : Device D) (budget : ℕ) (request : Request) (state : State)
-    (old : Hosted D) (reply : Reply) (new : Hosted D) : Type 0 where
+-- A request that is not refused and changes the state had an answer, and it could not be stored: the files settle on the
+-- state before it or after it until the host is reopened.
+pub record WasNotCommitted {D : Type 0} (device : Device D) (budget : ℕ) (request : Request) (state : HostState)
+    (old : Hosted D) (reply : Reply SourceFault) (new : Hosted D) : Type 0 where
   pub between : Hosted D
   pub room : HasRoom device request state old between
-  pub commits : Commits (task_of request state)
-  pub answer : Reply
-  pub after : State
-  pub stepped : step budget request state ≡ (answer, after)
+  pub changes : IsChange (task_of request state)
+  pub answer : Reply SourceFault
+  pub after : HostState
+  pub stepped : step budget request state ≡ Some (answer, after)
   pub lost : WasLost between.journal reply new.journal
   pub stopped : HasStopped old new
   pub settles : Settles device state after old new
 
--- A new generation was wanted before the request, and was not installed: the request was not served.
-pub record HadNoRoom {D : Type 0} (device : Device D) (request : Request) (state : State) (old : Hosted D)
-    (reply : Reply) (new : Hosted D) : Type 0 where
+-- Memory was refused while a request changed the state, which is lost: the host has to be reopened, and is then in the
+-- state before the request, on which alone the files settle.
+pub record LostItsState {D : Type 0} (device : Device D) (request : Request) (state : HostState) (old : Hosted D)
+    (reply : Reply SourceFault) (new : Hosted D) : Type 0 where
+  pub between : Hosted D
+  pub room : HasRoom device request state old between
+  pub changes : IsChange (task_of request state)
+  pub reply_is : reply ≡ Refused NoMemory
+  pub journal_same : new.journal ≡ between.journal
+  pub stopped : HasStopped old new
+  pub settles : Settles device state state old new
+
+-- A new generation was wanted before the request, and was not installed: the request was not handled.
+pub record HadNoRoom {D : Type 0} (device : Device D) (request : Request) (state : HostState) (old : Hosted D)
+    (reply : Reply SourceFault) (new : Hosted D) : Type 0 where
   pub wanted : WantsInstall request old
   pub refused : InstallRefused old reply new
   pub settles : Settles device state state old new
 
 -- the reply of a host that must be reopened
-abbrev pub reply_stopped : Request → ℕ → Reply
+abbrev pub reply_stopped : Request → ℕ → Reply SourceFault
 reply_stopped Seq seq = Number seq
-reply_stopped _ seq = Refused refusals.Reopen
+reply_stopped _ seq = Refused Reopen
 
 -- What a request is replied, and what it leaves.
-abbrev pub Replies : {D : Type 0} → Device D → ℕ → Request → Option State → Hosted D → Reply → Hosted D → Type 0
+abbrev pub Replies : {D : Type 0} → Device D → ℕ → Request → Option HostState → Hosted D → Reply SourceFault → Hosted D
+    → Type 0
 Replies device budget request (Some state) old reply new =
     TookStep device budget request state old reply new
     ⊎ (WasOutOfMemory device request state old reply new
     ⊎ (WasNotCommitted device budget request state old reply new
-    ⊎ HadNoRoom device request state old reply new))
+    ⊎ (LostItsState device request state old reply new
+    ⊎ HadNoRoom device request state old reply new)))
 Replies device budget request None old reply new = (reply ≡ reply_stopped request old.seq) × (new ≡ old)
 
 -- One request of a host. Where it is answered, the new state is in the journal before the reply is given, and whatever
 -- a crash does afterwards leaves it there.
-pub record Handles {D : Type 0} (device : Device D) (budget : ℕ) (request : Request) (old : Hosted D) (reply : Reply)
+pub record Handles {D : Type 0} (device : Device D) (budget : ℕ) (request : Request) (old : Hosted D)
+    (reply : Reply SourceFault)
     (new : Hosted D) : Type 0 where
   pub replies : Replies device budget request old.state old reply new
   pub saved : IsSaved device old → IsSaved device new
@@ -206,7 +220,8 @@ pub record Handles {D : Type 0} (device : Device D) (budget : ℕ) (request : Re
   pub registered : new.registered ≡ old.registered
 
 -- Requests in order: each is handled by the host that the one before it left.
-abbrev pub HandlesAll : {D : Type 0} → Device D → ℕ → Hosted D → List Request → List Reply → Hosted D → Type 0
+abbrev pub HandlesAll : {D : Type 0} → Device D → ℕ → Hosted D → List Request → List (Reply SourceFault) → Hosted D
+    → Type 0
 HandlesAll device budget old [] [] new = new ≡ old
 HandlesAll {D} device budget old (request ∷ requests) (reply ∷ replies) new =
     (next : Hosted D) × Handles device budget request old reply next
@@ -215,17 +230,19 @@ HandlesAll device budget old _ _ new = ⊥
 
 -- ---- refusals
 
--- A request is refused for this cause, or because memory was refused where its source was read, and nothing of the host
--- changes.
-pub record Refuses {D : Type 0} (cause : Cause) (old : Hosted D) (reply : Reply) (new : Hosted D) : Type 0 where
-  pub reply_is : (reply ≡ Refused cause) ⊎ ((reply ≡ Refused refusals.NoMemory) × TakesMemoryToRefuse cause)
+-- A request is refused for this cause, or because memory was refused where the cause takes some to find, and nothing of
+-- the host changes.
+pub record Refuses {D : Type 0} (cause : Refusal SourceFault) (old : Hosted D) (reply : Reply SourceFault)
+    (new : Hosted D) : Type 0 where
+  pub reply_is : (reply ≡ Refused cause)
+      ⊎ ((reply ≡ Refused NoMemory) × TakesMemoryToFind sources.TakesMemoryToFind (Err cause))
   pub unchanged : new ≡ old
 
 -- A host that runs, and installs nothing before it, refuses each request for which there is a cause, and for the first
 -- cause.
-abbrev pub RefusesFirst : {D : Type 0} → Request → Hosted D → Reply → Hosted D → Type 0
+abbrev pub RefusesFirst : {D : Type 0} → Request → Hosted D → Reply SourceFault → Hosted D → Type 0
 RefusesFirst request old reply new =
-    (state : State) (cause : Cause) → IsRunning state old → (WantsInstall request old → ⊥)
+    (state : HostState) (cause : Refusal SourceFault) → IsRunning state old → (WantsInstall request old → ⊥)
     → first_refusal request state ≡ Some cause → Refuses cause old reply new
 
 -- ---- snapshots

@@ -5,10 +5,13 @@ use Rattle.ash_disk.specs.Image.{LeavesOnly}
 use Rattle.ash_disk.specs.Moments.{LeftSince}
 use Rattle.ash_journal.specs.Layout.{IsOpen}
 use Rattle.ash_journal.specs.Writes.{WasUnused}
-use Rattle.ash_subset.specs.Meaning.{End}
-use Rattle.ash_meaning.specs.State.{State, Request, Reply, Answered, empty}
-use Rattle.ash_meaning.specs.Step.{Steps}
+use Rattle.ash_host.specs.declared.event.Event.{Event as HostEvent}
+use Rattle.ash_phrases.specs.Ends.{End}
+use Rattle.ash_steps.specs.Requests.{Request, Reply, Answered}
 use Rattle.ash_registry.specs.Registrations.{Registration}
+use Rattle.ash_meaning.specs.SourceFaults.{SourceFault}
+use Rattle.ash_states.specs.States.{HostState, empty}
+use Rattle.ash_states.specs.Steps.{Steps}
 use Rattle.ash_durable.specs.Hosting.{Hosted, first, second, IsRunning, IsSaved, IsAnswer, Handles}
 use Rattle.ash_durable.specs.Running.{IsFailure}
 use Rattle.ash_durable.specs.States.{AreHonest, SettleNow, IsOne, IsEither}
@@ -17,31 +20,31 @@ use Rattle.ash_durable.specs.declared.fault.OpenRefused.{OpenRefused}
 
 -- ---- events
 
--- What is known of a store by those who use it: a request was answered; a request is in doubt, handled or not; a host
--- was opened, in this state.
+-- What is known of a store by those who use it: a request was answered, by how its run ended, how many requests had been
+-- answered, and what happened to host objects; a request is in doubt, handled or not; a host was opened, in this state.
 pub data Event : Type 0 where
-  Acknowledged : (budget : ℕ) → (request : Request) → (end : End) → (seq : ℕ) → Event
+  Acknowledged : (budget : ℕ) → (request : Request) → (end : End) → (seq : ℕ) → (happened : List HostEvent) → Event
   InDoubt : (budget : ℕ) → (request : Request) → Event
-  Found : (state : State) → Event
+  Found : (state : HostState) → Event
 
 -- An event takes a state to the next. A request that was answered has taken its step, with that answer; one that is in
 -- doubt has taken it, or nothing has changed; where a host was opened the state is the one that it had.
-abbrev pub Takes : Event → State → State → Type 0
-Takes (Acknowledged budget request end seq) before after = Steps budget request before (Answered end seq) after
+abbrev pub Takes : Event → HostState → HostState → Type 0
+Takes (Acknowledged budget request end seq happened) before after = Steps budget request before (Answered end seq happened) after
 Takes (InDoubt budget request) before after = (after ≡ before)
-    ⊎ ((reply : Reply) × Steps budget request before reply after)
+    ⊎ ((reply : Reply SourceFault) × Steps budget request before reply after)
 Takes (Found state) before after = (before ≡ state) × (after ≡ state)
 
 -- events, the newest first, lead from a state to another
-abbrev pub LeadTo : List Event → State → State → Type 0
+abbrev pub LeadTo : List Event → HostState → HostState → Type 0
 LeadTo [] start state = state ≡ start
-LeadTo (event ∷ earlier) start state = (before : State) × LeadTo earlier start before × Takes event before state
+LeadTo (event ∷ earlier) start state = (before : HostState) × LeadTo earlier start before × Takes event before state
 
 -- Events lead from a state to another by way of one of them: those before it lead to a state that it takes to the next,
 -- and from there those after it lead on.
-pub record LeadBy (later : List Event) (event : Event) (earlier : List Event) (start state : State) : Type 0 where
-  pub before : State
-  pub after : State
+pub record LeadBy (later : List Event) (event : Event) (earlier : List Event) (start state : HostState) : Type 0 where
+  pub before : HostState
+  pub after : HostState
   pub led : LeadTo earlier start before
   pub stepped : Takes event before after
   pub leads_on : LeadTo later after state
@@ -130,20 +133,23 @@ pub data Life {D : Type 0} (device : Device D) (registered : List Registration) 
       → Life device registered (Found opened.state ∷ []) (UnderHost host)
   -- a request is answered
   Replied : (events : List Event) (budget : ℕ) (request : Request) (old : Hosted D) (end : End) (seq : ℕ)
+      (happened : List HostEvent)
       (new : Hosted D) → Life device registered events (UnderHost old)
-      → Handles device budget request old (Answered end seq) new
-      → Life device registered (Acknowledged budget request end seq ∷ events) (UnderHost new)
+      → Handles device budget request old (Answered end seq happened) new
+      → Life device registered (Acknowledged budget request end seq happened ∷ events) (UnderHost new)
   -- a request has another reply, and the host runs on, or has to be reopened as before
-  Unanswered : (events : List Event) (budget : ℕ) (request : Request) (old : Hosted D) (reply : Reply) (new : Hosted D)
+  Unanswered : (events : List Event) (budget : ℕ) (request : Request) (old : Hosted D) (reply : Reply SourceFault)
+      (new : Hosted D)
       → Life device registered events (UnderHost old) → Handles device budget request old reply new
       → (IsAnswer reply → ⊥) → (new.state ≡ None → old.state ≡ None) → Life device registered events (UnderHost new)
   -- a request has another reply, and the host has to be reopened from now on
-  Failed : (events : List Event) (budget : ℕ) (request : Request) (old : Hosted D) (reply : Reply) (new : Hosted D)
+  Failed : (events : List Event) (budget : ℕ) (request : Request) (old : Hosted D) (reply : Reply SourceFault)
+      (new : Hosted D)
       → Life device registered events (UnderHost old) → Handles device budget request old reply new
       → (IsAnswer reply → ⊥) → (old.state ≡ None → ⊥) → new.state ≡ None
       → Life device registered (InDoubt budget request ∷ events) (UnderHost new)
   -- a crash while a request is handled, at any moment from its beginning to its reply
-  CrashedHandling : (events : List Event) (budget : ℕ) (request : Request) (old : Hosted D) (reply : Reply)
+  CrashedHandling : (events : List Event) (budget : ℕ) (request : Request) (old : Hosted D) (reply : Reply SourceFault)
       (new : Hosted D) (a b : D) → Life device registered events (UnderHost old)
       → Handles device budget request old reply new
       → Crashed device (device.clock (first old)) (device.clock (second old)) (first new) (second new) a b
@@ -191,8 +197,8 @@ pub data Life {D : Type 0} (device : Device D) (registered : List Registration) 
 -- its order, and each other once at the most, at its place.
 pub record IsWhole {D : Type 0} (device : Device D) (registered : List Registration) (events : List Event)
     (a b : D) : Type 0 where
-  pub s : State
-  pub t : State
+  pub s : HostState
+  pub t : HostState
   pub s_led : LeadTo events (empty registered) s
   pub t_led : LeadTo events (empty registered) t
   pub settled : SettleNow device a b (IsEither s t)
@@ -203,10 +209,10 @@ pub record IsWhole {D : Type 0} (device : Device D) (registered : List Registrat
 pub record RunsOn {D : Type 0} (device : Device D) (registered : List Registration) (events : List Event)
     (host : Hosted D) : Type 0 where
   pub registered_is : host.registered ≡ registered
-  pub running : (state : State) → host.state ≡ Some state → IsRunning state host
-  pub led : (state : State) → IsRunning state host → LeadTo events (empty registered) state
+  pub running : (state : HostState) → host.state ≡ Some state → IsRunning state host
+  pub led : (state : HostState) → IsRunning state host → LeadTo events (empty registered) state
   pub saved : IsSaved device host
-  pub settles : (state : State) → IsRunning state host → SettleNow device (first host) (second host) (IsOne state)
+  pub settles : (state : HostState) → IsRunning state host → SettleNow device (first host) (second host) (IsOne state)
 
 -- where the store is under a host, that host runs on
 abbrev pub RunsAt : {D : Type 0} → Device D → List Registration → List Event → Place D → Type 0
@@ -222,14 +228,14 @@ pub record Outlives {D : Type 0} (device : Device D) (registered : List Registra
 
 -- ---- what handling requests makes of a life
 
--- The events of a request by its reply: an answer is acknowledged; a request whose answer was lost, or before which a
--- device failed, is in doubt; another reply is no event.
-abbrev pub Records : ℕ → Request → Reply → List Event → Type 0
-Records budget request (Answered end seq) events = events ≡ Acknowledged budget request end seq ∷ []
+-- The events of a request by its reply: an answer is acknowledged; a request that lost its answer or the state, or before
+-- which a device failed, is in doubt; another reply is no event.
+abbrev pub Records : ℕ → Request → Reply SourceFault → List Event → Type 0
+Records budget request (Answered end seq happened) events = events ≡ Acknowledged budget request end seq happened ∷ []
 Records budget request reply events = (events ≡ []) ⊎ (IsFailure reply × (events ≡ InDoubt budget request ∷ []))
 
 -- the events of requests by their replies, the newest first
-abbrev pub RecordAll : ℕ → List Request → List Reply → List Event → Type 0
+abbrev pub RecordAll : ℕ → List Request → List (Reply SourceFault) → List Event → Type 0
 RecordAll budget [] [] events = events ≡ []
 RecordAll budget (request ∷ requests) (reply ∷ replies) events =
     (later : List Event) × (one : List Event) × Records budget request reply one
@@ -239,7 +245,8 @@ RecordAll budget _ _ events = ⊥
 
 -- Every life goes on with these requests: its new events are theirs, so that the acknowledged ones are the answers that
 -- were given, in order.
-abbrev pub LivesOn : {D : Type 0} → Device D → ℕ → Hosted D → List Request → List Reply → Hosted D → Type 0
+abbrev pub LivesOn : {D : Type 0} → Device D → ℕ → Hosted D → List Request → List (Reply SourceFault) → Hosted D
+    → Type 0
 LivesOn device budget old requests replies new =
     (registered : List Registration) (events : List Event) → Life device registered events (UnderHost old)
     → (later : List Event) × Life device registered (later ++ events) (UnderHost new)

@@ -1,42 +1,53 @@
 -- Keeping a state in a journal: as one record more, or as a new generation.
-use Rattle.std.specs.Prelude.{◌≡◌, ℕ, ◌+◌, ◌-◌, ◌^◌, length, Result, Ok, Err, OnOk}
+use Rattle.std.specs.Prelude.{◌≡◌, ℕ, ◌+◌, ◌-◌, ◌^◌, List, length, Result, Ok, Err, OnOk}
 use Rattle.ash_disk.specs.Device.{Device}
-use Rattle.ash_image.specs.Image.{body_of}
 use Rattle.ash_journal.specs.declared.journal.Journal.{Journal}
 use Rattle.ash_journal.specs.Failures.{CountsFailures}
 use Rattle.ash_journal.specs.Journal.{first_disk, second_disk, generation, record_bytes, HasFailed, IsReady}
-use Rattle.ash_meaning.specs.declared.refusal.Refusal.{Refusal}
-use Rattle.ash_meaning.specs.declared.refusal.Refusal.TheVariants as the
-use Rattle.ash_meaning.specs.State.{State}
-use Rattle.ash_durable.specs.States.{HoldsState, GoesOn, BeginsAnew, snapshot_of}
+use Rattle.ash_meaning.specs.declared.fault.SourceFault.{SourceFault as CodeFault}
+use Rattle.ash_plain_steps.specs.declared.request.Refusal.{Refusal}
+use Rattle.ash_plain_steps.specs.declared.request.Refusal.TheVariants as the
+use Rattle.ash_states.specs.States.{HostState}
+use Rattle.ash_states.specs.Images.{IsBodyOf}
+use Rattle.ash_durable.specs.States.{HoldsState, GoesOn, BeginsAnew}
 
--- why a state is not kept: a device failed
-abbrev pub IsFailure : Refusal → Type 0
+-- Why the code refuses a request.
+abbrev pub HostRefusal : Type 0
+HostRefusal = Refusal CodeFault
+
+-- why a state is not stored: a device failed
+abbrev pub IsFailure : HostRefusal → Type 0
 IsFailure the.DeviceFailed = Unit {0}
 IsFailure _ = ⊥
 
 -- a call failed for a device
-abbrev pub HasFailedBy : {T : Type 0} → Result T Refusal → Type 0
+abbrev pub HasFailedBy : {T : Type 0} → Result T HostRefusal → Type 0
 HasFailedBy (Ok done) = ⊥
 HasFailedBy (Err refusal) = IsFailure refusal
 
+-- one record more, with the body of this state, in the same generation
+pub record HasOneMore {D : Type 0} (state : HostState) (old new : Journal D) : Type 0 where
+  pub same : generation new ≡ generation old
+  pub body : List ℕ
+  pub is_body : IsBodyOf body state
+  pub longer : record_bytes new ≡ record_bytes old + 5 + length body
+
 -- What becomes of a journal that a state was to be added to as one record: that it has it, and one record more; that
 -- memory was refused and nothing changed; or that a device failed, and the journal is to be opened again.
-abbrev pub AddsWith : {D : Type 0} → State → Journal D → Result (Unit {0}) Refusal → Journal D → Type 0
-AddsWith state old (Ok done) new =
-    IsReady new × (generation new ≡ generation old)
-    × (record_bytes new ≡ record_bytes old + 5 + length (body_of (snapshot_of state)))
+abbrev pub AddsWith : {D : Type 0} → HostState → Journal D → Result (Unit {0}) HostRefusal → Journal D → Type 0
+AddsWith state old (Ok done) new = IsReady new × HasOneMore state old new
 AddsWith state old (Err the.NoMemory) new = new ≡ old
 AddsWith state old (Err the.DeviceFailed) new = HasFailed new
 AddsWith state old (Err _) new = ⊥
 
 -- A state is added to a journal as one record more.
-pub record Adds {D : Type 0} (device : Device D) (state : State) (old : Journal D) (result : Result (Unit {0}) Refusal)
+pub record Adds {D : Type 0} (device : Device D) (state : HostState) (old : Journal D)
+    (result : Result (Unit {0}) HostRefusal)
     (new : Journal D) : Type 0 where
   pub outcome : AddsWith state old result new
-  pub holds : OnOk result ((before : State) → before.registered ≡ state.registered → HoldsState device before old
+  pub holds : OnOk result ((before : HostState) → before.registered ≡ state.registered → HoldsState device before old
       → HoldsState device state new)
-  pub moments : (before : State) → before.registered ≡ state.registered → HoldsState device before old
+  pub moments : (before : HostState) → before.registered ≡ state.registered → HoldsState device before old
       → GoesOn device before state old new
   pub failures : CountsFailures (HasFailedBy result) (device.failures (first_disk old))
       (device.failures (second_disk old)) (device.failures (first_disk new)) (device.failures (second_disk new))
@@ -49,7 +60,7 @@ last_generation = 2 ^ 64 - 1
 
 -- What becomes of a journal that a state was to be written into as a new generation: that it has it, and no records;
 -- that the number of its generation is the last, or memory was refused, and nothing changed; or that a device failed.
-abbrev pub InstallsWith : {D : Type 0} → Journal D → Result (Unit {0}) Refusal → Journal D → Type 0
+abbrev pub InstallsWith : {D : Type 0} → Journal D → Result (Unit {0}) HostRefusal → Journal D → Type 0
 InstallsWith old (Ok done) new = IsReady new × (generation new ≡ generation old + 1) × (record_bytes new ≡ 0)
 InstallsWith old (Err the.GenerationSpent) new = (generation old ≡ last_generation) × (new ≡ old)
 InstallsWith old (Err the.NoMemory) new = (generation old ≡ last_generation → ⊥) × (new ≡ old)
@@ -57,8 +68,8 @@ InstallsWith old (Err the.DeviceFailed) new = (generation old ≡ last_generatio
 InstallsWith old (Err _) new = ⊥
 
 -- A state that a journal holds is written into it as a new generation.
-pub record Installs {D : Type 0} (device : Device D) (state : State) (old : Journal D)
-    (result : Result (Unit {0}) Refusal) (new : Journal D) : Type 0 where
+pub record Installs {D : Type 0} (device : Device D) (state : HostState) (old : Journal D)
+    (result : Result (Unit {0}) HostRefusal) (new : Journal D) : Type 0 where
   pub outcome : InstallsWith old result new
   pub holds : OnOk result (HoldsState device state old → HoldsState device state new)
   pub moments : HoldsState device state old → BeginsAnew device state state old new

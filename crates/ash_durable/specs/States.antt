@@ -2,53 +2,40 @@
 use Rattle.std.specs.Prelude.{◌≡◌, ◌⊎◌, ℕ, List, [], ◌∷◌}
 use Rattle.std.specs.Bool.{IsTrue}
 use Rattle.ash_disk.specs.Device.{Device}
-use Rattle.ash_image.specs.Image.{Snapshot, Depicts, IsBody}
 use Rattle.ash_journal.specs.declared.journal.Journal.{Journal}
 use Rattle.ash_journal.specs.Current.{Contents}
 use Rattle.ash_journal.specs.Journal.{first_disk, second_disk, Holds}
 use Rattle.ash_journal.specs.Runs.{HoldsSince}
-use Rattle.ash_meaning.specs.StoredModules.{Admits}
-use Rattle.ash_meaning.specs.State.{State}
-use Rattle.ash_registry.specs.Text.{text_of}
+use Rattle.ash_states.specs.States.{HostState}
+use Rattle.ash_states.specs.Images.{IsImageOf, IsBodyOf}
 
--- what the image of a state is of: the text of what is registered, the modules, and the number of requests
-abbrev pub snapshot_of : State → Snapshot
-snapshot_of state = record { registered = text_of state.registered; modules = state.modules; seq = state.seq }
-
--- the bytes are the image of a state that a host may keep
-pub record IsImageOf (image : List ℕ) (state : State) : Type 0 where
-  pub depicts : Depicts image (snapshot_of state)
-  pub admitted : Admits state
-
--- A record leads from a state to the next: its body is that of the next, which a host with the same registered may
--- keep.
-pub record Leads (body : List ℕ) (before after : State) : Type 0 where
+-- A record leads from a state to the next, which has the same registered: its body is that of the next.
+pub record Leads (body : List ℕ) (before after : HostState) : Type 0 where
   pub registered : after.registered ≡ before.registered
-  pub is_body : IsBody body (snapshot_of after)
-  pub admitted : Admits after
+  pub is_body : IsBodyOf body after
 
 -- records lead from a state to another, one after the other
-abbrev pub LeadAll : List (List ℕ) → State → State → Type 0
+abbrev pub LeadAll : List (List ℕ) → HostState → HostState → Type 0
 LeadAll [] before after = after ≡ before
-LeadAll (body ∷ bodies) before after = (next : State) × Leads body before next × LeadAll bodies next after
+LeadAll (body ∷ bodies) before after = (next : HostState) × Leads body before next × LeadAll bodies next after
 
 -- a generation's image is that of a state, and its records lead from there to this one
-pub record IsStateOf (state : State) (contents : Contents) : Type 0 where
-  pub first : State
+pub record IsStateOf (state : HostState) (contents : Contents) : Type 0 where
+  pub first : HostState
   pub registered : first.registered ≡ state.registered
   pub image : IsImageOf contents.0 first
   pub records : LeadAll contents.1 first state
 
 -- contents of a state with P
-abbrev pub HaveState : (State → Type 0) → Contents → Type 0
-HaveState P contents = (state : State) × P state × IsStateOf state contents
+abbrev pub HaveState : (HostState → Type 0) → Contents → Type 0
+HaveState P contents = (state : HostState) × P state × IsStateOf state contents
 
 -- this state and no other
-abbrev pub IsOne : State → State → Type 0
+abbrev pub IsOne : HostState → HostState → Type 0
 IsOne one state = state ≡ one
 
 -- one of two states
-abbrev pub IsEither : State → State → State → Type 0
+abbrev pub IsEither : HostState → HostState → HostState → Type 0
 IsEither one other state = (state ≡ one) ⊎ (state ≡ other)
 
 -- both disks do what the disk model says
@@ -57,28 +44,28 @@ pub record AreHonest {D : Type 0} (device : Device D) (first second : D) : Type 
   pub honest_second : IsTrue (device.honest second)
 
 -- At every two moments of two disks, from two earlier times up to now, what a crash may leave settles on states with P.
-abbrev pub SettleSince : {D : Type 0} → Device D → ℕ → ℕ → D → D → (State → Type 0) → Type 0
+abbrev pub SettleSince : {D : Type 0} → Device D → ℕ → ℕ → D → D → (HostState → Type 0) → Type 0
 SettleSince device a b first second P = HoldsSince device a b first second (HaveState P)
 
 -- what a crash now may leave of two disks settles on states with P
-abbrev pub SettleNow : {D : Type 0} → Device D → D → D → (State → Type 0) → Type 0
+abbrev pub SettleNow : {D : Type 0} → Device D → D → D → (HostState → Type 0) → Type 0
 SettleNow device first second P = SettleSince device (device.clock first) (device.clock second) first second P
 
 -- A journal's files hold a state: all of it is on the devices, and they settle on it alone, whatever a crash does.
-pub record HoldsState {D : Type 0} (device : Device D) (state : State) (journal : Journal D) : Type 0 where
+pub record HoldsState {D : Type 0} (device : Device D) (state : HostState) (journal : Journal D) : Type 0 where
   pub contents : Contents
   pub holds : Holds device journal contents.0 contents.1
   pub is_state : IsStateOf state contents
 
 -- Calls took a journal from old to new, and at every moment of them, since two earlier times, the files settle on one
 -- of two states, where they settled on the first of them until then.
-abbrev pub GoesOn : {D : Type 0} → Device D → State → State → Journal D → Journal D → Type 0
+abbrev pub GoesOn : {D : Type 0} → Device D → HostState → HostState → Journal D → Journal D → Type 0
 GoesOn device before after old new =
     (a b : ℕ) → SettleSince device a b (first_disk old) (second_disk old) (IsOne before)
     → SettleSince device a b (first_disk new) (second_disk new) (IsEither before after)
 
 -- The same since the calls began.
-abbrev pub BeginsAnew : {D : Type 0} → Device D → State → State → Journal D → Journal D → Type 0
+abbrev pub BeginsAnew : {D : Type 0} → Device D → HostState → HostState → Journal D → Journal D → Type 0
 BeginsAnew device before after old new =
     SettleSince device (device.clock (first_disk old)) (device.clock (second_disk old)) (first_disk new)
     (second_disk new) (IsEither before after)

@@ -13,11 +13,12 @@ use Rattle.ash_journal.specs.Opening.{IsUnsound, IsCutCurrent, HasCurrent}
 use Rattle.ash_journal.specs.Reading.{AreAt, bodies_of}
 use Rattle.ash_journal.specs.Runs.{Extends, NoContents}
 use Rattle.ash_journal.specs.Writes.{WasUnused}
-use Rattle.ash_meaning.specs.State.{State, empty}
+use Rattle.ash_states.specs.States.{HostState, empty}
 use Rattle.ash_registry.specs.Registrations.{Registration}
 use Rattle.ash_durable.specs.Contents.{after_image, ReadsAs, IsMisshapen, IsNotAdmitted, AreOfOthers}
 use Rattle.ash_durable.specs.Hosting.{Hosted, IsRunning, IsSaved, IsHonest}
-use Rattle.ash_durable.specs.States.{AreHonest, HoldsState, IsImageOf, SettleNow, IsOne, IsEither, IsStateOf, HaveState}
+use Rattle.ash_states.specs.Images.{IsImageOf}
+use Rattle.ash_durable.specs.States.{AreHonest, HoldsState, SettleNow, IsOne, IsEither, IsStateOf, HaveState}
 use Rattle.ash_durable.specs.declared.fault.OpenRefused.{OpenRefused}
 use Rattle.ash_durable.specs.declared.fault.StoreFault.{StoreFault}
 use Rattle.ash_durable.specs.declared.fault.StoreFault.TheVariants as faults
@@ -54,18 +55,18 @@ pub record AreClosed {D : Type 0} (device : Device D) (a b : D) : Type 0 where
 -- ---- making a store
 
 -- no file is open, or they settle on one state
-abbrev pub IsClosedOrHasState : State → List ℕ → List ℕ → Type 0
+abbrev pub IsClosedOrHasState : HostState → List ℕ → List ℕ → Type 0
 IsClosedOrHasState state x y = (IsClosed x × IsClosed y) ⊎ SettleOn (HaveState (IsOne state)) x y
 
 -- While a store was made, at every moment since two earlier times from which on each file had rested, a crash left no
 -- file open, or the store of this state.
-abbrev pub MakesOrNot : {D : Type 0} → Device D → State → D → D → D → D → Type 0
+abbrev pub MakesOrNot : {D : Type 0} → Device D → HostState → D → D → D → D → Type 0
 MakesOrNot device state a b a' b' =
     (p q : ℕ) → AreHonest device a b → WasUnused device p a → WasUnused device q b
     → EveryMomentSince device p q a' b' (IsClosedOrHasState state)
 
 -- A store was made on two disks whose files were closed: its first generation is on the first of them.
-pub record WasMade {D : Type 0} (device : Device D) (state : State) (a b : D) (journal : Journal D) : Type 0 where
+pub record WasMade {D : Type 0} (device : Device D) (state : HostState) (a b : D) (journal : Journal D) : Type 0 where
   pub ready : IsReady journal
   pub in_first : current_disk journal ≡ first_disk journal
   pub number : generation journal ≡ 1
@@ -86,14 +87,14 @@ NotMadeFor device a b faults.NoMemory a' b' = AreHonest device a b → WereOnlyR
 NotMadeFor device a b _ a' b' = ⊥
 
 -- No store was made, and both disks are handed back.
-pub record WasNotMade {D : Type 0} (device : Device D) (state : State) (a b : D)
+pub record WasNotMade {D : Type 0} (device : Device D) (state : HostState) (a b : D)
     (refused : OpenRefused D) : Type 0 where
   pub cause : NotMadeFor device a b refused.fault refused.a refused.b
   pub moments : MakesOrNot device state a b refused.a refused.b
   pub disks : HandsBack device (IsFailed refused.fault) a b refused.a refused.b
 
 -- A store of a state is made on two disks, or both are handed back.
-abbrev pub Makes : {D : Type 0} → Device D → State → D → D → Result (Journal D) (OpenRefused D) → Type 0
+abbrev pub Makes : {D : Type 0} → Device D → HostState → D → D → Result (Journal D) (OpenRefused D) → Type 0
 Makes device state a b (Ok journal) = WasMade device state a b journal
 Makes device state a b (Err refused) = WasNotMade device state a b refused
 
@@ -115,13 +116,13 @@ HasFailedWith (Ok value) = ⊥
 HasFailedWith (Err fault) = IsFailed fault
 
 -- the image of a state, which fits a generation, made where neither file is open; or why there is none
-abbrev pub LooksWith : {D : Type 0} → Device D → State → D → D → Result (Vec ℕ Global) StoreFault → D → D → Type 0
+abbrev pub LooksWith : {D : Type 0} → Device D → HostState → D → D → Result (Vec ℕ Global) StoreFault → D → D → Type 0
 LooksWith device state a b (Ok image) a' b' =
     IsImageOf image.items state × (length image.items < 2 ^ 32) × (AreHonest device a b → AreClosed device a b)
 LooksWith device state a b (Err fault) a' b' = NotMadeFor device a b fault a' b'
 
 -- Two disks are looked at, and only read, for the first image of a state.
-pub record LooksFor {D : Type 0} (device : Device D) (state : State) (a b : D)
+pub record LooksFor {D : Type 0} (device : Device D) (state : HostState) (a b : D)
     (result : Result (Vec ℕ Global) StoreFault) (a' b' : D) : Type 0 where
   pub looks : LooksWith device state a b result a' b'
   pub read : WereOnlyRead device a b a' b'
@@ -149,7 +150,8 @@ AddNothing device a b a' b' = AreHonest device a b → Extends device a b a' b' 
 
 -- A journal holds the image and the records that two files, as they read, held before, no record more and none less,
 -- and they are those of this state.
-pub record HoldsAsRead {D : Type 0} (device : Device D) (a b : D) (state : State) (journal : Journal D) : Type 0 where
+pub record HoldsAsRead {D : Type 0} (device : Device D) (a b : D) (state : HostState)
+    (journal : Journal D) : Type 0 where
   pub contents : Contents
   pub represented : Represent contents (device.seen a) (device.seen b)
   pub holds : Holds device journal contents.0 contents.1
@@ -177,7 +179,7 @@ AreOfRepaired {D} device a b a' b' = (journal : Journal D) × WasRepaired device
 
 -- A state was found: the files, as they read, are those of it, and the journal holds these very files and no other
 -- state.
-pub record WasFound {D : Type 0} (device : Device D) (registered : List Registration) (a b : D) (state : State)
+pub record WasFound {D : Type 0} (device : Device D) (registered : List Registration) (a b : D) (state : HostState)
     (journal : Journal D) : Type 0 where
   pub registered_is : state.registered ≡ registered
   pub ready : IsReady journal
@@ -219,7 +221,7 @@ HoldsRead device opened = FindsIn device opened.journal opened.image.items (bodi
 
 -- The state of a journal that was opened was read, and the gates are written over that a crash left.
 pub record WasSettled {D : Type 0} (device : Device D) (registered : List Registration) (opened : OpenedJournal D)
-    (state : State) (journal : Journal D) : Type 0 where
+    (state : HostState) (journal : Journal D) : Type 0 where
   pub registered_is : state.registered ≡ registered
   pub reads : AreInPlace opened → IsStateOf state (contents_of opened)
   pub ready : (HasFailed opened.journal → ⊥) → IsReady journal
@@ -244,7 +246,8 @@ pub record WasNotSettled {D : Type 0} (device : Device D) (registered : List Reg
       refused.a refused.b
 
 -- A journal that was opened holds a state, or its disks are handed back.
-abbrev pub Settled : {D : Type 0} → Device D → List Registration → OpenedJournal D → Result (Found D) (OpenRefused D) → Type 0
+abbrev pub Settled : {D : Type 0} → Device D → List Registration → OpenedJournal D → Result (Found D) (OpenRefused D)
+    → Type 0
 Settled device registered opened (Ok found) = WasSettled device registered opened found.state found.journal
 Settled device registered opened (Err refused) = WasNotSettled device registered opened refused
 
@@ -252,10 +255,10 @@ Settled device registered opened (Err refused) = WasNotSettled device registered
 -- on two states before, it is one of them, and they settle on it alone.
 pub record WasOpened {D : Type 0} (device : Device D) (registered : List Registration) (a b : D)
     (host : Hosted D) : Type 0 where
-  pub state : State
+  pub state : HostState
   pub running : IsRunning state host
   pub found : WasFound device registered a b state host.journal
-  pub same : (s t : State) → AreHonest device a b → s.registered ≡ registered → t.registered ≡ registered
+  pub same : (s t : HostState) → AreHonest device a b → s.registered ≡ registered → t.registered ≡ registered
       → SettleNow device a b (IsEither s t) → IsEither s t state
   pub saved : AreHonest device a b → IsSaved device host
 
@@ -277,7 +280,7 @@ IsMishap _ = ⊥
 abbrev pub OpensAgain : {D : Type 0} → Device D → Hosted D → Result (Hosted D) (OpenRefused D) → Type 0
 OpensAgain device host (Ok opened) =
     (opened.registered ≡ host.registered)
-    × ((state : State) → IsHonest device host → IsRunning state host → IsSaved device host → IsRunning state opened
+    × ((state : HostState) → IsHonest device host → IsRunning state host → IsSaved device host → IsRunning state opened
     × IsSaved device opened)
-OpensAgain device host (Err refused) = (state : State) → IsHonest device host → IsRunning state host
+OpensAgain device host (Err refused) = (state : HostState) → IsHonest device host → IsRunning state host
     → IsSaved device host → IsMishap refused.fault

@@ -2,26 +2,28 @@
 
 ghost use Rattle.std.specs.Prelude.{◌≡◌, ◌↔◌, IsTrue, IfOk, IfErr};
 ghost use Rattle.std.specs.List.{AllByRecursion};
-ghost use Rattle.ash_image.specs.Image.{snapshot_read};
 ghost use Rattle.ash_journal.specs.Reading.{AreAt, bodies_of};
 ghost use Rattle.ash_registry.specs.Registered.{registered};
 ghost use Rattle.ash_registry.specs.Text.{text_of};
+ghost use Rattle.ash_state_image.specs.Rules.{IsShaped};
+ghost use Rattle.ash_state_image.specs.Views.{snapshot_of};
 ghost use Rattle.ash_durable.specs.Contents.{after_image, IsBodyWith, ReadsAs};
 ghost use Rattle.ash_durable.specs.Contents.{ReadsImage, ChecksShapes, Restores, LeadsOn, LeadsThrough};
 
 use crate::fault::StoreFault;
-use ash_image::image::{StoredState, read_body, read_image};
 use ash_journal::Record;
-use ash_meaning::plain::PlainState;
 use ash_registry::Registry;
+use ash_state_image::image::{read_body, read_image};
+use ash_state_image::stored::StoredState;
+use ash_states::state::HostState;
 use std::alloc::{AllocError, Global};
 
-/// A generation's image, before it is known whether the registry admits it.
+/// The state of a generation's image, before it is known whether a host with the registry may be in it.
 fn stored_image(alloc: Global, image: &[u8]) -> Result<StoredState, StoreFault>
     ensures { ReadsImage image.now result }
 {
     match read_image(alloc, image)? {
-        Some(stored) => Ok(stored),
+        Some(stored) => Ok(stored.state),
         None => Err(StoreFault::Damaged(0)),
     }
 }
@@ -31,7 +33,7 @@ fn has_shape(alloc: Global, registered: &str, body: &[u8]) -> Result<bool, Alloc
     ensures { IfOk result (λ has_it. IsTrue has_it ↔ IsBodyWith registered.now body.now) }
 {
     match read_body(alloc, body)? {
-        Some(stored) => Ok(stored.registered.as_str() == registered),
+        Some(stored) => Ok(stored.state.registered.as_str() == registered),
         None => Ok(false),
     }
 }
@@ -48,43 +50,41 @@ fn check_shapes(alloc: Global, registered: &str, records: &[Record]) -> Result<(
     Ok(())
 }
 
-/// The state that was stored, where this registry admits it; else damage at this offset.
+/// The state that was stored, where a host with this registry may be in it; else damage at this offset.
 fn restore(
     alloc: Global,
     registry: Registry,
     stored: StoredState,
     offset: u64,
-) -> Result<PlainState, StoreFault>
-    ensures { Restores (registered registry) (snapshot_read stored) offset result }
+) -> Result<HostState, StoreFault>
+    requires { IsShaped (snapshot_of stored) }
+    ensures { Restores (registered registry) (snapshot_of stored) offset result }
 {
-    match PlainState::restore(alloc, registry, stored.seq, stored.modules)? {
+    match HostState::restore(alloc, registry, stored)? {
         Some(state) => Ok(state),
         None => Err(StoreFault::Damaged(offset)),
     }
 }
 
-/// The state to which the body of a record leads, where this registry admits it; else damage at the gate before it.
+/// The state to which the body of a record leads, where a host with this registry may be in it; else damage at the gate
+/// before it.
 fn next_state(
     alloc: Global,
     registry: Registry,
     body: &[u8],
     gate: u64,
-) -> Result<PlainState, StoreFault>
+) -> Result<HostState, StoreFault>
     requires { IsBodyWith (text_of (registered registry)) body.now }
     ensures { LeadsOn (registered registry) body.now gate result }
 {
     match read_body(alloc, body)? {
-        Some(stored) => restore(alloc, registry, stored, gate),
+        Some(stored) => restore(alloc, registry, stored.state, gate),
         None => Err(StoreFault::Damaged(gate)),
     }
 }
 
-/// The state to which records lead from this one, whose registry has to admit each state on the way.
-fn last_state(
-    alloc: Global,
-    first: PlainState,
-    records: &[Record],
-) -> Result<PlainState, StoreFault>
+/// The state to which records lead from this one. A host with its registry has to be allowed each state on the way.
+fn last_state(alloc: Global, first: HostState, records: &[Record]) -> Result<HostState, StoreFault>
     requires { AllByRecursion (IsBodyWith (text_of first.registered)) (bodies_of records.now) }
     ensures { LeadsThrough first records.now result }
 {
@@ -98,15 +98,15 @@ fn last_state(
 /// The state of an image and the records after it, with this registry.
 ///
 /// Faults, the first that holds: `Damaged` where the image or a record has not its shape, or a record has another text
-/// of what was registered than the image; `OtherInterface` where that text is not this registry's; `Damaged` where this
-/// registry doesn't admit a source or a value of the image, and then of a record. An offset is that of the gate before
+/// of what was registered than the image; `OtherInterface` where that text is not this registry's; `Damaged` where no
+/// host with this registry may be in the state of the image, and then of a record. An offset is that of the gate before
 /// the record, or 0 for the image. `NoMemory` may come at any time.
 pub fn state_in(
     alloc: Global,
     registry: Registry,
     image: &[u8],
     records: &[Record],
-) -> Result<PlainState, StoreFault>
+) -> Result<HostState, StoreFault>
     ensures registered { IfOk result (λ state. state.registered ≡ registered registry) }
     ensures cause { IfErr result (λ fault. fault ≡ StoreFault.DeviceFailed → ⊥) }
     ensures reads { AreAt (after_image image.now) records.now

@@ -1,12 +1,16 @@
 // The host.
 
-ghost use Rattle.std.specs.Prelude.{◌≡◌, ℕ, map, IfOk, IsSome, OnOk, OnErr};
-ghost use Rattle.ash_meaning.specs.State.{State, Load, Call, Discard, Global as LookUp, Seq, Snapshot, Number};
-ghost use Rattle.ash_meaning.specs.State.{answer_of, done_of, word_of, request_of, reply_of};
+ghost use Rattle.std.specs.Prelude.{◌≡◌, ◌↔◌, ℕ, map, Some, IfOk, IsSome, IsTrue, OnOk, OnErr};
 ghost use Rattle.ash_registry.specs.Registered.{registered};
-ghost use Rattle.ash_durable.specs.Hosting.{first, second, Handles, HandlesAll, IsFull, IsInstalled, RefusesFirst};
+ghost use Rattle.ash_steps.specs.Requests.{Call, Discard, Get, Load, Number, Object, Seq, Snapshot};
+ghost use Rattle.ash_plain_steps.specs.RequestViews.{request_seen, reply_seen};
+ghost use Rattle.ash_meaning.specs.SourceFaults.{fault_of};
+ghost use Rattle.ash_states.specs.States.{HostState};
+ghost use Rattle.ash_durable.specs.Hosting.{first, second, Handles, HandlesAll, IsAnswer, IsFull, IsInstalled};
+ghost use Rattle.ash_durable.specs.Hosting.{IsRunning, RefusesFirst, WantsInstall, reply_stopped};
 ghost use Rattle.ash_durable.specs.Lives.{LivesOn};
-ghost use Rattle.ash_durable.specs.Requests.{CommitsAnswer, MakesRoom, TriesInstall};
+ghost use Rattle.ash_durable.specs.Replies.{done_of, reply_of};
+ghost use Rattle.ash_durable.specs.Requests.{Commits, MakesRoom, TriesInstall};
 ghost use Rattle.ash_durable.specs.Running.{RunsToFailure};
 ghost use Rattle.ash_durable.specs.Store.{Creates, Opens, OpensAgain};
 
@@ -14,12 +18,11 @@ use crate::fault::OpenRefused;
 use crate::saving::{add_state, install_state};
 use crate::store::{find, make};
 use ash_disk::Disk;
-use ash_host::Word;
 use ash_journal::Journal;
-use ash_meaning::plain::PlainState;
-use ash_meaning::refusal::Refusal;
-use ash_meaning::request::{Answer, Argument, Reply, Request};
+use ash_plain_steps::request::{Refusal, Reply, Request};
 use ash_registry::Registry;
+use ash_states::state::{HostRefusal, HostReply, HostState};
+use ash_steps::Argument;
 use std::alloc::{AllocError, Global};
 use std::marker::Model;
 
@@ -31,15 +34,16 @@ const FULL_RECORD_BYTES: u64 = 16_777_216;
 /// raises the sequence number by one, and before it is given the new state is one more record of the journal on both
 /// disks, by two writes and two syncs, so that every crash afterwards leaves it there. Where that fails, or finds no
 /// memory for the record, the answer is lost: a crash leaves the state before the request or the one after it, and the
-/// host must be reopened. Every call but `seq`, `close` and `reopen` is from then on refused with `Refusal::Reopen`.
-/// Any other refusal changes nothing.
+/// host must be reopened. So it must where memory is refused while a request changes the state: the state is lost, and
+/// the disks have the one before the request. Every call but `seq`, `close` and `reopen` is from then on refused with
+/// `Refusal::Reopen`. Any other refusal changes nothing.
 ///
 /// A `load`, a `call` or a `discard` that finds 16,777,216 bytes of records or more in the current generation first
 /// installs the state as a new one, without records, in the file that isn't current.
 #[derive(Drop)]
 pub struct Host<D> {
     alloc: Global,
-    state: PlainState,
+    state: HostState,
     /// Where the host must be reopened, the number after the last request that was answered.
     stopped: Option<u64>,
     journal: Journal<D>,
@@ -54,7 +58,7 @@ impl<D> Model for Host<D> {
     ghost view = { λ h. record {
       registered = h.state.registered;
       state = state_unless h.stopped h.state;
-      seq = unwrap_or h.stopped h.state.seq;
+      seq = unwrap_or h.stopped h.state.state.seq;
       journal = h.journal;
     } };
 
@@ -72,16 +76,14 @@ impl<D: Disk> Host<D> {
     pub fn create(alloc: Global, a: D, b: D, registry: Registry) -> Result<Host<D>, OpenRefused<D>>
         ensures created { Creates D.Disk (registered registry) a b result }
     {
-        let state = PlainState::new(alloc, registry);
-        match make(alloc, &state, a, b) {
-            Ok(journal) => Ok(Host {
-                alloc,
-                state,
-                stopped: None,
-                journal,
-            }),
-            Err(refused) => Err(refused),
-        }
+        let state = HostState::new(alloc, registry);
+        let journal = make(alloc, &state, a, b)?;
+        Ok(Host {
+            alloc,
+            state,
+            stopped: None,
+            journal,
+        })
     }
 
     /// Opens the store on two disks, and gives a host with this registry in the state of which the files are. It
@@ -90,20 +92,18 @@ impl<D: Disk> Host<D> {
     ///
     /// Faults, the first that holds: `DeviceFailed`; `NoGeneration` where no file is open; `Damaged` where bytes have
     /// not the shape of a generation, an image or a record; `OtherInterface` where the store was made with a registry
-    /// of another text; `Damaged` where the registry doesn't admit a source or a value. `NoMemory` where there is none
-    /// to read into. But for `DeviceFailed` in the last step, both disks read as before.
+    /// of another text; `Damaged` where no host with the registry may be in a state. `NoMemory` where there is none to
+    /// read into. But for `DeviceFailed` in the last step, both disks read as before.
     pub fn open(alloc: Global, a: D, b: D, registry: Registry) -> Result<Host<D>, OpenRefused<D>>
         ensures opened { Opens D.Disk (registered registry) a b result }
     {
-        match find(alloc, registry, a, b) {
-            Ok(found) => Ok(Host {
-                alloc,
-                state: found.state,
-                stopped: None,
-                journal: found.journal,
-            }),
-            Err(refused) => Err(refused),
-        }
+        let found = find(alloc, registry, a, b)?;
+        Ok(Host {
+            alloc,
+            state: found.state,
+            stopped: None,
+            journal: found.journal,
+        })
     }
 
     /// Gives the disks back, as they are.
@@ -140,11 +140,11 @@ impl<D: Disk> Host<D> {
     }
 
     /// Installs the state of a host that runs as a new generation.
-    fn install(&mut self) -> Result<(), Refusal>
+    fn install(&mut self) -> Result<(), HostRefusal>
         requires { IsSome self.old.state }
         ensures { TriesInstall D.Disk self.old result self.new }
     {
-        match install_state(self.alloc, &self.state, &mut self.journal) {
+        match install_state(&self.state, &mut self.journal) {
             Ok(()) => Ok(()),
             Err(Refusal::DeviceFailed) => {
                 self.stopped = Some(self.state.seq());
@@ -154,107 +154,171 @@ impl<D: Disk> Host<D> {
         }
     }
 
-    /// Makes room for one record more, before a request. Refused with `Reopen` where the host must be reopened.
-    fn make_room(&mut self) -> Result<(), Refusal>
-        ensures { MakesRoom D.Disk self.old result self.new }
+    /// The records of the current generation are so long that no more is added.
+    fn is_full(&self) -> bool
+        ensures full { IsTrue result ↔ IsFull self.now }
+        ensures runs { (state : HostState) → self.now.state ≡ Some state → IsRunning state self.now }
     {
-        if self.stopped.is_some() {
-            return Err(Refusal::Reopen);
+        self.journal.record_bytes() >= FULL_RECORD_BYTES
+    }
+
+    /// The state is installed as a new generation before a request.
+    fn wants_install(&self, request: &Request<'_>) -> bool
+        ensures wanted { IsTrue result ↔ WantsInstall (request_seen request.now) self.now }
+        ensures runs { (state : HostState) → self.now.state ≡ Some state → IsRunning state self.now }
+    {
+        let is_full = self.is_full();
+        match *request {
+            Request::Load { .. } => is_full,
+            Request::Call { .. } => is_full,
+            Request::Discard { .. } => is_full,
+            Request::Snapshot => true,
+            Request::Get { .. } => false,
+            Request::Object { .. } => false,
+            Request::Seq => false,
         }
-        if self.journal.record_bytes() < FULL_RECORD_BYTES {
+    }
+
+    /// Makes room for a request of a host that runs, which may add a record.
+    fn make_room(&mut self, request: &Request<'_>) -> Result<(), HostRefusal>
+        requires { IsSome self.old.state }
+        ensures { MakesRoom D.Disk (request_seen request.now) self.old result self.new }
+    {
+        if !self.wants_install(request) {
             return Ok(());
         }
         self.install()
     }
 
-    /// Keeps what a request has changed, before it is answered. `seq` is the number of the last answer before it, which
-    /// stays where this is not kept: from then on the host must be reopened.
-    fn commit(&mut self, seq: u64, answer: Answer) -> Result<Answer, Refusal>
+    /// Stores what a request has changed, before it is answered. `last` is the number of the last answer before it,
+    /// which stays where this is not stored: from then on the host must be reopened.
+    fn commit(&mut self, last: u64) -> Result<(), HostRefusal>
         requires running { IsSome self.old.state }
         requires room { IsFull self.old → ⊥ }
-        ensures { CommitsAnswer D.Disk seq answer self.old result self.new }
+        ensures { Commits D.Disk last self.old result self.new }
     {
-        match add_state(self.alloc, &self.state, &mut self.journal) {
-            Ok(()) => Ok(answer),
+        match add_state(&self.state, &mut self.journal) {
+            Ok(()) => Ok(()),
             Err(refusal) => {
-                self.stopped = Some(seq);
+                self.stopped = Some(last);
                 Err(refusal)
             }
         }
     }
 
-    /// Loads a source as a module of this name: reads it and runs its initializers, with a budget in ticks. The
-    /// module is kept where they finish.
-    ///
-    /// Refusals, the first that holds: `Reopen`; `GenerationSpent`, `NoMemory` and `DeviceFailed` where a new
-    /// generation is installed first; `SequenceSpent`, `BadName`, `ModuleTaken`, `TooManyModules`, those that
-    /// `check_source` returns of a source, `NotYet`; `NoMemory` where the reading or the run finds no memory. At
-    /// `DeviceFailed`, and at `NoMemory` where the answer could not be kept, the host must be reopened from then on.
-    pub fn load(&mut self, name: &str, source: &[u8], budget: u64) -> Result<Answer, Refusal>
-        ensures handled { Handles D.Disk budget (Load name.now source.now) self.old
-            (answer_of result) self.new }
-        ensures refused { RefusesFirst (Load name.now source.now) self.old (answer_of result)
+    /// Handles one request of a host that runs. Where its answer is not stored, or its state is lost, the host must be
+    /// reopened from then on.
+    fn handle_running(
+        &mut self,
+        request: &Request<'_>,
+        budget: u64,
+    ) -> Result<HostReply, HostRefusal>
+        requires { IsSome self.old.state }
+        ensures { Handles D.Disk budget (request_seen request.now) self.old (reply_of result)
             self.new }
     {
-        match self.make_room() {
-            Ok(()) => {}
-            Err(refusal) => return Err(refusal),
-        }
+        self.make_room(request)?;
         let seq = self.state.seq();
-        match self.state.load(name, source, budget) {
-            Ok(answer) => self.commit(seq, answer),
-            Err(refusal) => Err(refusal),
+        let reply = match self.state.handle(request, budget) {
+            Ok(reply) => reply,
+            Err(_) => {
+                self.stopped = Some(seq);
+                return Err(Refusal::NoMemory);
+            }
+        };
+        if !is_answer(&reply) {
+            return Ok(reply);
+        }
+        self.commit(seq)?;
+        Ok(reply)
+    }
+
+    /// Handles one request, with a budget in ticks. A host that runs refuses each request for which there is a
+    /// cause, with the first cause or out of memory on the way to it, and is as it was.
+    ///
+    /// Refusals, the first that holds. Each request but `seq`: `Reopen`. A `load`, a `call` and a `discard`:
+    /// `GenerationSpent`, `NoMemory` and `DeviceFailed` where a new generation is installed first; `SequenceSpent`; of a
+    /// `load` then `BadName`, `ModuleTaken`, `TooManyModules` and `BadSource`; of a `call` `NoModule`, `NoFunction`,
+    /// `NotCallable` and `BadArguments`; of a `discard` `NoModule`; `NoMemory` where finding these, the run or the
+    /// record finds no memory; `DeviceFailed` where the answer could not be stored. A `get`: `NoModule`, `NoGlobal`. An
+    /// `object`: `NoObject`, `NoMemory`. A snapshot: `GenerationSpent`, `NoMemory`, `DeviceFailed`. At `DeviceFailed`,
+    /// and at `NoMemory` where the state was changed, the host must be reopened from then on.
+    pub fn handle(&mut self, request: &Request<'_>, budget: u64) -> HostReply
+        ensures handled { Handles D.Disk budget (request_seen request.now) self.old
+            (reply_seen fault_of result) self.new }
+        ensures refused { RefusesFirst (request_seen request.now) self.old
+            (reply_seen fault_of result) self.new }
+    {
+        match self.stopped {
+            Some(seq) => reply_of_stopped(request, seq),
+            None => match self.handle_running(request, budget) {
+                Ok(reply) => reply,
+                Err(refusal) => Reply::Refused(refusal),
+            },
         }
     }
 
-    /// Calls a function of a module, with a budget in ticks.
-    ///
-    /// Refusals, the first that holds: `Reopen`; `GenerationSpent`, `NoMemory` and `DeviceFailed` where a new
-    /// generation is installed first; `SequenceSpent`, `NoModule`, `NoFunction`, `BadArguments`; `NoMemory` where the
-    /// run finds no memory. At `DeviceFailed`, and at `NoMemory` where the answer could not be kept, the host must be
-    /// reopened from then on.
+    /// Loads a source as a module of this name: reads it and runs its initializers, with a budget in ticks. The
+    /// module is stored where they finish. Refusals are those of `handle`.
+    pub fn load(&mut self, module: &str, source: &[u8], budget: u64) -> HostReply
+        ensures handled { Handles D.Disk budget (Load module.now source.now) self.old
+            (reply_seen fault_of result) self.new }
+        ensures refused { RefusesFirst (Load module.now source.now) self.old
+            (reply_seen fault_of result) self.new }
+    {
+        self.handle(&Request::Load { module, source }, budget)
+    }
+
+    /// Calls a function of a module, with a budget in ticks. Refusals are those of `handle`.
     pub fn call(
         &mut self,
-        module_name: &str,
+        module: &str,
         function: &str,
         arguments: &[Argument],
         budget: u64,
-    ) -> Result<Answer, Refusal>
-        ensures handled { Handles D.Disk budget
-            (Call module_name.now function.now arguments.now) self.old (answer_of result) self.new }
-        ensures refused { RefusesFirst
-            (Call module_name.now function.now arguments.now) self.old (answer_of result) self.new }
+    ) -> HostReply
+        ensures handled { Handles D.Disk budget (Call module.now function.now arguments.now) self.old
+            (reply_seen fault_of result) self.new }
+        ensures refused { RefusesFirst (Call module.now function.now arguments.now) self.old
+            (reply_seen fault_of result) self.new }
     {
-        match self.make_room() {
-            Ok(()) => {}
-            Err(refusal) => return Err(refusal),
-        }
-        let seq = self.state.seq();
-        match self.state.call(module_name, function, arguments, budget) {
-            Ok(answer) => self.commit(seq, answer),
-            Err(refusal) => Err(refusal),
-        }
+        self.handle(
+            &Request::Call {
+                module,
+                function,
+                arguments,
+            },
+            budget,
+        )
     }
 
-    /// Removes a module, with its globals.
-    ///
-    /// Refusals, the first that holds: `Reopen`; `GenerationSpent`, `NoMemory` and `DeviceFailed` where a new
-    /// generation is installed first; `SequenceSpent`, `NoModule`. At `DeviceFailed`, and at `NoMemory` where the
-    /// answer could not be kept, the host must be reopened from then on.
-    pub fn discard(&mut self, name: &str) -> Result<Answer, Refusal>
-        ensures handled { (budget : ℕ) → Handles D.Disk budget (Discard name.now) self.old
-            (answer_of result) self.new }
-        ensures refused { RefusesFirst (Discard name.now) self.old (answer_of result) self.new }
+    /// Removes a module, with its globals. Refusals are those of `handle`.
+    pub fn discard(&mut self, module: &str) -> HostReply
+        ensures handled { (budget : ℕ) → Handles D.Disk budget (Discard module.now) self.old
+            (reply_seen fault_of result) self.new }
+        ensures refused { RefusesFirst (Discard module.now) self.old (reply_seen fault_of result)
+            self.new }
     {
-        match self.make_room() {
-            Ok(()) => {}
-            Err(refusal) => return Err(refusal),
-        }
-        let seq = self.state.seq();
-        match self.state.discard(name) {
-            Ok(answer) => self.commit(seq, answer),
-            Err(refusal) => Err(refusal),
-        }
+        self.handle(&Request::Discard { module }, 0)
+    }
+
+    /// What a global of a module holds. It takes no memory, and touches no disk. Refusals are those of `handle`.
+    pub fn get(&mut self, module: &str, name: &str) -> HostReply
+        ensures handled { (budget : ℕ) → Handles D.Disk budget (Get module.now name.now) self.old
+            (reply_seen fault_of result) self.new }
+        ensures unchanged { self.new ≡ self.old }
+    {
+        self.handle(&Request::Get { module, name }, 0)
+    }
+
+    /// The object of a number: its type, how many handles there are to it, and what is in it. It touches no disk.
+    /// Refusals are those of `handle`.
+    pub fn object(&mut self, number: u64) -> HostReply
+        ensures handled { (budget : ℕ) → Handles D.Disk budget (Object number) self.old
+            (reply_seen fault_of result) self.new }
+        ensures unchanged { self.new ≡ self.old }
+    {
+        self.handle(&Request::Object { number }, 0)
     }
 
     /// Writes the whole state into a new generation without records, in the file that isn't current. Nothing of the
@@ -262,26 +326,13 @@ impl<D: Disk> Host<D> {
     ///
     /// Refusals, the first that holds: `Reopen`; `GenerationSpent` where the generation's number is 2^64 - 1;
     /// `NoMemory`; these change nothing. After `DeviceFailed` the host must be reopened.
-    pub fn snapshot(&mut self) -> Result<(), Refusal>
+    pub fn snapshot(&mut self) -> Result<(), HostRefusal>
         ensures handled { (budget : ℕ) → Handles D.Disk budget Snapshot self.old (done_of result)
             self.new }
         ensures installed { OnOk result (IsInstalled self.old self.new) }
     {
         match self.stopped {
             None => self.install(),
-            Some(_) => Err(Refusal::Reopen),
-        }
-    }
-
-    /// What a global of a module holds. It takes no memory, and touches no disk.
-    ///
-    /// Refusals, the first that holds: `Reopen`, `NoModule`, `NoGlobal`.
-    pub fn global(&self, module_name: &str, name: &str) -> Result<Word, Refusal>
-        ensures handled { (budget : ℕ) → Handles D.Disk budget (LookUp module_name.now name.now) self.now
-            (word_of result) self.now }
-    {
-        match self.stopped {
-            None => self.state.global(module_name, name),
             Some(_) => Err(Refusal::Reopen),
         }
     }
@@ -295,47 +346,20 @@ impl<D: Disk> Host<D> {
         self.stopped.unwrap_or(self.state.seq())
     }
 
-    /// Handles one request, with a budget in ticks. A host that runs refuses each request for which there is a
-    /// cause, with the first cause or out of memory on the way to it, and is as it was.
-    ///
-    /// Refusals are those of `load`, `call`, `discard`, `snapshot` and `global`, in their order.
-    pub fn handle(&mut self, request: &Request, budget: u64) -> Reply
-        ensures handled { Handles D.Disk budget (request_of request.now) self.old (reply_of result)
-            self.new }
-        ensures refused { RefusesFirst (request_of request.now) self.old (reply_of result)
-            self.new }
-    {
-        match *request {
-            Request::Load { name, source } => self.load(name, source, budget).into(),
-            Request::Call {
-                module,
-                function,
-                arguments,
-            } => self.call(module, function, arguments, budget).into(),
-            Request::Discard { name } => self.discard(name).into(),
-            Request::Global { module, name } => match self.global(module, name) {
-                Ok(word) => Reply::Value(word),
-                Err(refusal) => Reply::Refused(refusal),
-            },
-            Request::Seq => Reply::Seq(self.seq()),
-            Request::Snapshot => self.snapshot().into(),
-        }
-    }
-
     /// Handles requests in order, each with a budget in ticks. They are a run of the written steps up to the first
-    /// whose answer is lost; from then on the host must be reopened. An `Err` comes before the first of them.
+    /// whose answer or state is lost; from then on the host must be reopened. An `Err` comes before the first of them.
     pub fn handle_all(
         &mut self,
         alloc: Global,
-        requests: &[Request],
+        requests: &[Request<'_>],
         budget: u64,
-    ) -> Result<Vec<Reply>, AllocError>
+    ) -> Result<Vec<HostReply>, AllocError>
         ensures run { IfOk result (λ replies. HandlesAll D.Disk budget self.old
-            (map request_of requests.now) (map reply_of replies.items) self.new) }
+            (map request_seen requests.now) (map (reply_seen fault_of) replies.items) self.new) }
         ensures defined { IfOk result (λ replies. RunsToFailure budget self.old
-            (map request_of requests.now) (map reply_of replies.items) self.new) }
+            (map request_seen requests.now) (map (reply_seen fault_of) replies.items) self.new) }
         ensures lives { IfOk result (λ replies. LivesOn D.Disk budget self.old
-            (map request_of requests.now) (map reply_of replies.items) self.new) }
+            (map request_seen requests.now) (map (reply_seen fault_of) replies.items) self.new) }
         ensures err { OnErr result (self.new ≡ self.old) }
     {
         let mut replies = Vec::with_capacity(alloc, requests.len())?;
@@ -343,5 +367,25 @@ impl<D: Disk> Host<D> {
             replies.push(self.handle(request, budget))?;
         }
         Ok(replies)
+    }
+}
+
+/// The reply is an answer, which raises the sequence number.
+fn is_answer(reply: &HostReply) -> bool
+    ensures { IsTrue result ↔ IsAnswer (reply_seen fault_of reply.now) }
+{
+    match reply {
+        Reply::Answered(_) => true,
+        _ => false,
+    }
+}
+
+/// The reply of a host that must be reopened. `seq` is the number of the last answer.
+fn reply_of_stopped(request: &Request<'_>, seq: u64) -> HostReply
+    ensures { reply_seen fault_of result ≡ reply_stopped (request_seen request.now) seq }
+{
+    match *request {
+        Request::Seq => Reply::Number(seq),
+        _ => Reply::Refused(Refusal::Reopen),
     }
 }

@@ -6,8 +6,8 @@ ghost use Rattle.ash_durable.specs.Lives.{first_at, second_at};
 ghost use Rattle.ash_durable.specs.States.{AreHonest, SettleNow};
 ghost use Rattle.ash_durable.specs.Store.{IsMishap, WasNotFound};
 ghost use Rattle.ash_durable.specs.declared.fault.OpenRefused.{OpenRefused};
-ghost use Rattle.ash_meaning.specs.State.{empty};
 ghost use Rattle.ash_registry.specs.Registrations.{Registration};
+ghost use Rattle.ash_states.specs.States.{empty};
 
 use ash_disk::Disk;
 

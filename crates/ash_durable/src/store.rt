@@ -8,20 +8,14 @@ ghost use Rattle.ash_registry.specs.Registered.{registered};
 use crate::contents::state_in;
 use crate::fault::{OpenRefused, StoreFault};
 use crate::header::read_header;
-use crate::saving::image_of;
 use ash_disk::Disk;
 use ash_journal::{Journal, OpenedJournal};
-use ash_meaning::plain::PlainState;
 use ash_registry::Registry;
+use ash_states::state::HostState;
 use std::alloc::Global;
 
 /// The image of a state, for two disks of which neither file is open.
-fn first_image<D: Disk>(
-    alloc: Global,
-    state: &PlainState,
-    a: &mut D,
-    b: &mut D,
-) -> Result<Vec<u8>, StoreFault>
+fn first_image<D: Disk>(state: &HostState, a: &mut D, b: &mut D) -> Result<Vec<u8>, StoreFault>
     ensures { LooksFor D.Disk state.now a.old b.old result a.new b.new }
 {
     let first = read_header(a)?;
@@ -29,7 +23,7 @@ fn first_image<D: Disk>(
     if first.is_open() || second.is_open() {
         return Err(StoreFault::AlreadyThere);
     }
-    Ok(image_of(alloc, state)?)
+    Ok(state.image()?)
 }
 
 /// Makes a store of this state: its first generation. Its image is made before anything is written.
@@ -37,7 +31,7 @@ fn first_image<D: Disk>(
 /// Faults, the first that holds: `DeviceFailed`, `AlreadyThere`, `NoMemory`. Nothing is written at the last two.
 pub fn make<D: Disk>(
     alloc: Global,
-    state: &PlainState,
+    state: &HostState,
     a: D,
     b: D,
 ) -> Result<Journal<D>, OpenRefused<D>>
@@ -45,7 +39,7 @@ pub fn make<D: Disk>(
 {
     let mut a = a;
     let mut b = b;
-    let image = match first_image(alloc, state, &mut a, &mut b) {
+    let image = match first_image(state, &mut a, &mut b) {
         Ok(image) => image,
         Err(fault) => return Err(OpenRefused { fault, a, b }),
     };
@@ -62,7 +56,7 @@ pub fn make<D: Disk>(
 /// A store that was found: its state, and the journal that holds it.
 #[derive(Drop)]
 pub struct Found<D> {
-    pub state: PlainState,
+    pub state: HostState,
     pub journal: Journal<D>,
 }
 

@@ -6,3 +6,5 @@ pub mod SinkLemmas
 pub mod ReaderLemmas
 pub mod WriterLemmas
 pub mod PrefixLemmas
+pub mod ItemLemmas
+pub mod TextLemmas

@@ -2,7 +2,7 @@
 use Rattle.std.proofs.Common.{◌≡◌, ◌<◌, ◌≤◌, ℕ, List, [], ◌∷◌, ◌++◌, length, take, refl, sym, ap, ◌∙◌, arith, zero, suc}
 use Rattle.std.proofs.Common.{nat_lt, Bool, true, false}
 use borrow.Author.Tests.{ltb-true, ltb-false}
-use Rattle.ash_lines.specs.Reading.{source_prefix}
+use Rattle.ash_lines.specs.Reading.{max_prefix_bytes, source_prefix}
 
 -- one more byte, where there is room for it
 
@@ -20,13 +20,13 @@ take-full zero xs x h = refl
 take-full (suc n) [] x h = absurd (omega arith)
 take-full (suc n) (y ∷ xs) x h = ap (λ (ys : List ℕ). y ∷ ys) (take-full n xs x (omega arith))
 
-pub prefix-push : (source : List ℕ) (byte : ℕ) → length (source_prefix source) < 65537 → source_prefix (source ++ byte ∷ []) ≡ source_prefix source ++ byte ∷ []
+pub prefix-push : (source : List ℕ) (byte : ℕ) → length (source_prefix source) < max_prefix_bytes → source_prefix (source ++ byte ∷ []) ≡ source_prefix source ++ byte ∷ []
 unfolding source_prefix
-prefix-push source byte h = take-push 65537 source byte h
+prefix-push source byte h = take-push max_prefix_bytes source byte h
 
-pub prefix-full : (source : List ℕ) (byte : ℕ) → 65537 ≤ length (source_prefix source) → source_prefix (source ++ byte ∷ []) ≡ source_prefix source
+pub prefix-full : (source : List ℕ) (byte : ℕ) → max_prefix_bytes ≤ length (source_prefix source) → source_prefix (source ++ byte ∷ []) ≡ source_prefix source
 unfolding source_prefix
-prefix-full source byte h = take-full 65537 source byte h
+prefix-full source byte h = take-full max_prefix_bytes source byte h
 
 take-nil : (n : ℕ) → take {A = ℕ} n [] ≡ []
 take-nil zero = refl
@@ -34,12 +34,12 @@ take-nil (suc n) = refl
 
 pub prefix-nil : (bytes : List ℕ) → bytes ≡ [] → bytes ≡ source_prefix []
 unfolding source_prefix
-prefix-nil bytes e = e ∙ sym (take-nil 65537)
+prefix-nil bytes e = e ∙ sym (take-nil max_prefix_bytes)
 
 -- one more byte, stored or not
-pub prefix-more : (source old new : List ℕ) (byte : ℕ) → (length old < 65537 → new ≡ old ++ byte ∷ []) → (65537 ≤ length old → new ≡ old) → old ≡ source_prefix source → new ≡ source_prefix (source ++ byte ∷ [])
-prefix-more source old new byte f g e = more (nat_lt (length old) 65537) refl
+pub prefix-more : (source old new : List ℕ) (byte : ℕ) → (length old < max_prefix_bytes → new ≡ old ++ byte ∷ []) → (max_prefix_bytes ≤ length old → new ≡ old) → old ≡ source_prefix source → new ≡ source_prefix (source ++ byte ∷ [])
+prefix-more source old new byte f g e = more (nat_lt (length old) max_prefix_bytes) refl
   where
-    more : (t : Bool) → nat_lt (length old) 65537 ≡ t → new ≡ source_prefix (source ++ byte ∷ [])
-    more true h = f (ltb-true _ _ h) ∙ (ap (λ (x : List ℕ). x ++ byte ∷ []) e ∙ sym (prefix-push source byte (let q : length old < 65537 = ltb-true _ _ h in rw e at q)))
-    more false h = let q : 65537 ≤ length old = ltb-false _ _ h in g q ∙ (e ∙ sym (prefix-full source byte (rw e at q)))
+    more : (t : Bool) → nat_lt (length old) max_prefix_bytes ≡ t → new ≡ source_prefix (source ++ byte ∷ [])
+    more true h = f (ltb-true _ _ h) ∙ (ap (λ (x : List ℕ). x ++ byte ∷ []) e ∙ sym (prefix-push source byte (let q : length old < max_prefix_bytes = ltb-true _ _ h in rw e at q)))
+    more false h = let q : max_prefix_bytes ≤ length old = ltb-false _ _ h in g q ∙ (e ∙ sym (prefix-full source byte (rw e at q)))

@@ -6,7 +6,7 @@ use Rattle.std.proofs.lemmas.Grind.{common_steps}
 use Rattle.std.specs.Borrow.{Bor}
 use Rattle.std.specs.List.{flat_map}
 use Rattle.ash_lines.specs.Sink.{Outlet, IsOutlet, Accepts, FailsPartway, Writes, Flushes, WritesAndFlushes}
-use Rattle.ash_lines.specs.Replies.{names_text}
+use Rattle.ash_lines.specs.RefusalTexts.{names_text}
 use Rattle.ash_lines.specs.declared.sink.WriteFault.{WriteFault}
 
 -- nothing was written

@@ -4,6 +4,7 @@ use Rattle.std.proofs.Common.{Err, Some, None, Option, Result, length-append, ap
 use Rattle.std.proofs.lemmas.List.{append-nil}
 use Rattle.std.proofs.lemmas.List.Folds.{list_all-append}
 use Rattle.std.proofs.lemmas.Grind.{common_steps}
+use Rattle.ash_lines.specs.Lines.{max_line_bytes}
 use Rattle.ash_lines.specs.Source.{Feed, IsFeed, Faults, ReadsNext}
 use Rattle.ash_lines.specs.Reading.{is_line, ReadsLinePart, ReadsWholeLine, FaultsInLine, Skips, IsLong, ReadsLine}
 use Rattle.ash_lines.specs.declared.line.LineRest.{LineRest}
@@ -86,7 +87,7 @@ part-faults_after feed is s t u bytes fault h f =
     record { bytes = bytes ++ f.bytes; faults = faults_after feed is s t u bytes f.bytes fault h.took f.faults; line = is_line-append bytes f.bytes h.line f.line }
 
 -- a line that is too long already, and what was skipped of it
-pub long_line : {S : Type 0} (feed : Feed S) → IsFeed feed → (s t u : S) (bytes buffer : List ℕ) (r : Result LineRest ReadFault) (o : Result LineRead ReadFault) → ReadsLinePart feed s bytes t → 4096 < length bytes → Skips feed t r u → IsLong r o → ReadsLine feed s o buffer u
+pub long_line : {S : Type 0} (feed : Feed S) → IsFeed feed → (s t u : S) (bytes buffer : List ℕ) (r : Result LineRest ReadFault) (o : Result LineRead ReadFault) → ReadsLinePart feed s bytes t → max_line_bytes < length bytes → Skips feed t r u → IsLong r o → ReadsLine feed s o buffer u
 long_line feed is s t u bytes buffer (Ok rests.Empty) (Ok line.TooLong) h l k w = (bytes ++ [], part-whole_after feed is s t u bytes [] h k, omega (arith, length-append bytes []))
 long_line feed is s t u bytes buffer (Ok rests.Bytes) (Ok line.TooLong) h l k w = (bytes ++ k.0, part-whole_after feed is s t u bytes k.0 h k.1, omega (arith, length-append bytes k.0))
 long_line feed is s t u bytes buffer (Ok rests.Cut) (Ok line.Cut) h l k w = (bytes ++ k.0, part-after feed is s t u bytes k.0 h k.1, omega (arith, length-append bytes k.0), k.2)

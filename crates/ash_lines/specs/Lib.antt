@@ -4,6 +4,9 @@ pub mod Reading
 pub mod Lines
 pub mod Words
 pub mod ParsedLines
+pub mod FaultNames
+pub mod RefusalTexts
+pub mod ObjectTexts
 pub mod Replies
 pub mod Reader
 pub mod Writer

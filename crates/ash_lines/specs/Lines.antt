@@ -3,10 +3,9 @@ use Rattle.std.specs.Prelude.{◌≡◌, ℕ, ◌+◌, ◌*◌, ◌-◌, ◌^◌
 use Rattle.std.specs.Prelude.{List, [], ◌∷◌, length, take, drop, codes, Option, Some, None, option_map, pos, neg_ℤ}
 use Rattle.std.specs.List.{list_all}
 use Rattle.std.specs.Str.{bytes_eq}
-use Rattle.ash_meaning.specs.declared.request.Argument.{Argument}
-use Rattle.ash_meaning.specs.declared.request.Argument.TheVariants.{Truth, Number}
-use Rattle.ash_meaning.specs.State.{Request, Call, Discard, Global, Seq, Snapshot}
-use Rattle.ash_meaning.specs.State as state
+use Rattle.ash_steps.specs.declared.argument.Argument.{Argument}
+use Rattle.ash_steps.specs.declared.argument.Argument.TheVariants.{Truth, Number}
+use Rattle.ash_steps.specs.Requests.{Request, Load, Call, Discard, Get, Object, Seq, Snapshot}
 
 -- What one request asks: something of the host, or to end the run. Or it is no request, or its line is too long.
 pub data Line : Type 0 where
@@ -19,6 +18,10 @@ pub data Line : Type 0 where
 abbrev pub GoesOn : Line → Type 0
 GoesOn Quit = ⊥
 GoesOn _ = Unit {0}
+
+-- the most bytes of a line, its line feed not counted
+abbrev pub max_line_bytes : ℕ
+max_line_bytes = 4096
 
 -- The bytes before the first line feed, and those after it.
 unfoldable pub cut_line : List ℕ → Option (List ℕ × List ℕ)
@@ -55,23 +58,32 @@ abbrev pub value_after : ℕ → List ℕ → ℕ
 value_after number [] = number
 value_after number (digit ∷ digits) = value_after (10 * number + (digit - 48)) digits
 
--- 1 to 20 digits
+-- the most digits of a number
+abbrev pub max_digits : ℕ
+max_digits = 20
+
+-- a number is 1 to 20 digits
 abbrev pub is_number : List ℕ → Bool
-is_number word = nat_lt 0 (length word) && (nat_le (length word) 20 && list_all is_digit word)
+is_number word = nat_lt 0 (length word) && (nat_le (length word) max_digits && list_all is_digit word)
 
 unfoldable pub number_of : List ℕ → Option ℕ
 number_of word = if is_number word then Some (value_after 0 word) else None
 
+-- a number, where it is below a bound
+abbrev pub if_below : ℕ → ℕ → Option ℕ
+if_below bound number = if nat_lt number bound then Some number else None
+
+abbrev pub number_below : ℕ → Option ℕ → Option ℕ
+number_below bound None = None
+number_below bound (Some number) = if_below bound number
+
 -- a number of bytes, below 2^32
-abbrev pub below_length : ℕ → Option ℕ
-below_length number = if nat_lt number (2 ^ 32) then Some number else None
-
-abbrev pub length_in : Option ℕ → Option ℕ
-length_in None = None
-length_in (Some number) = below_length number
-
 unfoldable pub length_of : List ℕ → Option ℕ
-length_of word = length_in (number_of word)
+length_of word = number_below (2 ^ 32) (number_of word)
+
+-- the number of an object, below 2^64
+unfoldable pub object_number_of : List ℕ → Option ℕ
+object_number_of word = number_below (2 ^ 64) (number_of word)
 
 -- an argument that is no truth value: a number, with a sign or without one
 abbrev pub signed_of : List ℕ → Option Argument
@@ -93,6 +105,10 @@ both _ _ = None
 unfoldable pub arguments_of : List (List ℕ) → Option (List Argument)
 arguments_of [] = Some []
 arguments_of (word ∷ words) = both (argument_of word) (arguments_of words)
+
+-- more arguments than a line has room for
+abbrev pub max_arguments : ℕ
+max_arguments = 4097
 
 -- Lines.
 
@@ -121,15 +137,25 @@ abbrev pub parse_call : List (List ℕ) → ParsedLine
 parse_call (module_name ∷ function ∷ words) = call_request module_name function (arguments_of words)
 parse_call _ = Complete BadRequest
 
--- get NAME GLOBAL
-abbrev pub parse_get : List (List ℕ) → ParsedLine
-parse_get (module_name ∷ name ∷ []) = Complete (HostRequest (Global module_name name))
-parse_get _ = Complete BadRequest
-
 -- discard NAME
 abbrev pub parse_discard : List (List ℕ) → ParsedLine
 parse_discard (name ∷ []) = Complete (HostRequest (Discard name))
 parse_discard _ = Complete BadRequest
+
+-- get NAME GLOBAL
+abbrev pub parse_get : List (List ℕ) → ParsedLine
+parse_get (module_name ∷ name ∷ []) = Complete (HostRequest (Get module_name name))
+parse_get _ = Complete BadRequest
+
+-- a look at an object, if its number is one
+abbrev pub object_request : Option ℕ → ParsedLine
+object_request None = Complete BadRequest
+object_request (Some number) = Complete (HostRequest (Object number))
+
+-- object N
+abbrev pub parse_object : List (List ℕ) → ParsedLine
+parse_object (number ∷ []) = object_request (object_number_of number)
+parse_object _ = Complete BadRequest
 
 -- a request of one word
 abbrev pub parse_lone : Line → List (List ℕ) → ParsedLine
@@ -140,8 +166,9 @@ abbrev pub parse_verb : List ℕ → List (List ℕ) → ParsedLine
 parse_verb verb words =
     if bytes_eq verb (codes "load") then parse_load words
     else if bytes_eq verb (codes "call") then parse_call words
-    else if bytes_eq verb (codes "get") then parse_get words
     else if bytes_eq verb (codes "discard") then parse_discard words
+    else if bytes_eq verb (codes "get") then parse_get words
+    else if bytes_eq verb (codes "object") then parse_object words
     else if bytes_eq verb (codes "seq") then parse_lone (HostRequest Seq) words
     else if bytes_eq verb (codes "snapshot") then parse_lone (HostRequest Snapshot) words
     else if bytes_eq verb (codes "quit") then parse_lone Quit words
@@ -166,16 +193,12 @@ pub data Next : Type 0 where
 -- After a source its line ends; where it goes on, the rest of it is skipped and there was no request.
 abbrev pub after_source : List ℕ → List ℕ → Option (List ℕ × List ℕ) → Next
 after_source name source None = Cut
-after_source name source (Some ([], more)) = Whole (HostRequest (state.Load name source)) more
+after_source name source (Some ([], more)) = Whole (HostRequest (Load name source)) more
 after_source name source (Some (byte ∷ line, more)) = Whole BadRequest more
 
 abbrev pub after_line : ParsedLine → List ℕ → Next
 after_line (Complete line) more = Whole line more
 after_line (LoadHeader name length) more = after_source name (take length more) (cut_line (drop length more))
-
--- the most bytes of a line
-abbrev pub max_line_bytes : ℕ
-max_line_bytes = 4096
 
 abbrev pub on_line : Option (List ℕ × List ℕ) → Next
 on_line None = Cut

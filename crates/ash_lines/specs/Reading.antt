@@ -1,8 +1,10 @@
 -- What is read of a line.
-use Rattle.std.specs.Prelude.{◌≡◌, ◌<◌, ◌≤◌, ℕ, ◌==◌, not, Bool, true, List, [], ◌∷◌, ◌++◌, length, take, Result, Ok}
-use Rattle.std.specs.Prelude.{Err}
+use Rattle.std.specs.Prelude.{◌≡◌, ◌<◌, ◌≤◌, ℕ, ◌+◌, ◌==◌, not, Bool, true, List, [], ◌∷◌, ◌++◌, length, take, Result}
+use Rattle.std.specs.Prelude.{Ok, Err}
 use Rattle.std.specs.List.{list_all}
+use Rattle.ash_lex.specs.Tokens.{max_source_bytes}
 use Rattle.ash_lines.specs.Source.{Feed, Faults}
+use Rattle.ash_lines.specs.Lines.{max_line_bytes}
 use Rattle.ash_lines.specs.declared.source.ReadFault.{ReadFault}
 use Rattle.ash_lines.specs.declared.bytes.BytesRead.{BytesRead}
 use Rattle.ash_lines.specs.declared.bytes.BytesRead.TheVariants as bytes_read
@@ -45,9 +47,9 @@ HasSkipped _ bytes = bytes ≡ []
 
 -- How reading a line ended, and what the buffer has of it.
 abbrev pub ReadsLine : {S : Type 0} → Feed S → S → Result LineRead ReadFault → List ℕ → S → Type 0
-ReadsLine feed old (Ok line.Whole) buffer new = ReadsWholeLine feed old buffer new × (length buffer ≤ 4096)
+ReadsLine feed old (Ok line.Whole) buffer new = ReadsWholeLine feed old buffer new × (length buffer ≤ max_line_bytes)
 ReadsLine feed old (Ok line.TooLong) buffer new =
-    (bytes : List ℕ) × ReadsWholeLine feed old bytes new × (4096 < length bytes)
+    (bytes : List ℕ) × ReadsWholeLine feed old bytes new × (max_line_bytes < length bytes)
 ReadsLine feed old (Ok line.End) buffer new = feed.reads old [] new × feed.ended new
 ReadsLine feed old (Ok line.Cut) buffer new =
     (bytes : List ℕ) × ReadsLinePart feed old bytes new × (0 < length bytes) × feed.ended new
@@ -61,9 +63,13 @@ IsLong (Ok rests.Bytes) (Ok line.TooLong) = Unit {0}
 IsLong (Err fault) (Err other) = fault ≡ other
 IsLong _ _ = ⊥
 
--- what is stored of a source: no more than its first 65,537 bytes, by which it is seen to be too long
+-- the most bytes that are stored of a source: one more than a source may have, by which it is seen to be too long
+abbrev pub max_prefix_bytes : ℕ
+max_prefix_bytes = max_source_bytes + 1
+
+-- what is stored of a source
 unfoldable pub source_prefix : List ℕ → List ℕ
-source_prefix source = take 65537 source
+source_prefix source = take max_prefix_bytes source
 
 -- Whether so many bytes came before the end, and what was stored of them.
 abbrev pub ReadsBytes : {S : Type 0} → Feed S → S → Result BytesRead ReadFault → ℕ → List ℕ → S → Type 0

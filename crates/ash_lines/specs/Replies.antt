@@ -1,143 +1,44 @@
 -- The text of replies.
-use Rattle.std.specs.Prelude.{ℕ, true, false, List, [], ◌∷◌, ◌++◌, map, codes, string_bytes, Option, Some, None}
+use Rattle.std.specs.Prelude.{ℕ, Bool, true, false, if◌then◌else◌, List, [], ◌∷◌, ◌++◌, codes, Option, Some, None}
 use Rattle.std.specs.Prelude.{decimal}
-use Rattle.std.specs.Fmt.{signed_decimal}
-use Rattle.std.specs.List.{flat_map}
+use Rattle.std.specs.List.{flat_map, list_any}
 use Rattle.ash_host.specs.declared.word.Word.{Word}
-use Rattle.ash_host.specs.declared.word.Word.TheVariants.{Bool, Int, Uint, Int64, Uint64, Null, Object}
-use Rattle.ash_subset.specs.declared.outcome.Exception.{Exception}
-use Rattle.ash_subset.specs.declared.outcome.Exception.TheVariants as exceptions
-use Rattle.ash_meaning.specs.Refusals.{Refusal}
-use Rattle.ash_meaning.specs.Refusals as refusals
-use Rattle.ash_parse.specs.declared.faults.UnsupportedPart.{UnsupportedPart}
-use Rattle.ash_parse.specs.Faults.{part_text}
+use Rattle.ash_host.specs.declared.event.Event.{Event}
+use Rattle.ash_host.specs.declared.event.Event.TheVariants.{Dropped}
+use Rattle.ash_phrases.specs.declared.exception.Exception.{Exception}
+use Rattle.ash_phrases.specs.declared.exception.Exception.TheVariants.{Raised}
+use Rattle.ash_phrases.specs.Exceptions.{name_of}
+use Rattle.ash_phrases.specs.Ends.{End, Finished, Threw, Aborted}
+use Rattle.ash_steps.specs.Requests.{Reply, Answered, Value, ShownAs, Number, Done, Refused}
+use Rattle.ash_plain_steps.specs.RequestViews.{reply_seen}
+use Rattle.ash_meaning.specs.SourceFaults.{SourceFault, fault_of}
+use Rattle.ash_lines.specs.ObjectTexts.{word_text, shown_text}
+use Rattle.ash_lines.specs.RefusalTexts.{refusal_text}
 use Rattle.ash_lines.specs.declared.reply.LineReply as code
 use Rattle.ash_lines.specs.declared.reply.LineReply.TheVariants as code_replies
-use Rattle.ash_lines.specs.declared.reply.Details as details
-use Rattle.ash_lines.specs.declared.reply.Details.TheVariants as the_details
-use Rattle.ash_subset.specs.Meaning.{End, Finished, Threw, Aborted}
-use Rattle.ash_meaning.specs.State.{Reply, Answered, Value, Number, Done, Refused, reply_of}
 
 -- the reply to a line: the host's, that the run ends, or why the line is no request
 pub data LineReply : Type 0 where
-  HostReply : (reply : Reply) → LineReply
+  HostReply : (reply : Reply SourceFault) → LineReply
   QuitReply : LineReply
   BadRequestReply : LineReply
   LineTooLongReply : LineReply
 
 -- what the code's reply to a line represents
 abbrev pub line_reply_of : code.LineReply → LineReply
-line_reply_of (code_replies.Host reply) = HostReply (reply_of reply)
+line_reply_of (code_replies.Host reply) = HostReply (reply_seen fault_of reply)
 line_reply_of code_replies.Quit = QuitReply
 line_reply_of code_replies.BadRequest = BadRequestReply
 line_reply_of code_replies.LineTooLong = LineTooLongReply
 
-abbrev pub word_text : Word → List ℕ
-word_text (Bool true) = codes "true"
-word_text (Bool false) = codes "false"
-word_text (Int number) = signed_decimal number
-word_text (Uint number) = decimal number
-word_text (Int64 number) = signed_decimal number
-word_text (Uint64 number) = decimal number
-word_text Null = codes "null"
-word_text (Object number) = codes "object " ++ decimal number
+-- the code that a host object raised, with a blank before it; another exception has none
+abbrev pub raised_text : Exception → List ℕ
+raised_text (Raised code) = codes " " ++ decimal code
+raised_text _ = []
 
+-- an exception by its name
 abbrev pub exception_text : Exception → List ℕ
-exception_text exceptions.NullPointerAccess = codes "NullPointerAccess"
-exception_text exceptions.DivideByZero = codes "DivideByZero"
-exception_text exceptions.DivideOverflow = codes "DivideOverflow"
-exception_text exceptions.StackOverflow = codes "StackOverflow"
-exception_text exceptions.PoolEmpty = codes "PoolEmpty"
-exception_text exceptions.ObjectLimit = codes "ObjectLimit"
-exception_text exceptions.BadHostAnswer = codes "BadHostAnswer"
-exception_text (exceptions.Raised code) = codes "Raised " ++ decimal code
-exception_text exceptions.NumbersSpent = codes "NumbersSpent"
-
--- the number and the name of a refusal
-abbrev pub refusal_name : Refusal → List ℕ
-refusal_name (refusals.BadCharacter at) = codes "101 BadCharacter"
-refusal_name (refusals.UnclosedComment at) = codes "102 UnclosedComment"
-refusal_name (refusals.NumberTooLarge at) = codes "103 NumberTooLarge"
-refusal_name (refusals.Unexpected at) = codes "104 Unexpected"
-refusal_name (refusals.Unsupported word at) = codes "105 Unsupported"
-refusal_name (refusals.TooDeep at) = codes "106 TooDeep"
-refusal_name refusals.SourceTooLong = codes "107 SourceTooLong"
-refusal_name refusals.NotYet = codes "199 NotYet"
-refusal_name (refusals.UnknownName at) = codes "301 UnknownName"
-refusal_name (refusals.UnknownType at) = codes "302 UnknownType"
-refusal_name (refusals.NameTaken at) = codes "303 NameTaken"
-refusal_name (refusals.TypeMismatch at) = codes "304 TypeMismatch"
-refusal_name (refusals.WrongArgumentCount at) = codes "305 WrongArgumentCount"
-refusal_name (refusals.NotAssignable at) = codes "306 NotAssignable"
-refusal_name (refusals.NoReturn at) = codes "307 NoReturn"
-refusal_name (refusals.Misplaced at) = codes "308 Misplaced"
-refusal_name (refusals.CyclicType names) = codes "309 CyclicType"
-refusal_name (refusals.NoFactory at) = codes "310 NoFactory"
-refusal_name (refusals.TooMany at) = codes "311 TooMany"
-refusal_name (refusals.ConstantOutOfRange at) = codes "312 ConstantOutOfRange"
-refusal_name (refusals.DuplicateCase at) = codes "313 DuplicateCase"
-refusal_name refusals.NoModule = codes "401 NoModule"
-refusal_name refusals.ModuleTaken = codes "402 ModuleTaken"
-refusal_name refusals.NoFunction = codes "403 NoFunction"
-refusal_name refusals.BadArguments = codes "405 BadArguments"
-refusal_name refusals.NoGlobal = codes "406 NoGlobal"
-refusal_name refusals.TooManyModules = codes "408 TooManyModules"
-refusal_name refusals.BadName = codes "409 BadName"
-refusal_name refusals.SequenceSpent = codes "410 SequenceSpent"
-refusal_name refusals.DeviceFailed = codes "507 DeviceFailed"
-refusal_name refusals.Reopen = codes "508 Reopen"
-refusal_name refusals.NoMemory = codes "509 NoMemory"
-refusal_name refusals.GenerationSpent = codes "511 GenerationSpent"
-
--- what a refusal reports of a source: an offset in it, the word of a part that the profile doesn't have, or classes by
--- name
-pub data Details : Type 0 where
-  Nothing : Details
-  At : (at : ℕ) → Details
-  WordAt : (word : UnsupportedPart) → (at : ℕ) → Details
-  Names : (names : List (List ℕ)) → Details
-
-abbrev pub details_in : Refusal → Details
-details_in (refusals.BadCharacter at) = At at
-details_in (refusals.UnclosedComment at) = At at
-details_in (refusals.NumberTooLarge at) = At at
-details_in (refusals.Unexpected at) = At at
-details_in (refusals.Unsupported word at) = WordAt word at
-details_in (refusals.TooDeep at) = At at
-details_in (refusals.UnknownName at) = At at
-details_in (refusals.UnknownType at) = At at
-details_in (refusals.NameTaken at) = At at
-details_in (refusals.TypeMismatch at) = At at
-details_in (refusals.WrongArgumentCount at) = At at
-details_in (refusals.NotAssignable at) = At at
-details_in (refusals.NoReturn at) = At at
-details_in (refusals.Misplaced at) = At at
-details_in (refusals.CyclicType names) = Names names
-details_in (refusals.NoFactory at) = At at
-details_in (refusals.TooMany at) = At at
-details_in (refusals.ConstantOutOfRange at) = At at
-details_in (refusals.DuplicateCase at) = At at
-details_in _ = Nothing
-
--- what the code's details represent
-abbrev pub details_of : details.Details → Details
-details_of the_details.Nothing = Nothing
-details_of (the_details.At at) = At at
-details_of (the_details.WordAt word at) = WordAt word at
-details_of (the_details.Names names) = Names (map string_bytes names.now)
-
--- names, with a blank before each
-abbrev pub names_text : List (List ℕ) → List ℕ
-names_text names = flat_map (λ name. codes " " ++ name) names
-
-abbrev pub details_text : Details → List ℕ
-details_text Nothing = []
-details_text (At at) = codes " " ++ decimal at
-details_text (WordAt word at) = codes " " ++ (part_text word ++ (codes " " ++ decimal at))
-details_text (Names names) = names_text names
-
-abbrev pub refusal_text : Refusal → List ℕ
-refusal_text refusal = refusal_name refusal ++ details_text (details_in refusal)
+exception_text exception = name_of exception ++ raised_text exception
 
 -- where a run ended: a function of the script, and the line in it
 abbrev pub place_text : List ℕ → ℕ → List ℕ
@@ -157,12 +58,31 @@ end_text (Aborted function line) = codes "aborted" ++ place_text function line
 abbrev pub seq_text : ℕ → List ℕ
 seq_text seq = codes " seq " ++ decimal seq
 
-abbrev pub reply_text : Reply → List ℕ
-reply_text (Answered end seq) = end_text end ++ seq_text seq
+-- whether a host object was dropped
+abbrev pub is_drop : Event → Bool
+is_drop (Dropped number) = true
+is_drop _ = false
+
+-- the number of a host object that was dropped, with a blank before it; another event has no text
+abbrev pub drop_text : Event → List ℕ
+drop_text (Dropped number) = codes " " ++ decimal number
+drop_text _ = []
+
+-- the numbers of the host objects that were dropped, in the order in which they were, if there are any
+abbrev pub drops_text : List Event → List ℕ
+drops_text events = if list_any is_drop events then codes " dropped" ++ flat_map drop_text events else []
+
+-- an answer: how the run ended, how many requests have been answered, and which host objects were dropped
+abbrev pub answer_text : End → ℕ → List Event → List ℕ
+answer_text end seq events = end_text end ++ (seq_text seq ++ drops_text events)
+
+abbrev pub reply_text : Reply SourceFault → List ℕ
+reply_text (Answered end seq events) = answer_text end seq events
 reply_text (Value word) = codes "ok " ++ word_text word
+reply_text (ShownAs shown) = shown_text shown
 reply_text (Number seq) = codes "ok " ++ decimal seq
 reply_text Done = codes "ok"
-reply_text (Refused refusal) = codes "refused " ++ refusal_text refusal
+reply_text (Refused refusal) = refusal_text refusal
 
 abbrev pub line_reply_text : LineReply → List ℕ
 line_reply_text (HostReply reply) = reply_text reply

@@ -2,13 +2,21 @@
 //! bytes and any sink.
 //!
 //! `source` and `sink` are what both ends give; `line`, `words`, `number`, `request_line` and `bytes` read a request;
-//! `reply` writes the text of a reply; `reader` and `writer` are a source and a sink over std's traits.
+//! `reply` writes the text of a reply, by `answer`, `object`, and `refusal` with `faults` (the numbers and names of the
+//! faults of sources) and `details` (what they report), in `pieces`; `reader` and `writer` are a source and a sink over
+//! std's traits.
 #![tactic(auto)]
 
+mod answer;
 pub mod bytes;
+mod details;
+mod faults;
 pub mod line;
 mod number;
+mod object;
+mod pieces;
 pub mod reader;
+mod refusal;
 pub mod reply;
 pub mod request_line;
 pub mod sink;

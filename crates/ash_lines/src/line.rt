@@ -1,6 +1,7 @@
 // Reading a line of the input.
 
 ghost use Rattle.std.specs.Prelude.{◌≤◌, vec_capacity, Result};
+ghost use Rattle.ash_lines.specs.Lines.{max_line_bytes};
 ghost use Rattle.ash_lines.specs.Reading.{Skips, IsLong, ReadsLine};
 ghost use Rattle.ash_lines.specs.declared.source.ReadFault.{ReadFault};
 ghost use Rattle.ash_lines.specs.declared.line.LineRest.{LineRest};
@@ -52,9 +53,9 @@ pub fn skip_line<S: Source>(input: &mut S) -> Result<LineRest, ReadFault>
 
 /// Reads a line into the buffer, in place of what it had. A line of more than 4,096 bytes is skipped.
 pub fn read_line<S: Source>(input: &mut S, line: &mut Vec<u8>) -> Result<LineRead, ReadFault>
-    requires room { 4096 ≤ vec_capacity line.old }
+    requires room { max_line_bytes ≤ vec_capacity line.old }
     ensures read { ReadsLine S.feed input.old result line.new.items input.new }
-    ensures room { 4096 ≤ vec_capacity line.new }
+    ensures room { max_line_bytes ≤ vec_capacity line.new }
 {
     line.clear();
     'bytes: loop {

@@ -3,9 +3,10 @@
 ghost use Rattle.std.specs.Prelude.{◌≡◌, ◌<◌, ◌^◌, IfSome};
 ghost use Rattle.std.specs.List.{list_all};
 ghost use Rattle.std.specs.Str.{bytes_eq};
-ghost use Rattle.ash_lines.specs.Lines.{is_digit, is_number, number_of, length_of, signed_of, argument_of};
+ghost use Rattle.ash_lines.specs.Lines.{is_digit, is_number, number_of, length_of, object_number_of};
+ghost use Rattle.ash_lines.specs.Lines.{signed_of, argument_of};
 
-use ash_meaning::request::Argument;
+use ash_steps::Argument;
 
 /// The most digits of a number.
 const MAX_DIGITS: usize = 20;
@@ -25,6 +26,19 @@ pub(crate) fn parse_length(word: &[u8]) -> Option<u32>
     let number = parse_number(word)?;
     if number < 1 << 32 {
         Some(number as u32)
+    } else {
+        None
+    }
+}
+
+/// The number of an object, below 2^64.
+#[tactic(auto, unfolding(crate::specs::Lines::object_number_of))]
+pub(crate) fn parse_object_number(word: &[u8]) -> Option<u64>
+    ensures value { result ≡ object_number_of word.now }
+{
+    let number = parse_number(word)?;
+    if number < 1 << 64 {
+        Some(number as u64)
     } else {
         None
     }

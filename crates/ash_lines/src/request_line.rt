@@ -1,29 +1,29 @@
 // What a line asks.
 
-ghost use Rattle.std.specs.Prelude.{◌≡◌, ◌≤◌, ◌∷◌, [], true, List, Some, None, length, MatchOption};
+ghost use Rattle.std.specs.Prelude.{◌≡◌, ◌≤◌, ◌∷◌, [], true, Some, None, length, drop, MatchOption};
 ghost use Rattle.std.specs.Prelude.{vec_capacity, if◌then◌else◌};
 ghost use Rattle.std.specs.List.{list_all};
-ghost use Rattle.ash_meaning.specs.declared.request.Argument.{Argument};
 ghost use Rattle.ash_lines.specs.Lines.{Line, Complete, is_word, arguments_of, parse_line, parse_verb};
-ghost use Rattle.ash_lines.specs.Lines.{parse_load, parse_call, parse_get, parse_discard, parse_lone};
+ghost use Rattle.ash_lines.specs.Lines.{max_line_bytes, max_arguments, parse_load, parse_call, parse_discard};
+ghost use Rattle.ash_lines.specs.Lines.{parse_get, parse_object, parse_lone};
 ghost use Rattle.ash_lines.specs.Words.{words_left};
-ghost use Rattle.ash_lines.specs.ParsedLines.{parsed_of, IsNotOneWord, IsNotTwoWords};
+ghost use Rattle.ash_lines.specs.ParsedLines.{parsed_of, arguments_in, given, IsNotOneWord, IsNotTwoWords};
 
-use crate::number::{is_same, parse_argument, parse_length};
+use crate::line::MAX_LINE_BYTES;
+use crate::number::{is_same, parse_argument, parse_length, parse_object_number};
 use crate::words::{Words, is_all_words};
-use ash_meaning::request::{Argument, Request};
+use ash_plain_steps::request::Request;
+use ash_steps::Argument;
 use std::str;
 
 /// More arguments than a line has room for.
-pub const MAX_ARGUMENTS: usize = 4097;
+pub const MAX_ARGUMENTS: usize = MAX_LINE_BYTES + 1;
 
 /// What a line asks, as far as it is in the line.
 #[derive(Clone, Copy)]
 pub enum ParsedLine<'a> {
     /// A request of the host, all of it.
     Request(Request<'a>),
-    /// A call with the arguments that were stored.
-    Call { module: &'a str, function: &'a str },
     /// A load of the source that follows the line.
     Load(LoadHeader<'a>),
     Quit,
@@ -38,12 +38,24 @@ pub struct LoadHeader<'a> {
     pub length: u32,
 }
 
-/// What a line asks. The arguments of a call are stored in place of what the buffer had.
-pub fn parse_line<'a>(line: &'a [u8], arguments: &mut Vec<Argument>) -> ParsedLine<'a>
-    requires short { length line.now ≤ 4096 }
-    requires room { 4097 ≤ vec_capacity arguments.old }
-    ensures parsed { parsed_of result arguments.new.items ≡ parse_line line.now }
-    ensures room { 4097 ≤ vec_capacity arguments.new }
+/// Stores the arguments of a call, which are the words of the line after the third, in place of what the buffer had.
+/// Whether each of these words is an argument.
+pub fn store_arguments(line: &[u8], arguments: &mut Vec<Argument>) -> bool
+    requires short { length line.now ≤ max_line_bytes }
+    requires room { max_arguments ≤ vec_capacity arguments.old }
+    ensures stored { arguments_in line.now
+        ≡ (if result then Some arguments.new.items else None) }
+    ensures room { max_arguments ≤ vec_capacity arguments.new }
+{
+    let words = Words::of(line);
+    let rest = words.after_next().after_next().after_next();
+    parse_arguments(rest, arguments)
+}
+
+/// What a line asks, which has these arguments, if each of its words after the third is one.
+pub fn parse_line<'a>(line: &'a [u8], arguments: Option<&'a [Argument]>) -> ParsedLine<'a>
+    requires given { given arguments ≡ arguments_in line.now }
+    ensures parsed { parsed_of result ≡ parse_line line.now }
 {
     if !is_all_words(line) {
         return ParsedLine::BadRequest;
@@ -55,22 +67,25 @@ pub fn parse_line<'a>(line: &'a [u8], arguments: &mut Vec<Argument>) -> ParsedLi
     }
 }
 
-fn parse_verb<'a>(verb: &[u8], words: Words<'a>, arguments: &mut Vec<Argument>) -> ParsedLine<'a>
+fn parse_verb<'a>(
+    verb: &[u8],
+    words: Words<'a>,
+    arguments: Option<&'a [Argument]>,
+) -> ParsedLine<'a>
     requires words { list_all is_word (words_left words.rest) ≡ true }
-    requires short { length (words_left words.rest) ≤ 4097 }
-    requires room { 4097 ≤ vec_capacity arguments.old }
-    ensures parsed { parsed_of result arguments.new.items
-        ≡ parse_verb verb.now (words_left words.entry.rest) }
-    ensures room { 4097 ≤ vec_capacity arguments.new }
+    requires given { given arguments ≡ arguments_of (drop 2 (words_left words.rest)) }
+    ensures parsed { parsed_of result ≡ parse_verb verb.now (words_left words.entry.rest) }
 {
     if is_same(verb, b"load") {
         parse_load(words)
     } else if is_same(verb, b"call") {
         parse_call(words, arguments)
-    } else if is_same(verb, b"get") {
-        parse_get(words)
     } else if is_same(verb, b"discard") {
         parse_discard(words)
+    } else if is_same(verb, b"get") {
+        parse_get(words)
+    } else if is_same(verb, b"object") {
+        parse_object(words)
     } else if is_same(verb, b"seq") {
         parse_lone(ParsedLine::Request(Request::Seq), words)
     } else if is_same(verb, b"snapshot") {
@@ -84,9 +99,8 @@ fn parse_verb<'a>(verb: &[u8], words: Words<'a>, arguments: &mut Vec<Argument>) 
 
 /// A request of one word, if that is all of the line.
 fn parse_lone<'a>(request: ParsedLine<'a>, words: Words<'_>) -> ParsedLine<'a>
-    ensures parsed { (line : Line) (arguments : List Argument)
-        → parsed_of request.entry arguments ≡ Complete line
-        → parsed_of result arguments ≡ parse_lone line (words_left words.entry.rest) }
+    ensures parsed { (line : Line) → parsed_of request.entry ≡ Complete line
+        → parsed_of result ≡ parse_lone line (words_left words.entry.rest) }
 {
     if words.is_empty() {
         request
@@ -97,8 +111,7 @@ fn parse_lone<'a>(request: ParsedLine<'a>, words: Words<'_>) -> ParsedLine<'a>
 
 fn parse_load<'a>(words: Words<'a>) -> ParsedLine<'a>
     requires words { list_all is_word (words_left words.rest) ≡ true }
-    ensures parsed { (arguments : List Argument)
-        → parsed_of result arguments ≡ parse_load (words_left words.entry.rest) }
+    ensures parsed { parsed_of result ≡ parse_load (words_left words.entry.rest) }
 {
     match two_words(words) {
         None => ParsedLine::BadRequest,
@@ -109,35 +122,10 @@ fn parse_load<'a>(words: Words<'a>) -> ParsedLine<'a>
     }
 }
 
-fn parse_get<'a>(words: Words<'a>) -> ParsedLine<'a>
+fn parse_call<'a>(mut words: Words<'a>, arguments: Option<&'a [Argument]>) -> ParsedLine<'a>
     requires words { list_all is_word (words_left words.rest) ≡ true }
-    ensures parsed { (arguments : List Argument)
-        → parsed_of result arguments ≡ parse_get (words_left words.entry.rest) }
-{
-    match two_words(words) {
-        None => ParsedLine::BadRequest,
-        Some((module, name)) => ParsedLine::Request(Request::Global { module, name }),
-    }
-}
-
-fn parse_discard<'a>(words: Words<'a>) -> ParsedLine<'a>
-    requires words { list_all is_word (words_left words.rest) ≡ true }
-    ensures parsed { (arguments : List Argument)
-        → parsed_of result arguments ≡ parse_discard (words_left words.entry.rest) }
-{
-    match one_word(words) {
-        None => ParsedLine::BadRequest,
-        Some(name) => ParsedLine::Request(Request::Discard { name }),
-    }
-}
-
-fn parse_call<'a>(mut words: Words<'a>, arguments: &mut Vec<Argument>) -> ParsedLine<'a>
-    requires words { list_all is_word (words_left words.rest) ≡ true }
-    requires short { length (words_left words.rest) ≤ 4097 }
-    requires room { 4097 ≤ vec_capacity arguments.old }
-    ensures parsed { parsed_of result arguments.new.items
-        ≡ parse_call (words_left words.entry.rest) }
-    ensures room { 4097 ≤ vec_capacity arguments.new }
+    requires given { given arguments ≡ arguments_of (drop 2 (words_left words.rest)) }
+    ensures parsed { parsed_of result ≡ parse_call (words_left words.entry.rest) }
 {
     let Some(module) = words.next() else {
         return ParsedLine::BadRequest;
@@ -145,23 +133,56 @@ fn parse_call<'a>(mut words: Words<'a>, arguments: &mut Vec<Argument>) -> Parsed
     let Some(function) = words.next() else {
         return ParsedLine::BadRequest;
     };
-    if parse_arguments(words, arguments) {
-        ParsedLine::Call {
+    match arguments {
+        None => ParsedLine::BadRequest,
+        Some(arguments) => ParsedLine::Request(Request::Call {
             module: word_str(module),
             function: word_str(function),
-        }
-    } else {
-        ParsedLine::BadRequest
+            arguments,
+        }),
+    }
+}
+
+fn parse_discard<'a>(words: Words<'a>) -> ParsedLine<'a>
+    requires words { list_all is_word (words_left words.rest) ≡ true }
+    ensures parsed { parsed_of result ≡ parse_discard (words_left words.entry.rest) }
+{
+    match one_word(words) {
+        None => ParsedLine::BadRequest,
+        Some(module) => ParsedLine::Request(Request::Discard { module }),
+    }
+}
+
+fn parse_get<'a>(words: Words<'a>) -> ParsedLine<'a>
+    requires words { list_all is_word (words_left words.rest) ≡ true }
+    ensures parsed { parsed_of result ≡ parse_get (words_left words.entry.rest) }
+{
+    match two_words(words) {
+        None => ParsedLine::BadRequest,
+        Some((module, name)) => ParsedLine::Request(Request::Get { module, name }),
+    }
+}
+
+fn parse_object<'a>(words: Words<'a>) -> ParsedLine<'a>
+    requires words { list_all is_word (words_left words.rest) ≡ true }
+    ensures parsed { parsed_of result ≡ parse_object (words_left words.entry.rest) }
+{
+    match one_word(words) {
+        None => ParsedLine::BadRequest,
+        Some(word) => match parse_object_number(word.as_bytes()) {
+            None => ParsedLine::BadRequest,
+            Some(number) => ParsedLine::Request(Request::Object { number }),
+        },
     }
 }
 
 /// Whether each word is an argument. They are stored, up to a word that is none.
 fn parse_arguments(mut words: Words<'_>, arguments: &mut Vec<Argument>) -> bool
-    requires short { length (words_left words.rest) ≤ 4097 }
-    requires room { 4097 ≤ vec_capacity arguments.old }
+    requires short { length (words_left words.rest) ≤ max_arguments }
+    requires room { max_arguments ≤ vec_capacity arguments.old }
     ensures read { arguments_of (words_left words.entry.rest)
         ≡ (if result then Some arguments.new.items else None) }
-    ensures room { 4097 ≤ vec_capacity arguments.new }
+    ensures room { max_arguments ≤ vec_capacity arguments.new }
 {
     arguments.clear();
     while let Some(word) = words.next() {

@@ -4,15 +4,11 @@ use Rattle.std.proofs.Common.{Option, Some, None, Ok, Err, Result, inl, inr, ⊎
 use Rattle.std.proofs.lemmas.List.{append-nil, take_all, take_at}
 use Rattle.std.specs.Io.KnownBytes.{Consumes, IsAtEnd, Appends, Keeps}
 use Rattle.ash_registry.specs.Registrations.{Registration}
-use Rattle.ash_meaning.specs.declared.fault.SourceError.{SourceError}
-use Rattle.ash_meaning.specs.declared.fault.SourceError.TheVariants as errors
-use Rattle.ash_meaning.specs.Refusals.{Refusal}
-use Rattle.ash_meaning.specs.CheckedSource.{CheckResult}
-use Rattle.ash_meaning.specs.SourceFaults.{TakesMemoryFor, RefusesAs}
+use Rattle.ash_meaning.specs.SourceFaults.{SourceFault}
 use Rattle.ash_lines.specs.Source.{Feed}
 use Rattle.ash_lines.specs.Sink.{Outlet}
-use Rattle.ash_lines.specs.Reading.{source_prefix, ReadsBytes}
-use Rattle.ash_serve.specs.Serving.{fault_of}
+use Rattle.ash_lines.specs.Reading.{max_prefix_bytes, source_prefix, ReadsBytes}
+use Rattle.ash_serve.specs.Serving.{run_fault}
 use Rattle.ash_serve.specs.CheckRun.{verdict_line, verdict_on, verdict_status, ending_of, Judges, WritesVerdict}
 use Rattle.ash_serve.specs.CheckRun.{ReadsScript, ChecksScript, IsScriptOf, ChecksFile, EndsCheck}
 use Rattle.ash_serve.specs.Program.{ending_status, end_of}
@@ -30,28 +26,23 @@ use Rattle.ash_serve.specs.declared.program.fault.Fault.{Fault}
 use Rattle.ash_serve.specs.declared.program.fault.Fault.TheVariants as program
 
 -- so few bytes are all stored
-prefix-whole : (bytes : List ℕ) → length bytes ≤ 65537 → source_prefix bytes ≡ bytes
+prefix-whole : (bytes : List ℕ) → length bytes ≤ max_prefix_bytes → source_prefix bytes ≡ bytes
 unfolding source_prefix
-prefix-whole bytes h = take_all 65537 bytes h
+prefix-whole bytes h = take_all max_prefix_bytes bytes h
 
-prefix-exact : (start rest : List ℕ) → length start ≡ 65537 → source_prefix (start ++ rest) ≡ start
+prefix-exact : (start rest : List ℕ) → length start ≡ max_prefix_bytes → source_prefix (start ++ rest) ≡ start
 unfolding source_prefix
-prefix-exact start rest e = take_at start rest 65537 e
-
--- Judging a source.
-
-pub takes_memory : (outcome : CheckResult) (error : SourceError) → RefusesAs outcome error → error ≡ errors.NoMemory → TakesMemoryFor outcome
-takes_memory outcome error h is = subst (RefusesAs outcome) is h
+prefix-exact start rest e = take_at start rest max_prefix_bytes e
 
 -- Over a source and a sink.
 
 -- what is stored of 65,537 bytes, or of fewer where the source ends, is the script
-pub script_read : {S : Type 0} (feed : Feed S) (s t : S) (came : BytesRead) (prefix : List ℕ) → ReadsBytes feed s (Ok came) 65537 prefix t → ReadsScript feed s prefix t
+pub script_read : {S : Type 0} (feed : Feed S) (s t : S) (came : BytesRead) (prefix : List ℕ) → ReadsBytes feed s (Ok came) max_prefix_bytes prefix t → ReadsScript feed s prefix t
 script_read feed s t bytes_read.All prefix h = subst (λ (x : List ℕ). ReadsScript feed s x t) (sym (h.3 ∙ prefix-whole h.0 (omega (arith, h.2)))) (h.1, inl h.2)
 script_read feed s t bytes_read.Cut prefix h = subst (λ (x : List ℕ). ReadsScript feed s x t) (sym (h.4 ∙ prefix-whole h.0 (omega (arith, h.2)))) (h.1, inr (h.2, h.3))
 
 -- a read failed before that
-pub script_unread : {S K : Type 0} (feed : Feed S) (outlet : Outlet K) (registered : List Registration) (s t : S) (k : K) (fault : ReadFault) (prefix : List ℕ) → ReadsBytes feed s (Err fault) 65537 prefix t → ChecksScript feed outlet registered s k (Err (program.Run (fault_of fault))) t k
+pub script_unread : {S K : Type 0} (feed : Feed S) (outlet : Outlet K) (registered : List Registration) (s t : S) (k : K) (fault : ReadFault) (prefix : List ℕ) → ReadsBytes feed s (Err fault) max_prefix_bytes prefix t → ChecksScript feed outlet registered s k (Err (program.Run (run_fault fault))) t k
 script_unread feed outlet registered s t k read_faults.TooLong prefix h = (h.0, h.2, h.1, refl)
 script_unread feed outlet registered s t k read_faults.Failed prefix h = (h.0, h.2, h.1, refl)
 
@@ -64,9 +55,9 @@ script_unjudged feed outlet registered s t k script (program.Store fault) h j = 
 script_unjudged feed outlet registered s t k script (program.Run fault) h j = absurd j
 
 -- the script was read, and the verdict on it was written
-pub script_reported : {S K : Type 0} (feed : Feed S) (outlet : Outlet K) (registered : List Registration) (s t : S) (k o : K) (script : List ℕ) (verdict : Option Refusal) (r : Result Ending Fault) → ReadsScript feed s script t → verdict ≡ verdict_on registered script → WritesVerdict outlet k verdict r o → ChecksScript feed outlet registered s k r t o
-script_reported feed outlet registered s t k o script verdict (Ok ending) h e w = (script, h, subst (λ (x : Option Refusal). WritesVerdict outlet k x (Ok ending) o) e w)
-script_reported feed outlet registered s t k o script verdict (Err (program.Run faults.Write)) h e w = (script, h, subst (λ (x : Option Refusal). WritesVerdict outlet k x (Err (program.Run faults.Write)) o) e w)
+pub script_reported : {S K : Type 0} (feed : Feed S) (outlet : Outlet K) (registered : List Registration) (s t : S) (k o : K) (script : List ℕ) (verdict : Option SourceFault) (r : Result Ending Fault) → ReadsScript feed s script t → verdict ≡ verdict_on registered script → WritesVerdict outlet k verdict r o → ChecksScript feed outlet registered s k r t o
+script_reported feed outlet registered s t k o script verdict (Ok ending) h e w = (script, h, subst (λ (x : Option SourceFault). WritesVerdict outlet k x (Ok ending) o) e w)
+script_reported feed outlet registered s t k o script verdict (Err (program.Run faults.Write)) h e w = (script, h, subst (λ (x : Option SourceFault). WritesVerdict outlet k x (Err (program.Run faults.Write)) o) e w)
 script_reported feed outlet registered s t k o script verdict (Err (program.Run faults.Truncated)) h e w = absurd w
 script_reported feed outlet registered s t k o script verdict (Err (program.Run faults.TooLong)) h e w = absurd w
 script_reported feed outlet registered s t k o script verdict (Err (program.Run faults.Read)) h e w = absurd w
@@ -78,13 +69,13 @@ script_reported feed outlet registered s t k o script verdict (Err (program.Stor
 
 -- Over a reader and a writer.
 
-script_of : (file left : Option (List ℕ)) (script : List ℕ) → Consumes file left script → (length script ≡ 65537) ⊎ ((length script < 65537) × IsAtEnd left) → IsScriptOf file script
+script_of : (file left : Option (List ℕ)) (script : List ℕ) → Consumes file left script → (length script ≡ max_prefix_bytes) ⊎ ((length script < max_prefix_bytes) × IsAtEnd left) → IsScriptOf file script
 script_of None left script h r = tt
 script_of (Some xs) None script h r = absurd h
 script_of (Some xs) (Some ys) script h r =
     ⊎_elim
-    (λ (full : length script ≡ 65537). sym (ap source_prefix h ∙ prefix-exact script ys full))
-    (λ (e : (length script < 65537) × (ys ≡ [])).
+    (λ (full : length script ≡ max_prefix_bytes). sym (ap source_prefix h ∙ prefix-exact script ys full))
+    (λ (e : (length script < max_prefix_bytes) × (ys ≡ [])).
     let all : xs ≡ script = h ∙ (ap (λ (y : List ℕ). script ++ y) e.1 ∙ append-nil script) in
     sym (ap source_prefix all ∙ prefix-whole script (omega (arith, e.0))))
     r
@@ -142,9 +133,9 @@ file_checked remaining contents registered s t k o file r before x e a b n f w =
 
 -- The program ends by the verdict.
 
-status-verdict : (verdict : Option Refusal) → ending_status (ending_of verdict) ≡ verdict_status verdict
+status-verdict : (verdict : Option SourceFault) → ending_status (ending_of verdict) ≡ verdict_status verdict
 status-verdict None = refl
-status-verdict (Some refusal) = refl
+status-verdict (Some fault) = refl
 
 pub ends_check : (registered : List Registration) (file before after : Option (List ℕ)) (r : Result Ending Fault) → ChecksFile registered file before r after → EndsCheck registered file before (end_of r) after
 ends_check registered file before after (Ok ending) h = (h.0, h.1, ap ending_status h.2 ∙ status-verdict (verdict_on registered h.0), h.3)

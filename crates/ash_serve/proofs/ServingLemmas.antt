@@ -1,6 +1,6 @@
 -- A run, request by request.
 use Rattle.std.proofs.Common.{◌≡◌, ◌<◌, ℕ, true, false, List, [], ◌∷◌, ◌++◌, length, refl, sym, ap, ◌∙◌, subst, arith}
-use Rattle.std.proofs.Common.{append_assoc, Some, None, Ok, Err}
+use Rattle.std.proofs.Common.{append_assoc, Option, Some, None, Result, Ok, Err}
 use Rattle.std.proofs.lemmas.List.{append-nil}
 use Rattle.std.specs.List.{AllByRecursion}
 use Rattle.ash_lines.specs.Source.{Feed, IsFeed}
@@ -14,6 +14,10 @@ use Rattle.ash_serve.specs.Serving.{OngoingLog, Serves, EndsByFault, EndsBetween
 use Rattle.ash_serve.specs.declared.fault.RunFault.{RunFault}
 use Rattle.ash_serve.specs.declared.fault.RunFault.TheVariants as faults
 use Rattle.ash_lines.specs.declared.reply.LineReply as code
+
+-- by another name of the budget
+pub by_budget : {S H : Type 0} (feed : Feed S) (handles : RequestRelation H) (b budget : ℕ) (s t : S) (h j : H) (r : Result (Option code.LineReply) RunFault) → b ≡ budget → HandlesNext feed handles b s h r t j → HandlesNext feed handles budget s h r t j
+by_budget feed handles b budget s t h j r e w = subst (λ (x : ℕ). HandlesNext feed handles x s h r t j) e w
 
 -- how a run ends, by what reading and handling the next request did
 

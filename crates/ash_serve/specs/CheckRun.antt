@@ -3,14 +3,13 @@ use Rattle.std.specs.Prelude.{◌≡◌, ◌<◌, ◌⊎◌, ℕ, List, [], ◌�
 use Rattle.std.specs.Prelude.{Result, Ok, Err, IfSome}
 use Rattle.std.specs.Io.KnownBytes.{Appends, Keeps}
 use Rattle.ash_registry.specs.Registrations.{Registration}
-use Rattle.ash_meaning.specs.declared.refusal.Refusal as code
-use Rattle.ash_meaning.specs.Refusals.{Refusal, refusal_of, refusal_for}
-use Rattle.ash_meaning.specs.SourceFaults.{TakesMemoryFor}
+use Rattle.ash_meaning.specs.declared.fault.SourceFault as code
+use Rattle.ash_meaning.specs.SourceFaults.{SourceFault, fault_of, TakesMemoryFor}
 use Rattle.ash_meaning.specs.CheckedSource.{CheckResult, checked_source}
 use Rattle.ash_lines.specs.Source.{Feed, Faults}
 use Rattle.ash_lines.specs.Sink.{Outlet, WritesAll, FailsPartway}
-use Rattle.ash_lines.specs.Reading.{source_prefix}
-use Rattle.ash_lines.specs.Replies.{refusal_text}
+use Rattle.ash_lines.specs.Reading.{max_prefix_bytes, source_prefix}
+use Rattle.ash_lines.specs.RefusalTexts.{fault_text}
 use Rattle.ash_lines.specs.declared.source.ReadFault.TheVariants as read_faults
 use Rattle.ash_serve.specs.declared.fault.RunFault.TheVariants as faults
 use Rattle.ash_serve.specs.declared.program.ending.End.{End}
@@ -20,43 +19,44 @@ use Rattle.ash_serve.specs.declared.program.fault.Fault.{Fault}
 use Rattle.ash_serve.specs.declared.program.fault.Fault.TheVariants as program
 
 -- the text of the verdict on a script: `ok`, or its refusal as the reply to a `load` has it
-abbrev pub verdict_text : Option Refusal → List ℕ
+abbrev pub verdict_text : Option SourceFault → List ℕ
 verdict_text None = codes "ok"
-verdict_text (Some refusal) = codes "refused " ++ refusal_text refusal
+verdict_text (Some fault) = fault_text fault
 
 -- the verdict as a line
-abbrev pub verdict_line : Option Refusal → List ℕ
+abbrev pub verdict_line : Option SourceFault → List ℕ
 verdict_line verdict = verdict_text verdict ++ 10 ∷ []
 
 -- how the program ends by the verdict
-abbrev pub ending_of : Option Refusal → Ending
+abbrev pub ending_of : Option SourceFault → Ending
 ending_of None = endings.Well
-ending_of (Some refusal) = endings.Refused
+ending_of (Some fault) = endings.Refused
 
 -- what the code's verdict represents
-abbrev pub verdict_of : Option code.Refusal → Option Refusal
-verdict_of verdict = option_map refusal_of verdict
+abbrev pub verdict_of : Option code.SourceFault → Option SourceFault
+verdict_of verdict = option_map fault_of verdict
 
 -- why a source is refused, if it is
-abbrev pub refusal_in : CheckResult → Option Refusal
-refusal_in (Ok items) = None
-refusal_in (Err fault) = Some (refusal_for fault)
+abbrev pub fault_in : CheckResult → Option SourceFault
+fault_in (Ok items) = None
+fault_in (Err fault) = Some fault
 
-abbrev pub verdict_on : List Registration → List ℕ → Option Refusal
-verdict_on registered source = refusal_in (checked_source registered source)
+abbrev pub verdict_on : List Registration → List ℕ → Option SourceFault
+verdict_on registered source = fault_in (checked_source registered source)
 
 -- It may take memory to judge any source but one that is too long.
 abbrev pub TakesMemory : List Registration → List ℕ → Type 0
 TakesMemory registered source = TakesMemoryFor (checked_source registered source)
 
 -- Judging a source gave why it is refused, if it is, or there was no memory.
-abbrev pub Judges : List Registration → List ℕ → Result (Option code.Refusal) Fault → Type 0
+abbrev pub Judges : List Registration → List ℕ → Result (Option code.SourceFault) Fault → Type 0
 Judges registered source (Ok verdict) = verdict_of verdict ≡ verdict_on registered source
 Judges registered source (Err program.NoMemory) = TakesMemory registered source
 Judges registered source (Err _) = ⊥
 
 -- The verdict was written, and this is how the program ends by it; or a write failed.
-abbrev pub WritesVerdict : {K : Type 0} → Outlet K → K → Option Refusal → Result Ending Fault → K → Type 0
+abbrev pub WritesVerdict : {K : Type 0} → Outlet K → K → Option SourceFault → Result Ending Fault → K
+    → Type 0
 WritesVerdict outlet old verdict (Ok ending) new =
     (ending ≡ ending_of verdict) × WritesAll outlet old (verdict_line verdict) new
 WritesVerdict outlet old verdict (Err (program.Run faults.Write)) new =
@@ -66,7 +66,7 @@ WritesVerdict outlet old verdict (Err _) new = ⊥
 -- A script was read: all that a source gives, or the first 65,537 bytes, by which it is seen to be too long.
 abbrev pub ReadsScript : {S : Type 0} → Feed S → S → List ℕ → S → Type 0
 ReadsScript feed old script new =
-    feed.reads old script new × ((length script ≡ 65537) ⊎ ((length script < 65537) × feed.ended new))
+    feed.reads old script new × ((length script ≡ max_prefix_bytes) ⊎ ((length script < max_prefix_bytes) × feed.ended new))
 
 -- The script of a source was read and the verdict on it was written; or a read or a write failed, or there was no
 -- memory.
@@ -79,9 +79,9 @@ ChecksScript feed outlet registered s k (Err (program.Run faults.Write)) s' k' =
     (script : List ℕ) × ReadsScript feed s script s'
     × FailsPartway outlet k (verdict_line (verdict_on registered script)) k'
 ChecksScript feed outlet registered s k (Err (program.Run faults.Read)) s' k' =
-    (script : List ℕ) × (length script < 65537) × Faults feed s script read_faults.Failed s' × (k' ≡ k)
+    (script : List ℕ) × (length script < max_prefix_bytes) × Faults feed s script read_faults.Failed s' × (k' ≡ k)
 ChecksScript feed outlet registered s k (Err (program.Run faults.TooLong)) s' k' =
-    (script : List ℕ) × (length script < 65537) × Faults feed s script read_faults.TooLong s' × (k' ≡ k)
+    (script : List ℕ) × (length script < max_prefix_bytes) × Faults feed s script read_faults.TooLong s' × (k' ≡ k)
 ChecksScript {S} feed outlet registered s k (Err program.NoMemory) s' k' =
     ((s' ≡ s) ⊎ ((script : List ℕ) × ReadsScript feed s script s' × TakesMemory registered script)) × (k' ≡ k)
 ChecksScript feed outlet registered s k (Err _) s' k' = ⊥
@@ -105,9 +105,9 @@ ChecksFile registered file before (Err program.NoMemory) after = Keeps before af
 ChecksFile registered file before (Err _) after = ⊥
 
 -- The status that the program ends with once it has written this line: 1 for a refusal.
-abbrev pub verdict_status : Option Refusal → ℕ
+abbrev pub verdict_status : Option SourceFault → ℕ
 verdict_status None = 0
-verdict_status (Some refusal) = 1
+verdict_status (Some fault) = 1
 
 -- What a check of a file comes to as a program, by the fault that it writes on standard error, if there is one. With
 -- none, the line for the script is on standard output, and the status is that of the line. A fault has the status 1,

@@ -1,4 +1,4 @@
-pub mod Buffers
+pub mod Session
 pub mod Serving
 pub mod LongSources
 pub mod Running

@@ -3,7 +3,8 @@ use Rattle.std.specs.Prelude.{◌≡◌, ◌<◌, ◌≤◌, ◌⊎◌, ℕ, ◌
 use Rattle.std.specs.Prelude.{IfSome}
 use Rattle.std.specs.List.{AllByRecursion}
 use Rattle.std.specs.Io.KnownBytes.{Appends, Keeps}
-use Rattle.ash_meaning.specs.State.{Request, Reply}
+use Rattle.ash_steps.specs.Requests.{Request, Reply}
+use Rattle.ash_meaning.specs.SourceFaults.{SourceFault}
 use Rattle.ash_lines.specs.Lines.{Line, HostRequest, Quit, GoesOn, Cut, next, ConsistsOf, is_unfinished}
 use Rattle.ash_lines.specs.Replies.{LineReply, HostReply, reply_line, text_of}
 use Rattle.ash_serve.specs.Serving.{RequestRelation, RepliesToAll}
@@ -17,7 +18,7 @@ host_requests (HostRequest request ∷ lines) = request ∷ host_requests lines
 host_requests (_ ∷ lines) = host_requests lines
 
 -- the replies of the host among those to lines
-abbrev pub host_replies : List LineReply → List Reply
+abbrev pub host_replies : List LineReply → List (Reply SourceFault)
 host_replies [] = []
 host_replies (HostReply reply ∷ replies) = reply ∷ host_replies replies
 host_replies (_ ∷ replies) = host_replies replies

@@ -1,7 +1,8 @@
 -- A run: requests are read and handled, and the replies are written, one after another.
 use Rattle.std.specs.Prelude.{◌≡◌, ◌⊎◌, ℕ, Bool, true, false, List, [], ◌∷◌, ◌++◌, Result, Ok, Err, Option, Some, None}
 use Rattle.std.specs.List.{AllByRecursion}
-use Rattle.ash_meaning.specs.State.{Request, Load, Reply}
+use Rattle.ash_steps.specs.Requests.{Request, Load, Reply}
+use Rattle.ash_meaning.specs.SourceFaults.{SourceFault}
 use Rattle.ash_lines.specs.Source.{Feed, Faults}
 use Rattle.ash_lines.specs.Reading.{source_prefix}
 use Rattle.ash_lines.specs.Sink.{Outlet, WritesAll, FailsPartway}
@@ -16,27 +17,27 @@ use Rattle.ash_serve.specs.declared.fault.RunFault.{RunFault}
 use Rattle.ash_serve.specs.declared.fault.RunFault.TheVariants as faults
 
 -- a fault of the source as the fault of the run
-abbrev pub fault_of : ReadFault → RunFault
-fault_of read_faults.TooLong = faults.TooLong
-fault_of read_faults.Failed = faults.Read
+abbrev pub run_fault : ReadFault → RunFault
+run_fault read_faults.TooLong = faults.TooLong
+run_fault read_faults.Failed = faults.Read
 
 -- What a host of one type may do with a request: by a budget in ticks and the request, from the host before it, to
 -- the reply and the host after it.
 abbrev pub RequestRelation : Type 0 → Type 1
-RequestRelation H = ℕ → Request → H → Reply → H → Type 0
+RequestRelation H = ℕ → Request → H → Reply SourceFault → H → Type 0
 
 -- A source that is too long is so whatever its bytes are: what may be replied to its prefix may be replied to all of
 -- it.
 abbrev pub DependsOnPrefix : {H : Type 0} → RequestRelation H → Type 0
 DependsOnPrefix {H} handles =
-    (budget : ℕ) (name source : List ℕ) (old new : H) (reply : Reply)
+    (budget : ℕ) (name source : List ℕ) (old new : H) (reply : Reply SourceFault)
     → handles budget (Load name (source_prefix source)) old reply new → handles budget (Load name source) old reply new
 
 -- What holds of a host before a request holds of it afterwards.
 abbrev pub Preserves : {H : Type 0} → RequestRelation H → (H → Type 0) → Type 0
 Preserves {H} handles holds =
-    (budget : ℕ) (request : Request) (old new : H) (reply : Reply) → handles budget request old reply new → holds old
-    → holds new
+    (budget : ℕ) (request : Request) (old new : H) (reply : Reply SourceFault)
+    → handles budget request old reply new → holds old → holds new
 
 -- The reply to a line: what the host replies to its request, or one that leaves the host as it is.
 abbrev pub RepliesTo : {H : Type 0} → RequestRelation H → ℕ → H → Line → LineReply → H → Type 0

@@ -27,9 +27,9 @@ pub enum RunFault {
 
 impl From<ReadFault> for RunFault {
     ghost use Rattle.std.specs.Prelude.{◌≡◌};
-    ghost use Rattle.ash_serve.specs.Serving.{fault_of};
+    ghost use Rattle.ash_serve.specs.Serving.{run_fault};
 
-    ghost from_gives = { λ read fault. fault ≡ fault_of read };
+    ghost from_gives = { λ read fault. fault ≡ run_fault read };
 
     fn from(fault: ReadFault) -> Self {
         match fault {

@@ -1,13 +1,15 @@
 // What handles requests.
 
 ghost use Rattle.ash_durable.specs.Hosting.{Handles};
-ghost use Rattle.ash_meaning.specs.State.{request_of, reply_of};
+ghost use Rattle.ash_plain_steps.specs.RequestViews.{request_seen, reply_seen};
+ghost use Rattle.ash_meaning.specs.SourceFaults.{fault_of};
 ghost use Rattle.ash_serve.specs.Serving.{RequestRelation, DependsOnPrefix};
 ghost use Rattle.ash_serve.specs.LongSources.{handles_by_prefix};
 
 use ash_disk::Disk;
 use ash_durable::Host;
-use ash_meaning::request::{Reply, Request};
+use ash_meaning::fault::SourceFault;
+use ash_plain_steps::request::{Reply, Request};
 
 /// A host, as the loop uses it.
 pub trait RequestHandler {
@@ -15,9 +17,9 @@ pub trait RequestHandler {
     ghost handles: { RequestRelation Self };
 
     /// Handles one request, with a budget in ticks.
-    fn handle(&mut self, request: &Request, budget: u64) -> Reply
-        ensures handled { handles budget (request_of request.now) self.old (reply_of result)
-            self.new };
+    fn handle(&mut self, request: &Request, budget: u64) -> Reply<SourceFault>
+        ensures handled { handles budget (request_seen request.now) self.old
+            (reply_seen fault_of result) self.new };
 
     /// A source that is too long is refused whatever bytes come after its prefix.
     ghost depends_on_prefix: { DependsOnPrefix handles };
@@ -28,7 +30,7 @@ impl<D: Disk> RequestHandler for Host<D> {
 
     ghost depends_on_prefix = { handles_by_prefix _ };
 
-    fn handle(&mut self, request: &Request, budget: u64) -> Reply {
+    fn handle(&mut self, request: &Request, budget: u64) -> Reply<SourceFault> {
         Host::handle(self, request, budget)
     }
 }

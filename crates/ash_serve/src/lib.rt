@@ -3,17 +3,16 @@
 //! requests of which the input consists, which are a run of the written steps up to the first answer that is lost, each
 //! written before the next request is read.
 //!
-//! `handler` is what handles requests: the host. `serve` is the loop: `request` reads a request into the `buffers` and
+//! `handler` is what handles requests: the host. `serve` is the loop: a `session` reads a request into its buffers and
 //! has the host handle it, and `ash_lines` writes the reply. `run` is that loop over std's traits. `program` has what
 //! `ashd` does with its words; there `check` reads a script, has it checked, and writes the verdict.
 #![tactic(auto)]
 
-mod buffers;
 pub mod fault;
 pub mod handler;
 pub mod program;
-mod request;
 pub mod run;
 pub mod serve;
+mod session;
 
 pub use fault::RunFault;

@@ -4,10 +4,9 @@ ghost use Rattle.std.specs.Prelude.{◌≡◌, []};
 ghost use Rattle.ash_lines.specs.Replies.{line_reply_of};
 ghost use Rattle.ash_serve.specs.Serving.{Serves, ends_run};
 
-use crate::buffers::Buffers;
 use crate::fault::RunFault;
 use crate::handler::RequestHandler;
-use crate::request::handle_next;
+use crate::session::Session;
 use ash_lines::reply::{LineReply, write_line_reply};
 use ash_lines::sink::Sink;
 use ash_lines::source::Source;
@@ -26,9 +25,9 @@ pub fn serve<S: Source, K: Sink, H: RequestHandler>(
     ensures serves { Serves S.feed K.outlet H.handles budget input.old output.old host.old result
         input.new output.new host.new }
 {
-    let mut buffers = Buffers::new(alloc)?;
+    let mut session = Session::new(alloc, budget)?;
     'requests: loop {
-        let Some(reply) = handle_next(input, host, budget, &mut buffers)? else {
+        let Some(reply) = session.handle_next(input, host)? else {
             return Ok(());
         };
         write_line_reply(output, &reply)?;

@@ -1,11 +1,13 @@
 //! Requests and their replies, byte for byte, of a host whose disk fails, and of one that is opened again after a
 //! crash.
 
-use crate::hosts::{check, check_text, closed, created, new_host, opened, replies};
+use crate::hosts::{
+    check, check_text, closed, crashed, created, new_host, opened, opened_after_crash, replies,
+};
 use ash_disk::{FailingDisk, MemoryDisk, Survives};
 use ash_durable::{Host, StoreFault};
 use ash_registry::Registry;
-use std::alloc::{AllocError, Global};
+use std::alloc::Global;
 use std::process::Abort;
 use std::test::Fail;
 
@@ -199,17 +201,6 @@ fn first_example(alloc: Global) -> Result<(MemoryDisk, MemoryDisk), Fail> {
     Ok(closed(host))
 }
 
-/// What a crash after so many calls leaves of a disk.
-fn crashed(
-    alloc: Global,
-    disk: &MemoryDisk,
-    calls: usize,
-    survives: Survives,
-) -> Result<MemoryDisk, AllocError> {
-    let image = disk.crash_image(calls.min(disk.calls()), survives)?;
-    MemoryDisk::with_bytes(alloc, &image)
-}
-
 /// What is replied after a crash, and after a second one, where the first disk has had so many calls.
 fn replies_after(
     alloc: Global,
@@ -221,10 +212,7 @@ fn replies_after(
     let b = crashed(alloc, &disks.1, usize::MAX, survives)?;
     let mut host = opened(alloc, a, b, Registry::new(alloc))?;
     let mut all = replies(alloc, &mut host, b"get m n\nseq\ncall m f 1\n")?;
-    let (a, b) = closed(host);
-    let a = crashed(alloc, &a, usize::MAX, Survives::Nothing)?;
-    let b = crashed(alloc, &b, usize::MAX, Survives::Nothing)?;
-    let mut host = opened(alloc, a, b, Registry::new(alloc))?;
+    let mut host = opened_after_crash(alloc, host, Registry::new(alloc))?;
     all.push_str(&replies(alloc, &mut host, b"get m n\nseq\n")?)?;
     Ok(all)
 }

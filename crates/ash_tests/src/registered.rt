@@ -1,10 +1,8 @@
 //! Stores with what the program registers, which are opened again, with another registry too.
 
-use crate::hosts::{check, closed, new_host, opened};
+use crate::hosts::{check, check_text, closed, new_host, opened, replies};
 use ash_disk::MemoryDisk;
 use ash_durable::{Host, StoreFault};
-use ash_host::Word;
-use ash_meaning::refusal::Refusal;
 use ash_registry::{Registry, RegistryFault};
 use ash_serve::program::registrations::registrations;
 use std::alloc::{AllocError, Global};
@@ -14,7 +12,7 @@ use std::test::Fail;
 /// The file of a host that has no module, nothing registered, and has answered no request.
 static EMPTY: [u8; 51] = [
     0x01, 0x41, 0x53, 0x48, 0x4f, 0x53, 0x54, 0x30, 0x31, 0x01, 0x00, 0x00, 0x00, 0x00, 0x00, 0x00,
-    0x00, 0x1d, 0x00, 0x00, 0x00, 0x01, 0x00, 0x00, 0x00, 0x00, 0x00, 0x00, 0x00, 0x00, 0x00, 0x00,
+    0x00, 0x1d, 0x00, 0x00, 0x00, 0x02, 0x00, 0x00, 0x00, 0x00, 0x00, 0x00, 0x00, 0x00, 0x00, 0x00,
     0x00, 0x00, 0x00, 0x00, 0x00, 0x00, 0x00, 0x00, 0x00, 0x00, 0x00, 0x00, 0x00, 0x00, 0x00, 0x00,
     0x00, 0x00, 0x00,
 ];
@@ -55,21 +53,6 @@ fn refusal_with_program(alloc: Global, file: &[u8]) -> Result<Option<StoreFault>
     refusal(alloc, file, registrations(alloc)?)
 }
 
-/// Loads a source as the module `m`.
-fn load(host: &mut Host<MemoryDisk>, source: &str) -> Result<u64, Refusal> {
-    host.load("m", source.as_bytes(), 1000)
-        .map(|answer| answer.seq)
-}
-
-/// The number of a host, and its global `n`.
-fn state(host: &Host<MemoryDisk>) -> (u64, Option<i32>) {
-    let number = match host.global("m", "n") {
-        Ok(Word::Int(number)) => Some(number),
-        _ => None,
-    };
-    (host.seq(), number)
-}
-
 fn reopened(host: Host<MemoryDisk>) -> Result<Host<MemoryDisk>, StoreFault> {
     host.reopen().map_err(|refused| refused.fault)
 }
@@ -78,7 +61,7 @@ fn reopened(host: Host<MemoryDisk>) -> Result<Host<MemoryDisk>, StoreFault> {
 /// one method more.
 fn refused_disks(rt: &impl Abort, alloc: Global) -> Result<(MemoryDisk, MemoryDisk), Fail> {
     let mut host = made(alloc)?;
-    load(&mut host, "int n = 2;")?;
+    replies(alloc, &mut host, b"load m 10\nint n = 2;\n")?;
     let (first, second) = closed(host);
     match Host::open(alloc, first, second, one_more(alloc)?) {
         Ok(_) => Err("opened with another registry".into()),
@@ -93,8 +76,9 @@ fn refused_disks(rt: &impl Abort, alloc: Global) -> Result<(MemoryDisk, MemoryDi
 fn one_more_method_is_another_interface(rt: HostRuntime) -> Result<(), Fail> {
     let alloc = rt.alloc();
     let (first, second) = refused_disks(&rt, alloc)?;
-    let host = opened(alloc, first, second, registrations(alloc)?)?;
-    check(&rt, &state(&host), &(1, Some(2)), "opened with its own");
+    let mut host = opened(alloc, first, second, registrations(alloc)?)?;
+    let found = replies(alloc, &mut host, b"seq\nget m n\n")?;
+    check_text(&rt, &found, "ok 1\nok 2\n", "opened with its own");
     // Nothing registered is another interface too, the other way round as well.
     let (first, _) = closed(host);
     let other = Some(StoreFault::OtherInterface);
@@ -122,8 +106,12 @@ fn one_more_method_is_another_interface(rt: HostRuntime) -> Result<(), Fail> {
 #[test]
 fn a_host_that_is_opened_again_has_what_was_registered(rt: HostRuntime) -> Result<(), Fail> {
     let mut host = reopened(made(rt.alloc())?)?;
-    let taken = load(&mut host, "int tally = 1;");
-    let wanted = Err(Refusal::NameTaken { at: 4 });
-    check(&rt, &taken, &wanted, "a registered name");
+    let found = replies(rt.alloc(), &mut host, b"load m 14\nint tally = 1;\n")?;
+    check_text(
+        &rt,
+        &found,
+        "refused 303 NameTaken 4\n",
+        "a registered name",
+    );
     Ok(())
 }

@@ -64,7 +64,7 @@ const INPUT: &[u8] =
 
 const OUTPUT: &str =
     "ok 0\nrefused 601 BadRequest\nrefused 401 NoModule\nrefused 401 NoModule\nrefused 104 Unexpected 3\n\
-    refused 601 BadRequest\nrefused 601 BadRequest\nrefused 601 BadRequest\nok\n";
+    refused 601 BadRequest\nrefused 407 NoObject\nrefused 601 BadRequest\nok\n";
 
 /// What is written where the store on two disks is served, and how that ends.
 fn served_stored(

@@ -11,18 +11,17 @@ use crate::run::MAX_BUFFERED_BYTES;
 use ash_durable::check_source;
 use ash_lines::bytes::{MAX_PREFIX_BYTES, read_bytes};
 use ash_lines::reader::Reader;
-use ash_lines::reply::{write_line, write_refusal_line};
+use ash_lines::reply::{write_fault_line, write_line};
 use ash_lines::sink::Sink;
 use ash_lines::source::Source;
 use ash_lines::writer::Writer;
-use ash_meaning::fault::SourceError;
-use ash_meaning::refusal::Refusal;
+use ash_meaning::fault::{SourceError, SourceFault};
 use ash_registry::Registry;
 use std::alloc::Global;
 use std::io::{Read, Write};
 
 /// How many bytes are read of a script, at the most: by so many it is seen to be too long.
-const MAX_SCRIPT_BYTES: u32 = 65_537;
+const MAX_SCRIPT_BYTES: u32 = MAX_PREFIX_BYTES as u32;
 
 /// Checks the script that a reader gives, with this registry, and writes a line, as `check_file`; and returns how the
 /// program ends by that: with the status 0 where the line is `ok`, else 1.
@@ -84,23 +83,23 @@ pub fn check_script<S: Source, K: Sink>(
 }
 
 /// Why this source is refused, if it is.
-fn judge(alloc: Global, registry: &Registry, source: &[u8]) -> Result<Option<Refusal>, Fault>
+fn judge(alloc: Global, registry: &Registry, source: &[u8]) -> Result<Option<SourceFault>, Fault>
     ensures verdict { Judges (registered registry.now) source.now result }
 {
     match check_source(alloc, registry, source) {
         Ok(()) => Ok(None),
         Err(SourceError::NoMemory) => Err(Fault::NoMemory),
-        Err(SourceError::Fault(fault)) => Ok(Some(fault.into())),
+        Err(SourceError::Fault(fault)) => Ok(Some(fault)),
     }
 }
 
 /// Writes the verdict on a script as a line, and returns how the program ends by it.
-fn write_verdict<K: Sink>(output: &mut K, verdict: &Option<Refusal>) -> Result<Ending, Fault>
+fn write_verdict<K: Sink>(output: &mut K, verdict: &Option<SourceFault>) -> Result<Ending, Fault>
     ensures line { WritesVerdict K.outlet output.old (verdict_of verdict.now) result output.new }
 {
     let (written, ending) = match verdict {
         None => (write_line(output, b"ok"), Ending::Well),
-        Some(refusal) => (write_refusal_line(output, refusal), Ending::Refused),
+        Some(fault) => (write_fault_line(output, fault), Ending::Refused),
     };
     match written {
         Ok(()) => Ok(ending),

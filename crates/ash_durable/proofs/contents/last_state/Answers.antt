@@ -1,11 +1,10 @@
 use Rattle.std.proofs.Common.{◌+◌, ◌∙◌, ℕ, List, Ok, drop, sym, subst}
 use Rattle.std.specs.List.{AllByRecursion}
-use Rattle.ash_image.specs.Image.{IsBody}
 use Rattle.ash_journal.specs.declared.record.Record.{Record}
 use Rattle.ash_journal.specs.Reading.{bodies_of}
 use Rattle.ash_registry.specs.Registrations.{Registration}
 use Rattle.ash_registry.specs.Text.{text_of}
-use Rattle.ash_durable.specs.States.{snapshot_of}
+use Rattle.ash_states.specs.Images.{IsBodyOf}
 use Rattle.ash_durable.specs.Contents.{IsBodyWith, LeadsOn, LeadsThrough}
 use Rattle.ash_durable.proofs.Reading.{left_from, through_more}
 use Rattle.ash_durable.proofs.contents.last_state.Goals as goal
@@ -21,8 +20,7 @@ loop-record-preserved c =
     left c.loop-record.invariant.shaped in
     let on : LeadsOn before.registered r.body.items r.gate (Ok next) = (
       c.in_ok-state.ensures.0 ∙ c.into_registry.ensures.same,
-      subst (λ (body : List ℕ). IsBody body (snapshot_of next)) c.deref.ensures.value c.in_ok-state.ensures.1,
-      c.in_ok-state.ensures.2,
+      subst (λ (body : List ℕ). IsBodyOf body next) c.deref.ensures.value c.in_ok-state.ensures.1,
     ) in
     record {
       shaped = subst (λ (of : List Registration). AllByRecursion (IsBodyWith (text_of of)) (bodies_of later)) (sym on.0)

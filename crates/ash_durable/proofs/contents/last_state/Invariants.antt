@@ -1,7 +1,7 @@
 use Rattle.std.proofs.Common.{Result, drop}
 use Rattle.std.specs.List.{AllByRecursion}
 use Rattle.ash_journal.specs.Reading.{bodies_of}
-use Rattle.ash_meaning.specs.State.{State}
+use Rattle.ash_states.specs.States.{HostState}
 use Rattle.ash_registry.specs.Text.{text_of}
 use Rattle.ash_durable.specs.Contents.{IsBodyWith, LeadsThrough}
 use Rattle.ash_durable.specs.declared.fault.StoreFault.{StoreFault}
@@ -11,6 +11,6 @@ use Rattle.ash_durable.proofs.contents.last_state.Given as goal
 abbrev pub invariant-loop-record : goal.invariant-loop-record
 invariant-loop-record l = record {
   shaped : AllByRecursion (IsBodyWith (text_of l.state.registered)) (bodies_of (drop l.record-index l.records));
-  leads : (result : Result State StoreFault) → LeadsThrough l.state (drop l.record-index l.records) result
+  leads : (result : Result HostState StoreFault) → LeadsThrough l.state (drop l.record-index l.records) result
       → LeadsThrough l.fn.first l.records result;
 }

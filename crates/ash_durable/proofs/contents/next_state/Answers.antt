@@ -1,16 +1,31 @@
-use Rattle.std.proofs.Common.{◌≡◌, ◌∙◌, ap}
-use Rattle.ash_image.specs.Image.{Snapshot, snapshot_read}
-use Rattle.ash_image.proofs.BodyLaws.{body_once}
+use Rattle.std.proofs.Common.{◌≡◌, ◌∙◌, true, false, ap}
 use Rattle.ash_registry.specs.Registered.{registered}
 use Rattle.ash_registry.specs.Text.{text_of}
-use Rattle.ash_durable.proofs.Reading.{leads_on}
+use Rattle.ash_state_image.specs.Snapshots.{Snapshot}
+use Rattle.ash_state_image.specs.Views.{snapshot_of}
+use Rattle.ash_durable.proofs.ContentsStates.{body_once}
+use Rattle.ash_durable.proofs.Reading.{image_shaped, leads_on, no_body_with}
 use Rattle.ash_durable.proofs.contents.next_state.Goals as goal
+
+pub restore-requires : goal.restore-requires
+restore-requires c =
+    let stored = c.in-Some.stored in
+    let is_body = rw c.in-Some.is at c.in_ok-stored.ensures.found in
+    image_shaped is_body.0 stored.version (snapshot_of stored.state) is_body.2
 
 pub returns-in-Some : goal.returns-in-Some
 returns-in-Some c =
-    let s = snapshot_read c.in-Some.stored in
+    let stored = c.in-Some.stored in
+    let s = snapshot_of stored.state in
     let is_body = rw c.in-Some.is at c.in_ok-stored.ensures.found in
     let text : s.registered ≡ text_of (registered c.args.registry) =
-    ap (λ (t : Snapshot). t.registered) (body_once c.args.body.now s c.requires.0 is_body c.requires.1) ∙ c.requires.2
-    in
-    leads_on (registered c.args.registry) c.args.body.now s c.args.gate c.restore.result is_body text c.restore.ensures
+    ap (λ (t : Snapshot). t.registered)
+    (body_once c.args.body.now stored.version c.requires.0 s c.requires.1 is_body c.requires.2) ∙ c.requires.3 in
+    leads_on (registered c.args.registry) c.args.body.now stored.version s c.args.gate c.restore.result is_body text
+    c.restore.ensures
+
+pub returns-in-None : goal.returns-in-None
+returns-in-None c =
+    let no : false ≡ true = (no_body_with (text_of (registered c.args.registry)) c.args.body.now
+    c.in_ok-stored.field-0 c.in-None.is c.in_ok-stored.ensures.only).1 c.requires in
+    absurd (cc)

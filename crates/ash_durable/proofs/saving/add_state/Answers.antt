@@ -1,8 +1,7 @@
-use Rattle.std.proofs.Common.{◌≡◌, ◌∙◌, List, ℕ, Err, ap, sym, subst}
+use Rattle.std.proofs.Common.{List, ℕ, Err, ap, sym, subst}
 use Rattle.ash_journal.specs.declared.error.AppendError.{AppendError}
-use Rattle.ash_image.specs.Image.{body_of}
-use Rattle.ash_durable.specs.States.{Leads, snapshot_of}
-use Rattle.ash_durable.proofs.Committing.{adds, adds_not}
+use Rattle.ash_states.specs.Images.{IsBodyOf}
+use Rattle.ash_durable.proofs.Committing.{leads_itself, adds, adds_not}
 use Rattle.ash_durable.proofs.Outcomes.{counts_as}
 use Rattle.ash_durable.proofs.saving.add_state.Goals as goal
 
@@ -10,12 +9,11 @@ pub returns-in-Ok : goal.returns-in-Ok
 returns-in-Ok g c =
     let state = c.args.state.now in
     let body = c.deref.result.now in
-    let leads : Leads body state state = subst (λ (bytes : List ℕ). Leads bytes state state) (sym c.deref.ensures.value)
-    c.in_ok-body.ensures.leads in
-    let body_is : body ≡ body_of (snapshot_of state) = c.deref.ensures.value ∙ c.in_ok-body.ensures.written in
+    let is_body : IsBodyOf body state = subst (λ (bytes : List ℕ). IsBodyOf bytes state) (sym c.deref.ensures.value)
+    c.in_ok-body.ensures.body in
     let said = c.in-Ok.ensures in
-    adds g.D.Disk state c.args.journal.now c.append.new.self body leads body_is said.extends said.acknowledged
-    (said.ready (λ is. cc)) said.number said.longer
+    adds g.D.Disk state c.args.journal.now c.append.new.self body (leads_itself body state is_body) said.extends
+    said.acknowledged (said.ready (λ is. cc)) said.number said.longer
     (record {
       failures = counts_as _ _ _ _ _ _ (λ is. cc) (λ no. absurd no) said.cause;
       honesty_first = said.honesty_first;
@@ -26,11 +24,12 @@ pub returns : goal.returns
 returns g c =
     let state = c.args.state.now in
     let body = c.deref.result.now in
-    let leads : Leads body state state = subst (λ (bytes : List ℕ). Leads bytes state state) (sym c.deref.ensures.value)
-    c.in_ok-body.ensures.leads in
+    let is_body : IsBodyOf body state = subst (λ (bytes : List ℕ). IsBodyOf bytes state) (sym c.deref.ensures.value)
+    c.in_ok-body.ensures.body in
     let said = c.in-Err-DeviceFailed.ensures in
     let is_failed = ap (λ (e : AppendError). Err e) c.in-Err-DeviceFailed.field-0-is in
-    adds_not g.D.Disk state c.args.journal.now c.append.new.self body leads said.extends (said.failed is_failed)
+    adds_not g.D.Disk state c.args.journal.now c.append.new.self body (leads_itself body state is_body) said.extends
+    (said.failed is_failed)
     (record {
       failures = counts_as _ _ _ _ _ _ (λ is. tt) (λ is. is_failed) said.cause;
       honesty_first = said.honesty_first;

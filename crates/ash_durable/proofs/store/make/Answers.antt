@@ -1,5 +1,5 @@
 use Rattle.std.proofs.Common.{List, ℕ, sym, subst}
-use Rattle.ash_durable.specs.States.{IsImageOf}
+use Rattle.ash_states.specs.Images.{IsImageOf}
 use Rattle.ash_durable.proofs.Making.{read_makes, made, not_made}
 use Rattle.ash_durable.proofs.store.make.Goals as goal
 

@@ -1,11 +1,13 @@
-use Rattle.ash_serve.specs.Buffers.{HasRoom}
+use Rattle.std.proofs.Common.{◌≡◌}
+use Rattle.ash_serve.specs.Session.{HasRoom}
 use Rattle.ash_serve.specs.Serving.{OngoingLog}
 use Rattle.ash_serve.proofs.serve.serve.Given as goal
 
 abbrev pub invariant-requests : goal.invariant-requests
 invariant-requests g l = record {
   log : OngoingLog g.S.Source.feed g.K.Sink.outlet g.H.RequestHandler.handles l.fn.budget l.fn.input l.fn.output l.fn.host l.input l.output l.host;
-  room : HasRoom l.buffers;
+  room : HasRoom l.session;
+  budget : l.session.budget ≡ l.fn.budget;
 }
 
 abbrev pub decreases-requests : goal.decreases-requests

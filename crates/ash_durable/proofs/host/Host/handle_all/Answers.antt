@@ -1,5 +1,6 @@
 use Rattle.std.proofs.Common.{rules, ◌≡◌, ◌++◌, ◌∷◌, [], arith}
-use Rattle.ash_meaning.specs.State.{request_of, reply_of}
+use Rattle.ash_plain_steps.specs.RequestViews.{request_seen, reply_seen}
+use Rattle.ash_meaning.specs.SourceFaults.{fault_of}
 use Rattle.ash_durable.proofs.GoingOn.{one_more, nothing_left}
 use Rattle.ash_durable.proofs.LivesOn.{lives_on}
 use Rattle.ash_durable.proofs.Running.{runs_to_failure}
@@ -9,14 +10,14 @@ pub loop-request-preserved : goal.loop-request-preserved
 loop-request-preserved g c = record {
   run = λ replies new rest.
       let grown : c.push.new.self.items ≡ c.loop-request.replies.items ++ c.handle.result ∷ [] = search rules in
-      one_more _ request_of reply_of _ _ _ _ new _ _ _ _ _ _ replies c.loop-request-test.true grown
+      one_more _ request_seen (reply_seen fault_of) _ _ _ _ new _ _ _ _ _ _ replies c.loop-request-test.true grown
       c.handle.ensures.handled c.loop-request.invariant.run rest;
   count = search rules;
   room = search rules;
 }
 
 pub returns-clause-run : goal.returns-clause-run
-returns-clause-run g c = nothing_left _ request_of reply_of _ _ _ _ _ _ (omega arith) c.loop-request.invariant.run
+returns-clause-run g c = nothing_left _ request_seen (reply_seen fault_of) _ _ _ _ _ _ (omega arith) c.loop-request.invariant.run
 
 pub returns-clause-defined : goal.returns-clause-defined
 returns-clause-defined g c = runs_to_failure _ _ _ _ _ _ (returns-clause-run g c)

@@ -1,6 +1,8 @@
 use Rattle.std.proofs.Common.{◌≡◌, List, ◌≤◌, length, drop, map, ◌++◌, vec_len}
 use Rattle.std.specs.Vec.{vec_capacity}
-use Rattle.ash_meaning.specs.State.{Reply, request_of, reply_of}
+use Rattle.ash_steps.specs.Requests.{Reply}
+use Rattle.ash_plain_steps.specs.RequestViews.{request_seen, reply_seen}
+use Rattle.ash_meaning.specs.SourceFaults.{SourceFault, fault_of}
 use Rattle.ash_durable.specs.Hosting.{Hosted, HandlesAll}
 use Rattle.ash_durable.proofs.host.Host.handle_all.Given as goal
 
@@ -9,9 +11,10 @@ abbrev pub invariant-loop-request : goal.invariant-loop-request
 invariant-loop-request g l =
     let device = g.D.Disk in
     record {
-      run : (replies : List Reply) (new : Hosted g.row.D.Denot)
-          → HandlesAll device l.budget l.self (map request_of (drop l.request-index l.requests)) replies new
-          → HandlesAll device l.budget l.fn.self (map request_of l.requests) (map reply_of l.replies.items ++ replies)
+      run : (replies : List (Reply SourceFault)) (new : Hosted g.row.D.Denot)
+          → HandlesAll device l.budget l.self (map request_seen (drop l.request-index l.requests)) replies new
+          → HandlesAll device l.budget l.fn.self (map request_seen l.requests)
+          (map (reply_seen fault_of) l.replies.items ++ replies)
           new;
       count : vec_len l.replies ≡ l.request-index;
       room : length l.requests ≤ vec_capacity l.replies;

@@ -3,10 +3,10 @@ use Rattle.ash_registry.specs.Registered.{registered}
 use Rattle.ash_durable.proofs.Opened.{opened}
 use Rattle.ash_durable.proofs.host.Host.open.Goals as goal
 
-pub returns-in-Ok : goal.returns-in-Ok
-returns-in-Ok g c = record {
-  opened = let state = c.in-Ok.found.state in
+pub returns : goal.returns
+returns g c = record {
+  opened = let state = c.in_ok-found.found.state in
       opened g.D.Disk g.met.D.Disk.seen_may_stay (registered c.args.registry) c.args.a c.args.b state
-      (record { registered = state.registered; state = Some state; seq = state.seq; journal = c.in-Ok.found.journal })
-      (record { registered_is = refl; state_is = refl; seq_is = refl }) c.in-Ok.ensures;
+      (record { registered = state.registered; state = Some state; seq = state.state.seq; journal = c.in_ok-found.found.journal })
+      (record { registered_is = refl; state_is = refl; seq_is = refl }) c.in_ok-found.ensures;
 }

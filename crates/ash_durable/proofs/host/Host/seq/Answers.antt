@@ -1,5 +1,5 @@
 use Rattle.std.proofs.Common.{rules, ◌≡◌, ℕ, unwrap_or, subst}
-use Rattle.ash_meaning.specs.State.{Seq, Number}
+use Rattle.ash_steps.specs.Requests.{Seq, Number}
 use Rattle.ash_durable.specs.Hosting.{Hosted, Handles}
 use Rattle.ash_durable.proofs.HandledRequests.{seen_host}
 use Rattle.ash_durable.proofs.Handling.{handles_seq}
@@ -8,7 +8,7 @@ use Rattle.ash_durable.proofs.host.Host.seq.Goals as goal
 pub returns-clause-handled : goal.returns-clause-handled
 returns-clause-handled g c =
     let device = g.D.Disk in
-    let is : unwrap_or c.self.inside.stopped c.self.inside.state.seq ≡ c.unwrap_or.result = search rules in
+    let is : unwrap_or c.self.inside.stopped c.self.inside.state.state.seq ≡ c.unwrap_or.result = search rules in
     λ budget. subst (λ (host : Hosted g.row.D.Denot). Handles device budget Seq host (Number c.unwrap_or.result) host)
     c.self.view_is
     (subst (λ (n : ℕ). Handles device budget Seq

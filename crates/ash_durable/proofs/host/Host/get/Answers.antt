@@ -1,0 +1,15 @@
+use Rattle.ash_steps.specs.Requests.{Get}
+use Rattle.ash_plain_steps.specs.RequestViews.{reply_seen}
+use Rattle.ash_meaning.specs.SourceFaults.{fault_of}
+use Rattle.ash_durable.proofs.Changing.{handles_at, reads_only}
+use Rattle.ash_durable.proofs.host.Host.get.Goals as goal
+
+pub returns-clause-handled : goal.returns-clause-handled
+returns-clause-handled g c budget =
+    handles_at g.D.Disk 0 budget (Get c.args.module.now c.args.name.now) c.args.self.now
+    (reply_seen fault_of c.handle.result) c.handle.new.self tt c.handle.ensures.handled
+
+pub returns-clause-unchanged : goal.returns-clause-unchanged
+returns-clause-unchanged g c =
+    reads_only g.D.Disk 0 (Get c.args.module.now c.args.name.now) c.args.self.now
+    (reply_seen fault_of c.handle.result) c.handle.new.self (λ no. no) (λ no. no) c.handle.ensures.handled

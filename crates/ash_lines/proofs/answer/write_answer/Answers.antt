@@ -1,0 +1,30 @@
+use Rattle.std.proofs.Common.{◌++◌}
+use Rattle.std.proofs.lemmas.Result.{err_from_is_err_and}
+use Rattle.ash_evaluator.specs.EndViews.{end_seen}
+use Rattle.ash_lines.specs.Replies.{end_text, seq_text, drops_text}
+use Rattle.ash_lines.proofs.SinkLemmas.{fails-more, accepts-fails, writes-then}
+use Rattle.ash_lines.proofs.answer.write_answer.Goals as goal
+
+pub returns-in_err-write_end : goal.returns-in_err-write_end
+returns-in_err-write_end g c =
+    let a = c.args.answer.now in
+    let p = err_from_is_err_and c.from_residual.result c.from_residual.ensures.1 in
+    record { text = rw p.1 (fails-more g.K.Sink.outlet _ _ (end_text (end_seen a.end)) (seq_text a.seq ++ drops_text a.events.items) c.in_err-write_end.ensures.text) }
+
+pub returns-in_err-write_seq : goal.returns-in_err-write_seq
+returns-in_err-write_seq g c =
+    let a = c.args.answer.now in
+    let p = err_from_is_err_and c.from_residual-in_err-write_seq.result c.from_residual-in_err-write_seq.ensures.1 in
+    record {
+      text = rw p.1 (accepts-fails g.K.Sink.outlet g.met.K.Sink.is_outlet _ _ _ (end_text (end_seen a.end)) (seq_text a.seq ++ drops_text a.events.items) c.in_ok-write_end.ensures.text
+          (fails-more g.K.Sink.outlet _ _ (seq_text a.seq) (drops_text a.events.items) c.in_err-write_seq.ensures.text));
+    }
+
+pub returns : goal.returns
+returns g c =
+    let a = c.args.answer.now in
+    let drops = rw c.as_slice.ensures.value at c.write_drops.ensures.text in
+    record {
+      text = writes-then g.K.Sink.outlet g.met.K.Sink.is_outlet _ _ _ (end_text (end_seen a.end)) (seq_text a.seq ++ drops_text a.events.items) c.write_drops.result c.in_ok-write_end.ensures.text
+          (writes-then g.K.Sink.outlet g.met.K.Sink.is_outlet _ _ _ (seq_text a.seq) (drops_text a.events.items) c.write_drops.result c.in_ok-write_seq.ensures.text drops);
+    }

@@ -1,0 +1,25 @@
+use Rattle.std.proofs.Common.{List, ℕ, codes, sym, subst}
+use Rattle.std.proofs.lemmas.Result.{err_from_is_err_and}
+use Rattle.std.specs.List.{flat_map}
+use Rattle.ash_lines.specs.Sink.{Writes, FailsPartway}
+use Rattle.ash_lines.specs.ObjectTexts.{byte_text}
+use Rattle.ash_lines.proofs.SinkLemmas.{fails-more, writes-then}
+use Rattle.ash_lines.proofs.TextLemmas.{some-state}
+use Rattle.ash_lines.proofs.object.write_state.Goals as goal
+
+pub returns-in_err-write : goal.returns-in_err-write
+returns-in_err-write g c =
+    let p = err_from_is_err_and c.from_residual.result c.from_residual.ensures.1 in
+    let whole = some-state c.args.state.now c.is_empty.result c.is_empty.ensures c.if-is_empty.false in
+    record {
+      text = rw p.1 (subst (λ (x : List ℕ). FailsPartway g.K.Sink.outlet c.args.output.now x c.write-2.new.self) (sym whole)
+          (fails-more g.K.Sink.outlet _ _ (codes " state ") (flat_map byte_text c.args.state.now) c.in_err-write.ensures.written));
+    }
+
+pub returns : goal.returns
+returns g c =
+    let whole = some-state c.args.state.now c.is_empty.result c.is_empty.ensures c.if-is_empty.false in
+    record {
+      text = subst (λ (x : List ℕ). Writes g.K.Sink.outlet c.args.output.now x c.write_bytes.result c.write_bytes.new.output) (sym whole)
+          (writes-then g.K.Sink.outlet g.met.K.Sink.is_outlet _ _ _ (codes " state ") (flat_map byte_text c.args.state.now) c.write_bytes.result c.in_ok-write.ensures.written c.write_bytes.ensures.text);
+    }

@@ -1,7 +1,0 @@
-use Rattle.std.proofs.Common.{◌≡◌, ◌++◌, List, ℕ, drop, map, string_bytes}
-use Rattle.ash_lines.specs.Sink.{Accepts}
-use Rattle.ash_lines.specs.Replies.{names_text}
-use Rattle.ash_lines.proofs.reply.write_names.Given as goal
-
-abbrev pub invariant-loop-name : goal.invariant-loop-name
-invariant-loop-name g l = (text : List ℕ) × Accepts g.K.Sink.outlet l.initial.output text l.output × (names_text (map string_bytes l.names) ≡ text ++ names_text (map string_bytes (drop l.name-index l.names)))

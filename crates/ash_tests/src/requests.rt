@@ -1,0 +1,185 @@
+//! Requests that are refused, and sources as long as they may be.
+
+use crate::hosts::{check, check_text, ending, new_host, replies};
+use crate::rows::{Row, check_rows};
+use ash_registry::Registry;
+use ash_serve::RunFault;
+use std::alloc::{AllocError, Global};
+use std::process::Abort;
+use std::test::Fail;
+
+static REGISTERED: [Row; 1] = [Row {
+    what: "scripts that use what is registered can't be run so far, and all that is wrong with them comes \
+                  first",
+    budget: 1000,
+    parts: &[&[
+        ("load m 24\nCounter@ g = Counter(7);", "refused 199 NotYet"),
+        ("load m 22\nvoid f(Counter@ c) { }", "refused 199 NotYet"),
+        ("load m 25\nclass Box { Counter@ c; }", "refused 199 NotYet"),
+        ("load m 18\narray<Counter@> l;", "refused 199 NotYet"),
+        (
+            "load m 27\nint t() { return total(); }",
+            "refused 199 NotYet",
+        ),
+        ("load m 17\nint a = tally(3);", "refused 199 NotYet"),
+        (
+            "load m 38\nCounter@ g; class Node { Node@ next; }",
+            "refused 309 CyclicType Node",
+        ),
+        (
+            "load m 20\nCounter@ g; int f( {",
+            "refused 104 Unexpected 19",
+        ),
+        ("load m 16\nint Counter = 1;", "refused 303 NameTaken 4"),
+        ("seq", "ok 0"),
+    ]],
+}];
+
+#[test]
+fn scripts_that_use_what_is_registered(rt: HostRuntime) -> Result<(), Fail> {
+    check_rows(&rt, rt.alloc(), &REGISTERED)
+}
+
+static REFUSED: [Row; 2] = [
+    Row {
+        what: "requests that are refused change nothing",
+        budget: 1000,
+        parts: &[&[
+            (
+                "load m 45\nint n = 2; int f(int k) { n += k; return n; }",
+                "ok seq 1",
+            ),
+            ("frob", "refused 601 BadRequest"),
+            ("call m f x", "refused 601 BadRequest"),
+            ("call m nope", "refused 403 NoFunction"),
+            ("call m f 1 2", "refused 405 BadArguments"),
+            ("call m f 2147483648", "refused 405 BadArguments"),
+            ("call z f", "refused 401 NoModule"),
+            ("discard z", "refused 401 NoModule"),
+            ("get m q", "refused 406 NoGlobal"),
+            ("object 9", "refused 407 NoObject"),
+            ("load m 0\n", "refused 402 ModuleTaken"),
+            ("load 9x 0\n", "refused 409 BadName"),
+            ("seq", "ok 1"),
+            ("get m n", "ok 2"),
+        ]],
+    },
+    Row {
+        what: "a look at an object has one number",
+        budget: 1000,
+        parts: &[&[
+            ("object", "refused 601 BadRequest"),
+            ("object x", "refused 601 BadRequest"),
+            ("object -1", "refused 601 BadRequest"),
+            ("object 1 2", "refused 601 BadRequest"),
+            ("object 18446744073709551616", "refused 601 BadRequest"),
+            ("object 18446744073709551615", "refused 407 NoObject"),
+            ("object 000000000000000000001", "refused 601 BadRequest"),
+            ("object 00000000000000000001", "refused 407 NoObject"),
+            ("seq", "ok 0"),
+        ]],
+    },
+];
+
+#[test]
+fn refused_requests(rt: HostRuntime) -> Result<(), Fail> {
+    check_rows(&rt, rt.alloc(), &REFUSED)
+}
+
+/// What a row shows, the bytes before some others, how many and which these are, and what is replied to them and a
+/// request more.
+struct Filled {
+    what: &'static str,
+    first: &'static str,
+    count: usize,
+    byte: u8,
+    replies: &'static str,
+}
+
+static LENGTHS: [Filled; 6] = [
+    Filled {
+        what: "the longest line",
+        first: "",
+        count: 4096,
+        byte: b'a',
+        replies: "refused 601 BadRequest\nok 0\n",
+    },
+    Filled {
+        what: "a line that is too long",
+        first: "",
+        count: 4097,
+        byte: b'a',
+        replies: "refused 602 LineTooLong\nok 0\n",
+    },
+    Filled {
+        what: "the longest source",
+        first: "load m 65536\n",
+        count: 65536,
+        byte: b' ',
+        replies: "ok seq 1\nok 1\n",
+    },
+    Filled {
+        what: "a source that is too long",
+        first: "load m 65537\n",
+        count: 65537,
+        byte: b' ',
+        replies: "refused 107 SourceTooLong\nok 0\n",
+    },
+    Filled {
+        what: "an empty source",
+        first: "load m 0\n",
+        count: 0,
+        byte: b' ',
+        replies: "ok seq 1\nok 1\n",
+    },
+    Filled {
+        what: "a byte order mark",
+        first: "load m 3\n\u{feff}",
+        count: 0,
+        byte: b' ',
+        replies: "ok seq 1\nok 1\n",
+    },
+];
+
+/// The bytes of a row, a line feed, and a request more.
+fn filled(alloc: Global, row: &Filled) -> Result<Vec<u8>, AllocError> {
+    let mut requests = Vec::from_slice(alloc, row.first.as_bytes())?;
+    requests.extend_from_slice(&vec![in alloc; row.byte; row.count]?)?;
+    requests.extend_from_slice(b"\nseq\n")?;
+    Ok(requests)
+}
+
+fn check_filled(rt: &impl Abort, alloc: Global, row: &Filled) -> Result<(), Fail> {
+    let requests = filled(alloc, row)?;
+    let mut host = new_host(alloc, Registry::new(alloc))?;
+    let found = replies(alloc, &mut host, &requests)?;
+    check_text(rt, &found, row.replies, row.what);
+    Ok(())
+}
+
+#[test]
+fn lines_and_sources_as_long_as_they_may_be(rt: HostRuntime) -> Result<(), Fail> {
+    for row in &LENGTHS {
+        check_filled(&rt, rt.alloc(), row)?;
+    }
+    Ok(())
+}
+
+#[test]
+fn a_source_that_is_cut_by_the_end(rt: HostRuntime) -> Result<(), Fail> {
+    let alloc = rt.alloc();
+    let mut host = new_host(alloc, Registry::new(alloc))?;
+    let mut written = Vec::new(alloc);
+    let requests = b"load m 10\nint n = 2;\nload k 3\nab".as_slice();
+    let end = ending(alloc, requests, &mut written, &mut host, 1000);
+    check(&rt, &end, &Err(RunFault::Truncated), "how the run ends");
+    check(
+        &rt,
+        &written.as_slice(),
+        &b"ok seq 1\n".as_slice(),
+        "what is written",
+    );
+    let found = replies(alloc, &mut host, b"get m n\nseq\n")?;
+    check_text(&rt, &found, "ok 2\nok 1\n", "what is found then");
+    Ok(())
+}
