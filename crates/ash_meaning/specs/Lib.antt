@@ -1,13 +1,7 @@
 pub mod CheckedSource
 pub mod Lexing
-pub mod Plain
-pub mod Reading
-pub mod Refusals
 pub mod Scanning
 pub mod Scripts
 pub mod SourceFaults
 pub mod Sources
-pub mod State
-pub mod Step
-pub mod StoredModules
 pub mod TypedSource
