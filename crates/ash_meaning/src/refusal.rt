@@ -4,9 +4,10 @@ ghost use Rattle.std.specs.Prelude.{◌≡◌};
 ghost use Rattle.ash_meaning.specs.Refusals.{refusal_of};
 
 use crate::fault::{SourceError, SourceFault};
-use ash_check::{CheckFault, ClassNames};
+use ash_check::ClassNames;
 use ash_lex::LexFault;
 use ash_parse::{ParseFault, UnsupportedPart};
+use ash_typing::{Fault, Rule};
 use std::alloc::AllocError;
 
 /// Why a request is refused.
@@ -123,30 +124,26 @@ impl From<ParseFault> for Refusal {
     }
 }
 
-impl From<CheckFault> for Refusal {
-    ghost use Rattle.ash_check.specs.Checks.{script_fault_of};
-    ghost use Rattle.ash_meaning.specs.Refusals.{refusal_for};
-    ghost use Rattle.ash_meaning.specs.SourceFaults.{typing_fault};
+impl From<Fault> for Refusal {
+    ghost use Rattle.ash_meaning.specs.Refusals.{broken_at};
 
-    ghost from_gives = { λ fault refusal. refusal_of refusal
-        ≡ refusal_for (typing_fault (script_fault_of fault)) };
+    ghost from_gives = { λ fault refusal. refusal_of refusal ≡ broken_at fault.rule fault.at };
 
-    fn from(fault: CheckFault) -> Self {
-        match fault {
-            CheckFault::UnknownName { at } => Refusal::UnknownName { at },
-            CheckFault::UnknownType { at } => Refusal::UnknownType { at },
-            CheckFault::NameTaken { at } => Refusal::NameTaken { at },
-            CheckFault::TypeMismatch { at } => Refusal::TypeMismatch { at },
-            CheckFault::WrongArgumentCount { at } => Refusal::WrongArgumentCount { at },
-            CheckFault::NotAssignable { at } => Refusal::NotAssignable { at },
-            CheckFault::NoReturn { at } => Refusal::NoReturn { at },
-            CheckFault::Misplaced { at } => Refusal::Misplaced { at },
-            CheckFault::CyclicType(names) => Refusal::CyclicType(names),
-            CheckFault::NoFactory { at } => Refusal::NoFactory { at },
-            CheckFault::TooMany { at } => Refusal::TooMany { at },
-            CheckFault::ConstantOutOfRange { at } => Refusal::ConstantOutOfRange { at },
-            CheckFault::DuplicateCase { at } => Refusal::DuplicateCase { at },
-            CheckFault::NoMemory => Refusal::NoMemory,
+    fn from(fault: Fault) -> Self {
+        let at = fault.at;
+        match fault.rule {
+            Rule::UnknownName => Refusal::UnknownName { at },
+            Rule::UnknownType => Refusal::UnknownType { at },
+            Rule::NameTaken => Refusal::NameTaken { at },
+            Rule::TypeMismatch => Refusal::TypeMismatch { at },
+            Rule::WrongArgumentCount => Refusal::WrongArgumentCount { at },
+            Rule::NotAssignable => Refusal::NotAssignable { at },
+            Rule::NoReturn => Refusal::NoReturn { at },
+            Rule::Misplaced => Refusal::Misplaced { at },
+            Rule::NoFactory => Refusal::NoFactory { at },
+            Rule::TooMany => Refusal::TooMany { at },
+            Rule::ConstantOutOfRange => Refusal::ConstantOutOfRange { at },
+            Rule::DuplicateCase => Refusal::DuplicateCase { at },
         }
     }
 }
@@ -161,7 +158,8 @@ impl From<SourceFault> for Refusal {
         match fault {
             SourceFault::Lexical(fault) => fault.into(),
             SourceFault::Syntactic(fault) => fault.into(),
-            SourceFault::Typing(fault) => fault.into(),
+            SourceFault::Broken(fault) => fault.into(),
+            SourceFault::Cyclic(names) => Refusal::CyclicType(names),
             SourceFault::NotYet => Refusal::NotYet,
         }
     }
