@@ -44,8 +44,9 @@ source_refused registered source errors.NoMemory h = takes_text registered sourc
 
 reports_as : (items : List Item) (answer : Result Typed ScriptFault) (fault : CheckFault) → Reports answer fault
     → RefusesAs (unless_fault items answer) (typing_error fault)
+reports_as items answer (check_faults.Broken fault) h = ap (unless_fault items) h
+reports_as items answer (check_faults.Cyclic names) h = ap (unless_fault items) h
 reports_as items answer check_faults.NoMemory h = takes_items items answer
-reports_as items answer fault h = ap (unless_fault items) h
 
 pub items_unchecked : (registered : List Registration) (items : List Item) (fault : CheckFault)
     → Reports (checked registered items) fault → RefusesAs (items_checked registered items) (typing_error fault)

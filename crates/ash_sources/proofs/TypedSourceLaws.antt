@@ -29,8 +29,9 @@ takes_items (Err fault) = tt
 
 reports_as : (answer : Result Typed ScriptFault) (fault : CheckFault) → Reports answer fault
     → RefusesAs (typed_or_fault answer) (typing_error fault)
+reports_as answer (check_faults.Broken fault) h = ap typed_or_fault h
+reports_as answer (check_faults.Cyclic names) h = ap typed_or_fault h
 reports_as answer check_faults.NoMemory h = takes_items answer
-reports_as answer fault h = ap typed_or_fault h
 
 pub items_untyped : (registered : List Registration) (items : List Item) (fault : CheckFault)
     → Reports (checked registered items) fault → (error : SourceError) → error ≡ typing_error fault

@@ -1,12 +1,17 @@
--- Why a source has no typed tree, without where names lie in memory; and how reading one fails.
-use Rattle.std.specs.Prelude.{◌≡◌, Option, Some, None, Result, Ok, Err}
+-- Why a source has no typed tree, without where names lie in memory; the code by which that is reported; and how reading
+-- a source fails.
+use Rattle.std.specs.Prelude.{◌≡◌, ℕ, List, map, string_bytes, Result, Ok, Err, codes}
+use Rattle.ash_lex.specs.FaultCodes as lexical
 use Rattle.ash_lex.specs.declared.faults.LexFault.{LexFault}
 use Rattle.ash_lex.specs.declared.faults.LexFault.TheVariants as lex_faults
+use Rattle.ash_parse.specs.Faults as syntactic
 use Rattle.ash_parse.specs.declared.faults.ParseFault.{ParseFault}
 use Rattle.ash_parse.specs.declared.faults.ParseFault.TheVariants as parse_faults
 use Rattle.ash_check.specs.declared.faults.CheckFault.{CheckFault}
 use Rattle.ash_check.specs.declared.faults.CheckFault.TheVariants as check_faults
-use Rattle.ash_check.specs.Checks.{ScriptFault, script_fault_of}
+use Rattle.ash_typing.specs.RuleCodes as typing
+use Rattle.ash_check.specs.Checks.{ScriptFault, Broken, Cyclic}
+use Rattle.ash_check.specs.Faults.{cycle_code}
 use Rattle.ash_sources.specs.declared.fault.SourceFault as code
 use Rattle.ash_sources.specs.declared.fault.SourceFault.TheVariants as the
 use Rattle.ash_sources.specs.declared.fault.SourceError.{SourceError}
@@ -19,18 +24,21 @@ pub data SourceFault : Type 0 where
   Typing : (fault : ScriptFault) → SourceFault
   NotYet : SourceFault
 
--- what the code's faults represent
+-- the number and the name of a fault
+abbrev pub code_of : SourceFault → List ℕ
+code_of (Lexical fault) = lexical.code_of fault
+code_of (Syntactic fault) = syntactic.code_of fault
+code_of (Typing (Broken fault)) = typing.code_of fault.rule
+code_of (Typing (Cyclic names)) = cycle_code
+code_of NotYet = codes "199 NotYet"
 
--- The check of types has one fault that says nothing of the script, where memory was refused. No error has it, and it
--- represents a fault that no source has.
-abbrev pub typing_fault : Option ScriptFault → SourceFault
-typing_fault (Some fault) = Typing fault
-typing_fault None = Lexical lex_faults.NoMemory
+-- what the code's faults represent
 
 abbrev pub fault_of : code.SourceFault → SourceFault
 fault_of (the.Lexical fault) = Lexical fault
 fault_of (the.Syntactic fault) = Syntactic fault
-fault_of (the.Typing fault) = typing_fault (script_fault_of fault)
+fault_of (the.Broken fault) = Typing (Broken fault)
+fault_of (the.Cyclic names) = Typing (Cyclic (map string_bytes names.0.items))
 fault_of the.NotYet = NotYet
 
 -- A layer's fault makes this error: it is the source's, unless it says that memory was refused.
@@ -44,8 +52,9 @@ syntactic_error parse_faults.NoMemory = errors.NoMemory
 syntactic_error fault = errors.Fault (the.Syntactic fault)
 
 abbrev pub typing_error : CheckFault → SourceError
+typing_error (check_faults.Broken fault) = errors.Fault (the.Broken fault)
+typing_error (check_faults.Cyclic names) = errors.Fault (the.Cyclic names)
 typing_error check_faults.NoMemory = errors.NoMemory
-typing_error fault = errors.Fault (the.Typing fault)
 
 -- how reading a source fails
 

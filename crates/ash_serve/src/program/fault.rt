@@ -19,7 +19,7 @@ pub enum Fault {
     #[error("509 NoMemory")]
     NoMemory,
     /// What the program offers to scripts was not registered.
-    #[error("{0}")]
+    #[error("{}", .0.code())]
     Registry(RegistryFault),
     /// The store was not made or not opened. Its files are part of it.
     #[error("{0}")]
