@@ -4,7 +4,7 @@ use crate::checks::check;
 use crate::fuses::{Failing, fuses};
 use ash_disk::{FailingDisk, MemoryDisk, Survives};
 use ash_durable::{Host, OpenRefused, StoreFault};
-use ash_meaning::refusal::Refusal;
+use ash_sources::refusal::Refusal;
 use ash_registry::Registry;
 use ash_store_fixtures::hosts::{
     SOURCE, State, add, closed, disk, found_state, image_after, inner, load, opened, snapshot,

@@ -5,8 +5,8 @@ use crate::fuses::{Failing, fuses};
 use ash_disk::{FailingDisk, MemoryDisk, Survives};
 use ash_durable::{Host, StoreFault};
 use ash_host::Word;
-use ash_meaning::refusal::Refusal;
-use ash_meaning::request::{Argument, Reply, Request};
+use ash_sources::refusal::Refusal;
+use ash_sources::request::{Argument, Reply, Request};
 use ash_registry::Registry;
 use ash_store_fixtures::hosts::{
     EMPTY, SOURCE, State, call, closed, created, disk, found, found_state, fuse, image_after, load,

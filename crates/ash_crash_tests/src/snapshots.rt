@@ -4,7 +4,7 @@
 use crate::checks::{Life, check, check_bytes, check_calls, check_lives, check_text};
 use ash_disk::{MemoryDisk, Survives};
 use ash_durable::Host;
-use ash_meaning::refusal::Refusal;
+use ash_sources::refusal::Refusal;
 use ash_registry::Registry;
 use ash_store_fixtures::files::{Module, add_record, generation, image};
 use ash_store_fixtures::full::{AT_THE_LIMIT, LIMIT, full_file, spaces};

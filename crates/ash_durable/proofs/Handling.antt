@@ -7,7 +7,7 @@ use Rattle.ash_steps.specs.Requests.{Request, Seq, Snapshot, Refusal, Reply, Num
 use Rattle.ash_steps.specs.Requests.{DeviceFailed, NoMemory, GenerationSpent}
 use Rattle.ash_plain_steps.specs.declared.request.StepError.{StepError}
 use Rattle.ash_plain_steps.specs.RequestViews.{refusal_seen}
-use Rattle.ash_meaning.specs.SourceFaults.{SourceFault, fault_of}
+use Rattle.ash_sources.specs.SourceFaults.{SourceFault, fault_of}
 use Rattle.ash_states.specs.States.{HostState}
 use Rattle.ash_states.specs.Steps.{Steps, Handled}
 use Rattle.ash_durable.specs.Saving.{HostRefusal}

@@ -9,8 +9,8 @@ use Rattle.ash_steps.specs.Requests.{Request, Load, Call, Discard, Get, Object, 
 use Rattle.ash_steps.specs.Requests.{Number, Refused, Reopen, DeviceFailed, NoMemory, GenerationSpent}
 use Rattle.ash_plain_steps.specs.TaskViews.{TakesMemoryToFind}
 use Rattle.ash_plain_steps.specs.StepViews.{IsChange}
-use Rattle.ash_meaning.specs.SourceFaults.{SourceFault}
-use Rattle.ash_meaning.specs.SourceFaults as sources
+use Rattle.ash_sources.specs.SourceFaults.{SourceFault}
+use Rattle.ash_sources.specs.SourceFaults as sources
 use Rattle.ash_states.specs.States.{HostState}
 use Rattle.ash_states.specs.Steps.{RanOut, task_of, first_refusal, step}
 use Rattle.ash_durable.specs.States.{AreHonest, HoldsState, BeginsAnew}

@@ -9,7 +9,7 @@ use Rattle.ash_parse.specs.declared.faults.ParseFault.TheVariants as syntactic
 use Rattle.ash_typing.specs.declared.fault.Rule.{Rule}
 use Rattle.ash_typing.specs.declared.fault.Rule.TheVariants as rules
 use Rattle.ash_check.specs.Checks.{ScriptFault, Broken, Cyclic}
-use Rattle.ash_meaning.specs.SourceFaults.{SourceFault, Lexical, Syntactic, Typing, NotYet}
+use Rattle.ash_sources.specs.SourceFaults.{SourceFault, Lexical, Syntactic, Typing, NotYet}
 use Rattle.ash_lines.specs.declared.details.Details as code
 use Rattle.ash_lines.specs.declared.details.Details.TheVariants as the
 

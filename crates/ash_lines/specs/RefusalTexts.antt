@@ -4,7 +4,7 @@ use Rattle.std.specs.List.{flat_map}
 use Rattle.ash_parse.specs.Faults.{part_text}
 use Rattle.ash_steps.specs.Requests.{Refusal}
 use Rattle.ash_steps.specs.Requests as refusals
-use Rattle.ash_meaning.specs.SourceFaults.{SourceFault}
+use Rattle.ash_sources.specs.SourceFaults.{SourceFault}
 use Rattle.ash_lines.specs.FaultNames.{Details, Nothing, At, WordAt, Names, source_code, source_name, source_details}
 
 abbrev pub refusal_code : Refusal SourceFault → ℕ

@@ -2,7 +2,7 @@
 
 ghost use Rattle.std.specs.Prelude.{◌≡◌};
 ghost use Rattle.ash_check.specs.Checks.{script_fault_of};
-ghost use Rattle.ash_meaning.specs.SourceFaults.{fault_of, typing_fault};
+ghost use Rattle.ash_sources.specs.SourceFaults.{fault_of, typing_fault};
 ghost use Rattle.ash_lines.specs.FaultNames.{details_of, lexical_code, lexical_name, lexical_details};
 ghost use Rattle.ash_lines.specs.FaultNames.{syntactic_code, syntactic_name, syntactic_details};
 ghost use Rattle.ash_lines.specs.FaultNames.{source_code, source_name, source_details};
@@ -10,7 +10,7 @@ ghost use Rattle.ash_lines.specs.FaultNames.{source_code, source_name, source_de
 use crate::details::Details;
 use ash_check::CheckFault;
 use ash_lex::LexFault;
-use ash_meaning::fault::SourceFault;
+use ash_sources::fault::SourceFault;
 use ash_parse::ParseFault;
 
 /// The number of a lexical fault.

@@ -2,7 +2,7 @@
 
 ghost use Rattle.std.specs.Prelude.{◌≡◌, map, string_bytes};
 ghost use Rattle.ash_plain_steps.specs.RequestViews.{refusal_seen};
-ghost use Rattle.ash_meaning.specs.SourceFaults.{fault_of};
+ghost use Rattle.ash_sources.specs.SourceFaults.{fault_of};
 ghost use Rattle.ash_lines.specs.Sink.{Writes};
 ghost use Rattle.ash_lines.specs.FaultNames.{details_of};
 ghost use Rattle.ash_lines.specs.RefusalTexts.{refusal_code, refusal_name, refusal_details, names_text};
@@ -12,7 +12,7 @@ use crate::details::Details;
 use crate::faults::{source_code, source_details, source_name};
 use crate::pieces::write_all;
 use crate::sink::{Sink, WriteFault};
-use ash_meaning::fault::SourceFault;
+use ash_sources::fault::SourceFault;
 use ash_plain_steps::request::Refusal;
 use itoa::Buffer;
 

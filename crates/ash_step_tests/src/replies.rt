@@ -2,7 +2,7 @@
 
 use ash_evaluator::ends::End;
 use ash_host::{Event, Target, Word};
-use ash_meaning::fault::SourceFault;
+use ash_sources::fault::SourceFault;
 use ash_phrases::Exception;
 use ash_plain_steps::request::{Answer, ObjectContents, Refusal, Reply, Shown};
 use std::alloc::{AllocError, Global};

@@ -4,8 +4,8 @@
 use ash_disk::{Disk, FailingDisk, MemoryDisk, Survives};
 use ash_durable::{Host, StoreFault};
 use ash_host::Word;
-use ash_meaning::refusal::Refusal;
-use ash_meaning::request::{Answer, Argument, Reply, Request};
+use ash_sources::refusal::Refusal;
+use ash_sources::request::{Answer, Argument, Reply, Request};
 use ash_registry::Registry;
 use std::alloc::{AllocError, Global};
 use std::fmt::Debug;

@@ -8,7 +8,7 @@ use crate::hosts::{
 };
 use ash_disk::{Disk, MemoryDisk};
 use ash_durable::{Host, StoreFault};
-use ash_meaning::request::Argument;
+use ash_sources::request::Argument;
 use ash_registry::Registry;
 use std::alloc::{AllocError, Global};
 use std::test::Fail;

@@ -3,8 +3,8 @@
 use crate::checks::{Life, check, check_life, check_text};
 use ash_disk::MemoryDisk;
 use ash_durable::Host;
-use ash_meaning::refusal::Refusal;
-use ash_meaning::request::{Argument, Reply, Request};
+use ash_sources::refusal::Refusal;
+use ash_sources::request::{Argument, Reply, Request};
 use ash_store_fixtures::hosts::{SOURCE, call, load, made, seq, shown};
 use ash_store_fixtures::lives::{File, Run, Start, Step};
 use std::alloc::{AllocError, Global};

@@ -1,7 +1,7 @@
 use Rattle.std.proofs.Common.{rules, ◌≡◌, Some, IsSome, Ok, Err, sym, subst}
 use Rattle.std.proofs.lemmas.Result.{err_from_is_err_and}
 use Rattle.ash_plain_steps.specs.RequestViews.{request_seen, reply_seen}
-use Rattle.ash_meaning.specs.SourceFaults.{fault_of}
+use Rattle.ash_sources.specs.SourceFaults.{fault_of}
 use Rattle.ash_durable.proofs.HandledRequests.{seen_host}
 use Rattle.ash_durable.proofs.Handling.{handled_runs, handled_room, handled_other, handled_answer, handled_lost}
 use Rattle.ash_durable.proofs.Handling.{handles_no_room}
