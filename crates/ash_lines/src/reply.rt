@@ -12,8 +12,8 @@ use crate::object::{write_ok, write_shown};
 use crate::pieces::write_all;
 use crate::refusal::{write_fault, write_refusal};
 use crate::sink::{Sink, WriteFault};
-use ash_sources::fault::SourceFault;
 use ash_plain_steps::request::Reply;
+use ash_sources::fault::SourceFault;
 use itoa::Buffer;
 
 /// The reply to a line.
