@@ -8,7 +8,7 @@ use Rattle.ash_journal.specs.Failures.{CountsFailures}
 use Rattle.ash_steps.specs.Requests.{Request, Seq, Reply, Refused, NoMemory}
 use Rattle.ash_plain_steps.specs.declared.request.Refusal.TheVariants as the
 use Rattle.ash_plain_steps.specs.StepViews.{IsChange}
-use Rattle.ash_meaning.specs.SourceFaults.{SourceFault}
+use Rattle.ash_sources.specs.SourceFaults.{SourceFault}
 use Rattle.ash_states.specs.States.{HostState}
 use Rattle.ash_states.specs.Steps.{Steps, task_of}
 use Rattle.ash_durable.specs.States.{HoldsState}

@@ -13,7 +13,7 @@ ghost use Rattle.ash_states.specs.Images.{IsImageIn, IsBodyOf, IsRestored};
 use crate::restoring::restore_state;
 use crate::steps::{first_state, step_of};
 use crate::writing::{body_of, image_of};
-use ash_meaning::fault::SourceFault;
+use ash_sources::fault::SourceFault;
 use ash_plain_steps::request::{Reply, Request, StepError};
 use ash_plain_steps::state::PlainState;
 use ash_registry::Registry;
