@@ -331,6 +331,6 @@ handles_lost_state device budget request (Some number) seen left journal state o
     seq_is = absurd (never_stopped device request number state seen journal old between is room)
 handles_lost_state {D} device budget request None seen left journal state old between seq is room changes same seq_is =
     subst (λ (n : ℕ). Handles device budget request old (Refused NoMemory) (seen_host (Some n) left journal))
-        (sym seq_is)
+    (sym seq_is)
     (lost_between device budget request seen left journal old
     (room_seen device request state seen journal old between is room) changes same)

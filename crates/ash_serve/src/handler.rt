@@ -8,8 +8,8 @@ ghost use Rattle.ash_serve.specs.LongSources.{handles_by_prefix};
 
 use ash_disk::Disk;
 use ash_durable::Host;
-use ash_sources::fault::SourceFault;
 use ash_plain_steps::request::{Reply, Request};
+use ash_sources::fault::SourceFault;
 
 /// A host, as the loop uses it.
 pub trait RequestHandler {

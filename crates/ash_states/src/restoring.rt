@@ -10,9 +10,9 @@ ghost use Rattle.ash_states.specs.Restoring.{RestoresState};
 use crate::modules::read_modules;
 use crate::objects::objects_of;
 use ash_admission::admission::is_well_typed;
-use ash_sources::sources::{AdmittedScripts, Sources};
 use ash_plain_steps::state::PlainState;
 use ash_registry::Registry;
+use ash_sources::sources::{AdmittedScripts, Sources};
 use ash_state_image::stored::StoredState;
 use std::alloc::{AllocError, Global};
 

@@ -3,10 +3,10 @@
 use ash_evaluator::ends::End;
 use ash_host::{Event, Target, Word};
 use ash_lex::LexFault;
-use ash_sources::fault::SourceFault;
 use ash_parse::ParseFault;
 use ash_phrases::Exception;
 use ash_plain_steps::request::{Answer, ObjectContents, Refusal, Reply, Shown};
+use ash_sources::fault::SourceFault;
 use std::alloc::{AllocError, Global};
 use std::fmt::Write;
 
