@@ -1,7 +1,6 @@
 //! Images that are restored with what is registered, each byte of them changed to every other, and each cut: what is
 //! left is refused, or is the image of the host that is restored. `reads_as` asks in the order in which a store does.
 
-ghost use Rattle.std.specs.Prelude.{◌≡◌};
 ghost use Rattle.ash_state_image.specs.Rules.{IsShaped};
 ghost use Rattle.ash_state_image.specs.Views.{snapshot_of};
 
@@ -41,7 +40,8 @@ fn registry_of(alloc: Global, registered: Registered) -> Result<Registry, Regist
     Ok(registry)
 }
 
-/// The state that was stored, where a host may be in it.
+/// The host with this registry that is in the state that was stored: its text is that of the registry, and what it holds
+/// is of the types that its sources say.
 fn restored(
     alloc: Global,
     registry: Registry,
@@ -49,23 +49,22 @@ fn restored(
 ) -> Result<Option<HostState>, AllocError>
     requires shaped { IsShaped (snapshot_of stored) }
 {
+    if stored.registered.as_str() != registry.text() {
+        return Ok(None);
+    }
     HostState::restore(alloc, registry, stored)
 }
 
-/// The host that bytes are read as, if they are the image of one with this registry: they have a shape, their text is
-/// that of the registry, and what they hold is of the types that their sources say.
+/// The host with this registry that bytes are read as, if they are the image of one.
 fn reads_as(
     alloc: Global,
     registry: Registry,
     bytes: &[u8],
 ) -> Result<Option<HostState>, AllocError> {
-    let Some(read) = read_image(alloc, bytes)? else {
-        return Ok(None);
-    };
-    if read.state.registered.as_str() != registry.text() {
-        return Ok(None);
+    match read_image(alloc, bytes)? {
+        Some(stored) => restored(alloc, registry, stored.state),
+        None => Ok(None),
     }
-    restored(alloc, registry, read.state)
 }
 
 /// An image: what it is called, its version, what follows it, what is registered, and how many changes of one byte leave
