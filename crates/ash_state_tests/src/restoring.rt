@@ -92,14 +92,15 @@ static ROWS: [Row; 5] = [
         1 + 16 * 255 + 52 + (52 + 3) + 4 * 255,
     ),
     // The numbers, of which the last is 2 at the least; the name; in the source three names of one letter, of which two
-    // are taken by each other and by the class, nine blanks, of which two may be `;` and two a letter of the name after
-    // them or `_`, and the `@` of the first global, which may be a blank; the value of the field, and of the elements.
+    // are taken by each other and by the class, nine blanks, of which two may be `;`, two a letter of the name after
+    // them or `_`, and one an `@`, and the `@` of the first global, which may be a blank; the value of the field, and of
+    // the elements.
     (
         "an object and an array",
         TWO,
         STORED,
         Registered::Counter,
-        8 * 255 + (253 + 7 * 255) + 52 + (52 + 50 + 50 + 9 * 3 + 2 + 2 * 53 + 4) + 4 * 255 + 8 * 255,
+        8 * 255 + (253 + 7 * 255) + 52 + (52 + 50 + 50 + 9 * 3 + 2 + 2 * 53 + 1 + 4) + 4 * 255 + 8 * 255,
     ),
 ];
 
