@@ -6,8 +6,8 @@ use ash_disk::{FailingDisk, MemoryDisk, Survives};
 use ash_durable::{Host, OpenRefused, StoreFault};
 use ash_registry::Registry;
 use ash_store_fixtures::hosts::{
-    SOURCE, State, add, closed, disk, found_state, image_after, inner, is_done, load, need,
-    opened, snapshot, state,
+    SOURCE, State, add, closed, disk, found_state, image_after, inner, is_done, load, need, opened,
+    snapshot, state,
 };
 use std::alloc::Global;
 use std::process::Abort;
@@ -319,12 +319,7 @@ fn empty_disks(alloc: Global) -> (MemoryDisk, MemoryDisk) {
 
 /// Stops a plan that makes a store at each call of one disk, and looks at what crashes leave. Gives how many stops there
 /// were until it ran to its end.
-fn count_stops(
-    rt: &impl Abort,
-    alloc: Global,
-    plan: &Plan,
-    failing: Failing,
-) -> Result<u64, Fail> {
+fn count_stops(rt: &impl Abort, alloc: Global, plan: &Plan, failing: Failing) -> Result<u64, Fail> {
     for calls in 0..200 {
         let stopped = handle_plan(
             alloc,
@@ -365,9 +360,19 @@ fn the_second_disk_fails(rt: HostRuntime) -> Result<(), Fail> {
 #[test]
 fn a_disk_fails_with_objects(rt: HostRuntime) -> Result<(), Fail> {
     let stops = count_stops(&rt, rt.alloc(), &WITH_OBJECTS, Failing::First)?;
-    check(&rt, &stops, &STOPS_OF_FIRST, "stops of the first disk, with objects");
+    check(
+        &rt,
+        &stops,
+        &STOPS_OF_FIRST,
+        "stops of the first disk, with objects",
+    );
     let stops = count_stops(&rt, rt.alloc(), &WITH_OBJECTS, Failing::Second)?;
-    check(&rt, &stops, &STOPS_OF_SECOND, "stops of the second disk, with objects");
+    check(
+        &rt,
+        &stops,
+        &STOPS_OF_SECOND,
+        "stops of the second disk, with objects",
+    );
     Ok(())
 }
 

@@ -254,7 +254,8 @@ fn seven_requests<'a>() -> [Request<'a>; 7] {
 }
 
 // The answer to the third is lost, and the host must be reopened.
-const LOST_AT_THE_THIRD: &str = "ok seq 1\nok 2\nrefused 507 DeviceFailed\nrefused 508 Reopen\nok 1\n\
+const LOST_AT_THE_THIRD: &str =
+    "ok seq 1\nok 2\nrefused 507 DeviceFailed\nrefused 508 Reopen\nok 1\n\
     refused 508 Reopen\nrefused 508 Reopen\n";
 
 #[test]
@@ -262,7 +263,12 @@ fn requests_after_a_failure(rt: HostRuntime) -> Result<(), Fail> {
     // Nine calls on the first disk make the store, and four store the answer to the load.
     let mut host = fused(rt.alloc(), 13, 100)?;
     let lines = lines_for(rt.alloc(), &mut host, &seven_requests())?;
-    check_text(&rt, lines.as_str(), LOST_AT_THE_THIRD, "the replies after a failure");
+    check_text(
+        &rt,
+        lines.as_str(),
+        LOST_AT_THE_THIRD,
+        "the replies after a failure",
+    );
     Ok(())
 }
 

@@ -152,8 +152,7 @@ static FAILED: [Step; 6] = [
     Step::Seq,
 ];
 
-const REFUSED: &str =
-    "ok seq 1\nrefused 507 DeviceFailed\nrefused 508 Reopen\nrefused 508 Reopen\n\
+const REFUSED: &str = "ok seq 1\nrefused 507 DeviceFailed\nrefused 508 Reopen\nrefused 508 Reopen\n\
     refused 508 Reopen\n1\n";
 
 /// Compares what is left of a snapshot where the second disk fails after so many calls, of which five make the store.

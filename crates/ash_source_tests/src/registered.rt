@@ -3,8 +3,8 @@
 
 use crate::compare::check_text;
 use crate::sources::{checked, parts_of, read};
-use ash_sources::sources::{AdmittedScripts, Sources};
 use ash_registry::Registry;
+use ash_sources::sources::{AdmittedScripts, Sources};
 use ash_steps::sources::Sources as ReadSources;
 use std::alloc::{AllocError, Global};
 use std::process::Abort;

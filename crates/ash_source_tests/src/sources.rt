@@ -2,10 +2,10 @@
 //! counted by hand.
 
 use crate::compare::check_text;
+use ash_registry::Registry;
 use ash_sources::checking::check_source;
 use ash_sources::fault::{SourceError, SourceFault};
 use ash_sources::sources::{AdmittedScripts, Sources};
-use ash_registry::Registry;
 use std::alloc::{AllocError, Global};
 use std::process::Abort;
 use std::test::Fail;
@@ -61,7 +61,10 @@ pub(crate) fn check_source_of(
     let text = String::from_utf8_lossy(alloc, source)?;
     let found = checked(alloc, &registry, source)?;
     check_text(rt, found.as_str(), wanted, text.as_str());
-    for admitted in [AdmittedScripts::All, AdmittedScripts::UsingNothingRegistered] {
+    for admitted in [
+        AdmittedScripts::All,
+        AdmittedScripts::UsingNothingRegistered,
+    ] {
         let found = read(alloc, &registry, admitted, source)?;
         check_text(rt, found.as_str(), wanted, text.as_str());
     }

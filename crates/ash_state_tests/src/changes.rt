@@ -20,8 +20,18 @@ static ROWS: [Row; 6] = [
     ("nothing, in version 1", ONE, NOTHING, 1 + 16 * 255),
     // The same, one letter of a name for another or `_`, six bytes of source, the four of a value, and a value of
     // another type.
-    ("a module", TWO, ONE_MODULE, 1 + 16 * 255 + 52 + 6 * 255 + 4 * 255 + 1),
-    ("a module, in version 1", ONE, ONE_MODULE, 1 + 16 * 255 + 52 + 6 * 255 + 4 * 255 + 1),
+    (
+        "a module",
+        TWO,
+        ONE_MODULE,
+        1 + 16 * 255 + 52 + 6 * 255 + 4 * 255 + 1,
+    ),
+    (
+        "a module, in version 1",
+        ONE,
+        ONE_MODULE,
+        1 + 16 * 255 + 52 + 6 * 255 + 4 * 255 + 1,
+    ),
     // No other version has an array. One length of the text is 8 more, where the number of answers is text and all else
     // is read 8 bytes later. 25 characters of text; the number of answers; the last number of an object, which is 4 at
     // the least; kind and state of the service; name and source. The first global may be of two other types and a
@@ -31,8 +41,17 @@ static ROWS: [Row; 6] = [
         "objects with three tags",
         TWO,
         THREE_TAGS,
-        1 + 25 * 127 + 8 * 255 + (251 + 7 * 255) + 6 * 255 + 52 + 49 * 255 + (2 + 2) + (2 + 2)
-            + (2 * 255 + 1 + 4 * 255) + 2 * 255 + 6 * 255,
+        1 + 25 * 127
+            + 8 * 255
+            + (251 + 7 * 255)
+            + 6 * 255
+            + 52
+            + 49 * 255
+            + (2 + 2)
+            + (2 + 2)
+            + (2 * 255 + 1 + 4 * 255)
+            + 2 * 255
+            + 6 * 255,
     ),
     // The version, a length of the text that is 8 less, where all else is read 8 bytes before, 15 characters of text, the
     // numbers, of which the last is 2 at the least, name and source, the class, the type and the value of a field, and a
@@ -41,7 +60,14 @@ static ROWS: [Row; 6] = [
         "objects with two tags, in version 1",
         ONE,
         TWO_TAGS,
-        1 + 1 + 15 * 127 + 8 * 255 + (253 + 7 * 255) + 52 + 36 * 255 + (2 * 255 + 1 + 4 * 255) + 2 * 255,
+        1 + 1
+            + 15 * 127
+            + 8 * 255
+            + (253 + 7 * 255)
+            + 52
+            + 36 * 255
+            + (2 * 255 + 1 + 4 * 255)
+            + 2 * 255,
     ),
 ];
 

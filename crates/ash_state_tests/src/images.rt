@@ -242,11 +242,7 @@ fn add_parts(bytes: &mut Vec<u8>, parts: &[&[u8]]) -> Result<(), AllocError> {
 }
 
 /// An image in a version.
-pub(crate) fn image(
-    alloc: Global,
-    version: &[u8],
-    rest: &[&[u8]],
-) -> Result<Vec<u8>, AllocError> {
+pub(crate) fn image(alloc: Global, version: &[u8], rest: &[&[u8]]) -> Result<Vec<u8>, AllocError> {
     let mut image = Vec::from_slice(alloc, version)?;
     add_parts(&mut image, rest)?;
     Ok(image)

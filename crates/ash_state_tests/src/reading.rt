@@ -3,8 +3,8 @@
 use crate::compare::{check_bytes, check_text};
 use crate::encoding::encoded;
 use crate::images::{
-    EACH_WORD, LOADED, MODULE_A, MODULE_B, NOTHING, ONE, ONE_MODULE, ONE_SERVICE,
-    Parts, THREE_TAGS, TWO, TWO_TAGS, image, modules, with_tag,
+    EACH_WORD, LOADED, MODULE_A, MODULE_B, NOTHING, ONE, ONE_MODULE, ONE_SERVICE, Parts,
+    THREE_TAGS, TWO, TWO_TAGS, image, modules, with_tag,
 };
 use ash_state_image::image::{read_body, read_image};
 use ash_state_image::stored::StoredImage;
@@ -194,7 +194,13 @@ fn bodies_with_another_tag(rt: HostRuntime) -> Result<(), Fail> {
     let image = image(rt.alloc(), TWO, ONE_MODULE)?;
     for tag in 0..=255 {
         let body = with_tag(rt.alloc(), tag, &image)?;
-        check_body(&rt, rt.alloc(), &body, tag == 1, ("the tag", usize::from(tag)))?;
+        check_body(
+            &rt,
+            rt.alloc(),
+            &body,
+            tag == 1,
+            ("the tag", usize::from(tag)),
+        )?;
     }
     Ok(())
 }
@@ -203,7 +209,13 @@ fn bodies_with_another_tag(rt: HostRuntime) -> Result<(), Fail> {
 fn bodies_that_are_cut_and_longer(rt: HostRuntime) -> Result<(), Fail> {
     let alloc = rt.alloc();
     let image = image(alloc, TWO, LOADED)?;
-    check_body(&rt, alloc, &image, false, ("an image alone, of bytes", image.len()))?;
+    check_body(
+        &rt,
+        alloc,
+        &image,
+        false,
+        ("an image alone, of bytes", image.len()),
+    )?;
     let mut longer = with_tag(alloc, 1, &image)?;
     longer.push(0)?;
     // Of 38 bytes it is the body.

@@ -74,7 +74,13 @@ type Row = (&'static str, &'static [u8], Parts, Registered, usize);
 static ROWS: [Row; 5] = [
     // The version, and two numbers of eight bytes.
     ("nothing", TWO, NOTHING, Registered::Nothing, 1 + 16 * 255),
-    ("nothing, in version 1", ONE, NOTHING, Registered::Nothing, 1 + 16 * 255),
+    (
+        "nothing, in version 1",
+        ONE,
+        NOTHING,
+        Registered::Nothing,
+        1 + 16 * 255,
+    ),
     // The same, one letter of a name for another or `_`, and so in the source, where the blank may be another; and the
     // bytes of a value.
     (
@@ -100,7 +106,12 @@ static ROWS: [Row; 5] = [
         TWO,
         STORED,
         Registered::Counter,
-        8 * 255 + (253 + 7 * 255) + 52 + (52 + 50 + 50 + 9 * 3 + 2 + 2 * 53 + 1 + 4) + 4 * 255 + 8 * 255,
+        8 * 255
+            + (253 + 7 * 255)
+            + 52
+            + (52 + 50 + 50 + 9 * 3 + 2 + 2 * 53 + 1 + 4)
+            + 4 * 255
+            + 8 * 255,
     ),
 ];
 
@@ -188,10 +199,22 @@ type Refused = (&'static str, Parts, Registered);
 
 static REFUSED: [Refused; 8] = [
     // The text is another.
-    ("a type where none is registered", STORED, Registered::Nothing),
+    (
+        "a type where none is registered",
+        STORED,
+        Registered::Nothing,
+    ),
     ("a type and no service", STORED, Registered::Both),
-    ("nothing where a type is registered", NOTHING, Registered::Counter),
-    ("a service where none is registered", ONE_SERVICE, Registered::Nothing),
+    (
+        "nothing where a type is registered",
+        NOTHING,
+        Registered::Counter,
+    ),
+    (
+        "a service where none is registered",
+        ONE_SERVICE,
+        Registered::Nothing,
+    ),
     // A host object, and a script that names its type.
     ("objects with two tags", TWO_TAGS, Registered::Counter),
     ("objects with three tags", THREE_TAGS, Registered::Both),

@@ -66,11 +66,7 @@ fn answer<D: Disk>(alloc: Global, host: &mut Host<D>, step: Step) -> Result<Stri
 }
 
 /// What is answered to each step, a line each.
-pub fn answers<D: Disk>(
-    alloc: Global,
-    host: &mut Host<D>,
-    steps: &[Step],
-) -> Result<String, Fail> {
+pub fn answers<D: Disk>(alloc: Global, host: &mut Host<D>, steps: &[Step]) -> Result<String, Fail> {
     let mut all = String::new(alloc);
     for step in steps {
         let answer = answer(alloc, host, *step)?;

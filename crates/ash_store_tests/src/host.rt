@@ -73,7 +73,8 @@ static REQUESTS: [Request; 9] = [
     },
 ];
 
-const REPLIES: &str = "refused 402 ModuleTaken\nok 0 seq 2\nok 0\nrefused 407 NoObject\nok\nok seq 3\n\
+const REPLIES: &str =
+    "refused 402 ModuleTaken\nok 0 seq 2\nok 0\nrefused 407 NoObject\nok\nok seq 3\n\
     refused 401 NoModule\nok 3\nrefused 401 NoModule\n";
 
 #[test]
@@ -101,7 +102,12 @@ fn check_refused(
 ) -> Result<(), Fail> {
     let found = line_of(alloc, call(host, &[argument]))?;
     let what = shown(alloc, &argument)?;
-    check_text(rt, found.as_str(), "refused 405 BadArguments\n", what.as_str());
+    check_text(
+        rt,
+        found.as_str(),
+        "refused 405 BadArguments\n",
+        what.as_str(),
+    );
     Ok(())
 }
 

@@ -149,7 +149,8 @@ static ARRAYS: Life = (
     ],
 );
 
-const NAMES: &[u8] = b"int\nlast = first;\nint\nf(int first) {\n last += first - (last);\n first = 7;\n \
+const NAMES: &[u8] =
+    b"int\nlast = first;\nint\nf(int first) {\n last += first - (last);\n first = 7;\n \
     return last * 10 + first; }\nint\nfirst = 5;";
 
 // A parameter is not the global of its name, and a global is 0 until its initializer has run.

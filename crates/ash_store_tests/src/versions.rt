@@ -3,9 +3,9 @@
 use crate::checks::{Life, check, check_lives};
 use crate::damage::changed;
 use ash_durable::StoreFault;
+use ash_registry::Registry;
 use ash_store_fixtures::hosts::{EMPTY, State, add, closed, disk, found_state, need, opened};
 use ash_store_fixtures::lives::{File, Run, Start, Step, bytes_of};
-use ash_registry::Registry;
 use std::alloc::Global;
 use std::process::Abort;
 use std::test::Fail;
@@ -15,7 +15,11 @@ type Row = (&'static str, File, State);
 
 static ROWS: [Row; 4] = [
     ("nothing", File::Older(1, (0, None), &[]), (0, None)),
-    ("a module in the image", File::Older(1, (2, Some(7)), &[]), (2, Some(7))),
+    (
+        "a module in the image",
+        File::Older(1, (2, Some(7)), &[]),
+        (2, Some(7)),
+    ),
     (
         "a module in records",
         File::Older(1, (0, None), &[(1, Some(2)), (2, Some(7))]),
@@ -45,7 +49,12 @@ fn what_is_found_of_version_one(rt: HostRuntime) -> Result<(), Fail> {
     // It is the file of the present version but for one byte.
     let file = bytes_of(rt.alloc(), File::Older(1, (0, None), &[]))?;
     let wanted = changed(rt.alloc(), &EMPTY, 21, 1)?;
-    check(&rt, &file.as_slice(), &wanted.as_slice(), "an empty store of version 1");
+    check(
+        &rt,
+        &file.as_slice(),
+        &wanted.as_slice(),
+        "an empty store of version 1",
+    );
     Ok(())
 }
 
