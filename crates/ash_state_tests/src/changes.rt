@@ -32,16 +32,16 @@ static ROWS: [Row; 6] = [
         ONE_MODULE,
         1 + 16 * 255 + 52 + 6 * 255 + 4 * 255 + 1,
     ),
-    // No other version has an array. 25 characters of text; the number of answers; the last number of an object, which
-    // is 4 at the least; kind and state of the service; name and source. The first global may be of two other types and
-    // a handle to two other objects, since the array holds its object; so may the first element. The class of the
-    // object, the type and the value of its field; the class of the elements; the kind and the state of the host
-    // object.
+    // No other version has an array. One length of the text is 8 more, where the number of answers is text and all else
+    // is read 8 bytes later. 25 characters of text; the number of answers; the last number of an object, which is 4 at
+    // the least; kind and state of the service; name and source. The first global may be of two other types and a
+    // handle to two other objects, since the array holds its object; so may the first element. The class of the object,
+    // the type and the value of its field; the class of the elements; the kind and the state of the host object.
     (
         "objects with three tags",
         TWO,
         THREE_TAGS,
-        25 * 127
+        1 + 25 * 127
             + 8 * 255
             + (251 + 7 * 255)
             + 6 * 255
@@ -53,13 +53,15 @@ static ROWS: [Row; 6] = [
             + 2 * 255
             + 6 * 255,
     ),
-    // The version, 15 characters of text, the numbers, of which the last is 2 at the least, name and source, the class,
-    // the type and the value of a field, and a kind.
+    // The version, a length of the text that is 8 less, where all else is read 8 bytes before, 15 characters of text, the
+    // numbers, of which the last is 2 at the least, name and source, the class, the type and the value of a field, and a
+    // kind.
     (
         "objects with two tags, in version 1",
         ONE,
         TWO_TAGS,
-        1 + 15 * 127
+        1 + 1
+            + 15 * 127
             + 8 * 255
             + (253 + 7 * 255)
             + 52

@@ -12,7 +12,7 @@ pub(crate) const TWO: &[u8] = b"\x02\x00";
 pub(crate) const ONE: &[u8] = b"\x01\x00";
 
 /// A host that has no module, nothing registered, and has answered no request.
-pub(crate) static NOTHING: Parts = &[
+pub(crate) const NOTHING: Parts = &[
     // The length of the text, how many requests were answered, and the last number of an object.
     b"\x00\x00\x00\x00",
     b"\x00\x00\x00\x00\x00\x00\x00\x00",
@@ -24,7 +24,7 @@ pub(crate) static NOTHING: Parts = &[
 ];
 
 /// Such a host with a service of the kind 2 registered, whose state is in no image so far.
-pub(crate) static ONE_SERVICE: Parts = &[
+pub(crate) const ONE_SERVICE: Parts = &[
     b"\x0a\x00\x00\x00service 2\n",
     b"\x00\x00\x00\x00\x00\x00\x00\x00",
     b"\x00\x00\x00\x00\x00\x00\x00\x00",
@@ -34,7 +34,7 @@ pub(crate) static ONE_SERVICE: Parts = &[
 ];
 
 /// The module `m` with a global that holds -2, after three requests.
-pub(crate) static ONE_MODULE: Parts = &[
+pub(crate) const ONE_MODULE: Parts = &[
     b"\x00\x00\x00\x00",
     b"\x03\x00\x00\x00\x00\x00\x00\x00",
     b"\x00\x00\x00\x00\x00\x00\x00\x00",
@@ -49,7 +49,7 @@ pub(crate) static ONE_MODULE: Parts = &[
 ];
 
 /// The same after a load of `k`, its discard, and the load of `m`.
-pub(crate) static AFTER_THREE: Parts = &[
+pub(crate) const AFTER_THREE: Parts = &[
     b"\x00\x00\x00\x00",
     b"\x03\x00\x00\x00\x00\x00\x00\x00",
     b"\x00\x00\x00\x00\x00\x00\x00\x00",
@@ -64,7 +64,7 @@ pub(crate) static AFTER_THREE: Parts = &[
 
 /// The module `B`, whose global holds 7, and the module `a`, whose globals hold -1 and 256, after four requests. What
 /// comes before the modules, each of them, and what comes after them.
-pub(crate) static BEFORE_MODULES: Parts = &[
+pub(crate) const BEFORE_MODULES: Parts = &[
     b"\x00\x00\x00\x00",
     b"\x04\x00\x00\x00\x00\x00\x00\x00",
     b"\x00\x00\x00\x00\x00\x00\x00\x00",
@@ -72,14 +72,14 @@ pub(crate) static BEFORE_MODULES: Parts = &[
     b"\x02",
 ];
 
-pub(crate) static MODULE_B: Parts = &[
+pub(crate) const MODULE_B: Parts = &[
     b"\x01B",
     b"\x0a\x00\x00\x00int y = 7;",
     b"\x01\x00",
     b"\x01\x07\x00\x00\x00",
 ];
 
-pub(crate) static MODULE_A: Parts = &[
+pub(crate) const MODULE_A: Parts = &[
     b"\x01a",
     b"\x18\x00\x00\x00int x = -1; int z = 256;",
     b"\x02\x00",
@@ -87,11 +87,11 @@ pub(crate) static MODULE_A: Parts = &[
     b"\x01\x00\x01\x00\x00",
 ];
 
-pub(crate) static NO_OBJECTS: Parts = &[b"\x00\x00\x00\x00"];
+pub(crate) const NO_OBJECTS: Parts = &[b"\x00\x00\x00\x00"];
 
 /// The module `_a9` with no source, whose globals hold one word of each type but a handle to an object, after 258
 /// requests.
-pub(crate) static EACH_WORD: Parts = &[
+pub(crate) const EACH_WORD: Parts = &[
     b"\x00\x00\x00\x00",
     b"\x02\x01\x00\x00\x00\x00\x00\x00",
     b"\x00\x00\x00\x00\x00\x00\x00\x00",
@@ -110,7 +110,7 @@ pub(crate) static EACH_WORD: Parts = &[
 ];
 
 /// A module with a handle to the object 9, of which there is none.
-pub(crate) static DANGLING: Parts = &[
+pub(crate) const DANGLING: Parts = &[
     b"\x00\x00\x00\x00",
     b"\x01\x00\x00\x00\x00\x00\x00\x00",
     b"\x09\x00\x00\x00\x00\x00\x00\x00",
@@ -124,7 +124,7 @@ pub(crate) static DANGLING: Parts = &[
 ];
 
 /// The module `m` with no source and no globals, after one request.
-pub(crate) static LOADED: Parts = &[
+pub(crate) const LOADED: Parts = &[
     b"\x00\x00\x00\x00",
     b"\x01\x00\x00\x00\x00\x00\x00\x00",
     b"\x00\x00\x00\x00\x00\x00\x00\x00",
@@ -138,7 +138,7 @@ pub(crate) static LOADED: Parts = &[
 
 /// An object of a class, an array of handles to such, and a host object, after two requests, beside the state of a
 /// service. The objects have the numbers 1, 2 and 4, of 5 that were given.
-pub(crate) static THREE_TAGS: Parts = &[
+pub(crate) const THREE_TAGS: Parts = &[
     b"\x19\x00\x00\x00type Counter 1\nservice 2\n",
     b"\x02\x00\x00\x00\x00\x00\x00\x00",
     b"\x05\x00\x00\x00\x00\x00\x00\x00",
@@ -169,7 +169,7 @@ pub(crate) static THREE_TAGS: Parts = &[
 ];
 
 /// An object of a class and a host object, as version 1 has them.
-pub(crate) static TWO_TAGS: Parts = &[
+pub(crate) const TWO_TAGS: Parts = &[
     b"\x0f\x00\x00\x00type Counter 1\n",
     b"\x02\x00\x00\x00\x00\x00\x00\x00",
     b"\x02\x00\x00\x00\x00\x00\x00\x00",
@@ -190,7 +190,7 @@ pub(crate) static TWO_TAGS: Parts = &[
 ];
 
 /// An object of a class and an array of numbers, after the load of the module `m`.
-pub(crate) static CONSTRUCTED: Parts = &[
+pub(crate) const CONSTRUCTED: Parts = &[
     b"\x00\x00\x00\x00",
     b"\x01\x00\x00\x00\x00\x00\x00\x00",
     b"\x02\x00\x00\x00\x00\x00\x00\x00",
@@ -212,7 +212,7 @@ pub(crate) static CONSTRUCTED: Parts = &[
 ];
 
 /// An object of a class and an array of numbers, with a type registered that the script doesn't use.
-pub(crate) static STORED: Parts = &[
+pub(crate) const STORED: Parts = &[
     b"\x0f\x00\x00\x00type Counter 1\n",
     b"\x01\x00\x00\x00\x00\x00\x00\x00",
     b"\x02\x00\x00\x00\x00\x00\x00\x00",

@@ -1,7 +1,6 @@
 //! Images that are restored with what is registered, each byte of them changed to every other, and each cut: what is
 //! left is refused, or is the image of the host that is restored. `reads_as` asks in the order in which a store does.
 
-ghost use Rattle.std.specs.Prelude.{◌≡◌};
 ghost use Rattle.ash_state_image.specs.Rules.{IsShaped};
 ghost use Rattle.ash_state_image.specs.Views.{snapshot_of};
 
@@ -41,7 +40,8 @@ fn registry_of(alloc: Global, registered: Registered) -> Result<Registry, Regist
     Ok(registry)
 }
 
-/// The state that was stored, where a host may be in it.
+/// The host with this registry that is in the state that was stored: its text is that of the registry, and what it holds
+/// is of the types that its sources say.
 fn restored(
     alloc: Global,
     registry: Registry,
@@ -49,23 +49,22 @@ fn restored(
 ) -> Result<Option<HostState>, AllocError>
     requires shaped { IsShaped (snapshot_of stored) }
 {
+    if stored.registered.as_str() != registry.text() {
+        return Ok(None);
+    }
     HostState::restore(alloc, registry, stored)
 }
 
-/// The host that bytes are read as, if they are the image of one with this registry: they have a shape, their text is
-/// that of the registry, and what they hold is of the types that their sources say.
+/// The host with this registry that bytes are read as, if they are the image of one.
 fn reads_as(
     alloc: Global,
     registry: Registry,
     bytes: &[u8],
 ) -> Result<Option<HostState>, AllocError> {
-    let Some(read) = read_image(alloc, bytes)? else {
-        return Ok(None);
-    };
-    if read.state.registered.as_str() != registry.text() {
-        return Ok(None);
+    match read_image(alloc, bytes)? {
+        Some(stored) => restored(alloc, registry, stored.state),
+        None => Ok(None),
     }
-    restored(alloc, registry, read.state)
 }
 
 /// An image: what it is called, its version, what follows it, what is registered, and how many changes of one byte leave
@@ -99,8 +98,9 @@ static ROWS: [Row; 5] = [
         1 + 16 * 255 + 52 + (52 + 3) + 4 * 255,
     ),
     // The numbers, of which the last is 2 at the least; the name; in the source three names of one letter, of which two
-    // are taken by each other and by the class, nine blanks, of which two may be `;` and two a letter of the name after
-    // them or `_`, and the `@` of the first global, which may be a blank; the value of the field, and of the elements.
+    // are taken by each other and by the class, nine blanks, of which two may be `;`, two a letter of the name after
+    // them or `_`, and one an `@`, and the `@` of the first global, which may be a blank; the value of the field, and of
+    // the elements.
     (
         "an object and an array",
         TWO,
@@ -109,7 +109,7 @@ static ROWS: [Row; 5] = [
         8 * 255
             + (253 + 7 * 255)
             + 52
-            + (52 + 50 + 50 + 9 * 3 + 2 + 2 * 53 + 4)
+            + (52 + 50 + 50 + 9 * 3 + 2 + 2 * 53 + 1 + 4)
             + 4 * 255
             + 8 * 255,
     ),
