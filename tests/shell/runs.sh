@@ -269,6 +269,35 @@ for file in tests/rows/run/*.rows; do
     rows_of "$file" run
 done
 
+# Release points. A row of tests/rows/releases has how many objects of a script live at once at the most, those of its globals
+# among them, and the function that raises ObjectLimit where one of them is too many; then a bar and the script, whose `f` is
+# called. Another module has so many objects that a script finds room for as many as the row says, and for one less.
+filler='class A { } array<A@> all; void room(int n) { while (all.length() > 4095 - n) all.removeLast();
+while (all.length() < 4095 - n) all.insertLast(A()); }'
+making='class A { } A@ g; int one(A@ a) { return 1; } int two(A@ a, A@ b) { return 2; } '
+
+# release PLACE MOST SCRIPT
+release() {
+    local most=${2% *} outcome
+    for outcome in "exception ObjectLimit ${2#* } 1" ok; do
+        ask "$1" ok "call filler room 20"
+        ask_load "$1" ok m "$making$3"
+        [ "$outcome" = ok ] || most=$((most - 1))
+        ask "$1" ok "call filler room $most"
+        ask "$1" "$outcome" "call m f"
+        ask "$1" ok "discard m"
+        most=${2% *}
+    done
+}
+budget=20000
+for file in tests/rows/releases/*.rows; do
+    anew
+    ask_load "$file: a load" ok filler "${filler//$'\n'/ }"
+    rows_of "$file" release
+    carry_out "$file"
+done
+budget=1000
+
 # Ticks. A row of tests/rows/ticks has how a request ends with each budget from 0 on, with a comma between two of these: the
 # function and the line where it is aborted, and at last its reply, which stays the same with each greater budget. Then come a
 # bar, the request, a bar and the script. All rows of a file are in one run for each budget.
