@@ -1,77 +1,6 @@
 # Runs of scripts. Each folder of tests/rows that is named below has rows of its own form: the replies, a bar, and what is asked.
-# A reply is written without its `ok`, where more follows, and without its sequence number, which is one more than that of the
-# answer before it: so `7` is `ok 7 seq 2` of the first call. In a source `\n` is a line feed.
-
-budget=1000
-
-# anew: nothing is asked yet
-anew() {
-    asked=
-    places=()
-    requests=()
-    wanted=()
-}
-
-# ask PLACE WANTED REQUEST [SOURCE]: the next run has this request, which the row at this place wants so replied to
-ask() {
-    places+=("$1")
-    wanted+=("$2")
-    requests+=("$3")
-    asked+=$3$'\n'
-    [ $# -eq 3 ] || asked+=$4$'\n'
-}
-
-# ask_load PLACE WANTED MODULE SOURCE: the same of a load of a source, in which each character is a byte
-ask_load() {
-    ask "$1" "$2" "load $3 ${#4}" "$4"
-}
-
-# whole WANTED REQUEST NUMBER: the line of a reply, in $line. An answer has this sequence number.
-whole() {
-    local outcome=${1%% dropped *}
-    case $outcome in
-        ok | refused* | exception* | aborted*) line=$outcome ;;
-        *) line="ok $outcome" ;;
-    esac
-    case $outcome/$2 in
-        refused*) ;;
-        */load* | */call* | */discard*) line+=" seq $3${1#"$outcome"}" ;;
-    esac
-}
-
-# carry_out NAME: a run over what was asked ends well, and each row gets its replies
-carry_out() {
-    local each line place=${places[0]} found= number=0 replies=()
-    printf '%s' "$asked" > "$scratch/input"
-    ends "$1: a run" 0 "" try --budget "$budget" --counters 2
-    mapfile -t replies < "$scratch/output"
-    for each in "${!requests[@]}"; do
-        if [ "${places[each]}" != "$place" ]; then
-            [ -z "$found" ]
-            verdict $? "$place: $found"
-            place=${places[each]}
-            found=
-        fi
-        whole "${wanted[each]}" "${requests[each]}" $((number + 1))
-        [ "${replies[each]}" = "$line" ] || found+="${requests[each]}: $line (${replies[each]}); "
-        [[ ${replies[each]} = *' seq '* ]] && number=${replies[each]#* seq } && number=${number%% *}
-    done
-    [ -z "$found" ]
-    verdict $? "$place: $found"
-    [ ${#replies[@]} -eq ${#requests[@]} ]
-    verdict $? "$1: ${#replies[@]} replies to ${#requests[@]} requests"
-}
-
-# all_rows FOLDER COMMAND..: the rows of each file of a folder, in one run each
-all_rows() {
-    local file folder=$1
-    shift
-    for file in tests/rows/"$folder"/*.rows; do
-        anew
-        rows_of "$file" "$@"
-        carry_out "$file"
-    done
-}
+# In a source `\n` is a line feed.
+. tests/shell/asking.sh
 
 # fits PLACE COUNT COUNT: a row has as many results as operands
 fits() {
@@ -151,7 +80,7 @@ done
 
 # mixed PLACE RESULTS OPERANDS: the results stay in a type that has all of them
 mixed() {
-    local index results left operand operator right words wide
+    local index left operand operator results right type wide words
     read -r type results <<< "$2"
     read -r -a results <<< "$results"
     read -r left operand operator right words <<< "$3"
@@ -209,7 +138,8 @@ all_rows expressions expression
 # A row of tests/rows/run has the replies, a bar, the requests, a bar and the script, or several with a # between two of them;
 # between replies and between requests is a semicolon. It is a run of its own. The first request is a load of the first script
 # as the module m, where none is written. `load k 2` loads the second one as k, `f 1` calls a function of m, `get n` and
-# `discard` are of m where no module is named, and `budget 5` comes first and sets the budget.
+# `discard` are of m where no module is named, and `budget 5` comes first and sets the budget. At `reopen` the run ends, and
+# another one over the same store goes on; it has no reply.
 
 # request TEXT: the request that a row writes so, in $request
 request() {
@@ -221,23 +151,20 @@ request() {
     esac
 }
 
-# ask_all PLACE SOURCE: the requests in $texts, of which the replies are in $outcomes
-ask_all() {
-    local index name number request sources
-    IFS='#' read -r -d '' -a sources <<< "${2//\\n/$'\n'}"
-    sources[-1]=${sources[-1]%$'\n'}
-    for index in "${!texts[@]}"; do
-        case ${texts[index]} in
-            load | 'load '*)
-                read -r _ name number <<< "${texts[index]}"
-                ask_load "$1" "${outcomes[index]}" "${name:-m}" "${sources[${number:-1} - 1]}"
-                ;;
-            *)
-                request "${texts[index]}"
-                ask "$1" "${outcomes[index]}" "$request"
-                ;;
-        esac
-    done
+# ask_text PLACE TEXT: a request of a row, with the next of the replies in $outcomes
+ask_text() {
+    local module outcome=${outcomes[0]-none} request which
+    outcomes=("${outcomes[@]:1}")
+    case $2 in
+        load | 'load '*)
+            read -r _ module which <<< "$2"
+            ask_load "$1" "$outcome" "${module:-m}" "${sources[${which:-1} - 1]}"
+            ;;
+        *)
+            request "$2"
+            ask "$1" "$outcome" "$request"
+            ;;
+    esac
 }
 
 # list TEXT SIGN: the parts of a text between two of which are this sign and a space, in $parts
@@ -247,11 +174,14 @@ list() {
 
 # run PLACE REPLIES REQUESTS-AND-SCRIPT
 run() {
-    local budget=$budget outcomes parts texts
+    local budget=$budget host=(try) number=0 outcomes parts sources text texts
     list "$2" ';'
     outcomes=("${parts[@]}")
     list "${3%% | *}" ';'
     texts=("${parts[@]}")
+    text=${3#* | }
+    IFS='#' read -r -d '' -a sources <<< "${text//\\n/$'\n'}"
+    sources[-1]=${sources[-1]%$'\n'}
     if [[ ${texts[0]} = 'budget '* ]]; then
         budget=${texts[0]#budget }
         texts=("${texts[@]:1}")
@@ -260,43 +190,40 @@ run() {
         texts=(load "${texts[@]}")
         outcomes=(ok "${outcomes[@]}")
     fi
-    [ ${#texts[@]} -eq ${#outcomes[@]} ] || verdict 1 "$1: ${#outcomes[@]} replies to ${#texts[@]} requests"
+    if [[ " ${texts[*]} " = *' reopen '* ]]; then
+        rm -rf "$scratch/store"
+        mkdir "$scratch/store"
+        asks ''
+        ends "$1: a new store" 0 "" create "$scratch/store"
+        host=(serve "$scratch/store")
+    fi
     anew
-    ask_all "$1" "${3#* | }"
-    carry_out "$1"
+    for text in "${texts[@]}"; do
+        if [ "$text" = reopen ]; then
+            carry_out "$1" "$number"
+            anew
+        else
+            ask_text "$1" "$text"
+        fi
+    done
+    carry_out "$1" "$number"
+    [ ${#outcomes[@]} -eq 0 ]
+    verdict $? "$1: more replies than requests: ${outcomes[*]}"
 }
 for file in tests/rows/run/*.rows; do
     rows_of "$file" run
 done
+printf -v zeros ' 0%.0s' {1..4096}
+run "an array with 4,096 elements" "ok; exception ArrayLimit f 1; object 1 array count 1$zeros" \
+    "f 4096; f 4097; object 1 | array<int> a; void f(uint n) { a.resize(n); }"
 
-# Release points. A row of tests/rows/releases has how many objects of a script live at once at the most, those of its globals
-# among them, and the function that raises ObjectLimit where one of them is too many; then a bar and the script, whose `f` is
-# called. Another module has so many objects that a script finds room for as many as the row says, and for one less.
-filler='class A { } array<A@> all; void room(int n) { while (all.length() > 4095 - n) all.removeLast();
-while (all.length() < 4095 - n) all.insertLast(A()); }'
-making='class A { } A@ g; int one(A@ a) { return 1; } int two(A@ a, A@ b) { return 2; } '
-
-# release PLACE MOST SCRIPT
-release() {
-    local most=${2% *} outcome
-    for outcome in "exception ObjectLimit ${2#* } 1" ok; do
-        ask "$1" ok "call filler room 20"
-        ask_load "$1" ok m "$making$3"
-        [ "$outcome" = ok ] || most=$((most - 1))
-        ask "$1" ok "call filler room $most"
-        ask "$1" "$outcome" "call m f"
-        ask "$1" ok "discard m"
-        most=${2% *}
-    done
+# limit PLACE REPLIES REQUESTS-AND-SCRIPT: the same as run, with the function `hold` in the script, and 5,000 ticks
+limit() {
+    run "$1" "$2" "budget 5000; ${3%% | *} | $holding${3#* | }"
 }
-budget=20000
-for file in tests/rows/releases/*.rows; do
-    anew
-    ask_load "$file: a load" ok filler "${filler//$'\n'/ }"
-    rows_of "$file" release
-    carry_out "$file"
+for file in tests/rows/limits/*.rows; do
+    rows_of "$file" limit
 done
-budget=1000
 
 # Ticks. A row of tests/rows/ticks has how a request ends with each budget from 0 on, with a comma between two of these: the
 # function and the line where it is aborted, and at last its reply, which stays the same with each greater budget. Then come a
