@@ -14,7 +14,7 @@ type Row = (&'static str, &'static [u8], Parts, usize);
 
 // A change of any byte of the numbers counts, of the one that is the version's one that is another version, and of
 // what is not looked into here: sources, kinds and classes.
-static ROWS: [Row; 6] = [
+const ROWS: [Row; 6] = [
     // The version, and two numbers of eight bytes.
     ("nothing", TWO, NOTHING, 1 + 16 * 255),
     ("nothing, in version 1", ONE, NOTHING, 1 + 16 * 255),
