@@ -11,7 +11,7 @@ use std::test::Fail;
 /// one letter each, from `A` on, and whether it is one.
 type MadeUp = (&'static str, u32, usize, u8, bool);
 
-static MADE_UP: [MadeUp; 7] = [
+const MADE_UP: [MadeUp; 7] = [
     ("a text at its limit", 1_048_576, 1_048_576, 0, true),
     ("a text beyond its limit", 1_048_577, 1_048_577, 0, false),
     // A length that is one byte more, and one less, than there is.
@@ -72,7 +72,7 @@ fn one_module(alloc: Global, spaces: u32, globals: u16) -> Result<Vec<u8>, Alloc
 /// A module: what it is called, the length of its source, how many globals it has, and whether it is in an image.
 type Sized = (&'static str, u32, u16, bool);
 
-static SIZED: [Sized; 4] = [
+const SIZED: [Sized; 4] = [
     ("a source at its limit", 65_536, 0, true),
     ("a source beyond its limit", 65_537, 0, false),
     ("256 globals", 0, 256, true),

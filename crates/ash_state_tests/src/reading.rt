@@ -51,7 +51,7 @@ fn check_read(
 /// An image: what it is called, its version, what follows it, and what it depicts.
 type Row = (&'static str, &'static [u8], Parts, &'static str);
 
-static ROWS: [Row; 11] = [
+const ROWS: [Row; 11] = [
     (
         "nothing",
         TWO,

@@ -65,7 +65,7 @@ fn check_rows(rt: &impl Abort, alloc: Global, rows: &[Row]) -> Result<(), Fail> 
     Ok(())
 }
 
-static FRAMES: [Row; 14] = [
+const FRAMES: [Row; 14] = [
     ("no bytes", b"", &[], Change::Same, false),
     ("the version 0", b"\x00\x00", NOTHING, Change::Same, false),
     ("the version 1", ONE, NOTHING, Change::Same, true),
@@ -115,7 +115,7 @@ fn frames(rt: HostRuntime) -> Result<(), Fail> {
 // In `THREE_TAGS` the last number is at 39, the service at 47, the numbers in the first global and the third at 116 and
 // 134, and the objects at 142: the object 1 at 146, its tag at 154; the object 2 at 164, its tag at 172; the object 4 at
 // 189, its tag at 197.
-static OBJECTS: [Row; 18] = [
+const OBJECTS: [Row; 18] = [
     (
         "an array in version 1",
         ONE,
@@ -236,7 +236,7 @@ fn objects(rt: HostRuntime) -> Result<(), Fail> {
 type Named = (&'static str, u8, bool);
 
 // The first is `B`, and its name is at 26; the second is `a`.
-static NAMED: [Named; 4] = [
+const NAMED: [Named; 4] = [
     ("`B` before `a`", b'B', true),
     ("`C` before `a`", b'C', true),
     ("one name twice", b'a', false),

@@ -71,7 +71,7 @@ fn reads_as(
 /// the image of a host.
 type Row = (&'static str, &'static [u8], Parts, Registered, usize);
 
-static ROWS: [Row; 5] = [
+const ROWS: [Row; 5] = [
     // The version, and two numbers of eight bytes.
     ("nothing", TWO, NOTHING, Registered::Nothing, 1 + 16 * 255),
     (
@@ -197,7 +197,7 @@ fn each_cut(rt: HostRuntime) -> Result<(), Fail> {
 /// Images that no host is restored from: what they are called, what follows the version, and what is registered.
 type Refused = (&'static str, Parts, Registered);
 
-static REFUSED: [Refused; 8] = [
+const REFUSED: [Refused; 8] = [
     // The text is another.
     (
         "a type where none is registered",

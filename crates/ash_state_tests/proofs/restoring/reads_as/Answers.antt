@@ -4,4 +4,4 @@ use Rattle.ash_state_tests.proofs.restoring.reads_as.Goals as goal
 pub restored-requires : goal.restored-requires
 restored-requires c =
     let is = rw c.in-Some.is at c.in_ok-stored.ensures.found in
-    (c.in-Some.stored.version, is.0.0, is.1)
+    record { shaped = (c.in-Some.stored.version, is.0.0, is.1) }
