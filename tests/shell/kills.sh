@@ -25,6 +25,29 @@ asks 'get m n\nseq\ncall m f 1\n'
 ends "serve after a kill" 0 "" serve "$store" --budget 1000 --counters 2
 holds "what is found after a kill" $'ok 10\nok 3\nok 11 seq 4'
 
+# The same of objects and two modules: what is answered is found, and what was sent in part is not.
+store=$scratch/objects
+empty_store "$store"
+coproc killed { exec "$ashd" serve "$store" --budget 1000 --counters 0; }
+killed_id=$killed_PID
+exec {replies}<&"${killed[0]}" {requests}>&"${killed[1]}"
+source='class A { int v; } A@ a = A(); array<A@> l; void f() { a.v = a.v + 1; l.insertLast(a); }'
+printf 'load m %s\n%s\nload k %s\n%s\ncall k f\ndiscard m\ncall k f\ncall k' \
+    ${#source} "$source" ${#source} "$source" >&"$requests"
+for wanted in 'ok seq 1' 'ok seq 2' 'ok seq 3' 'ok seq 4' 'ok seq 5'; do
+    read -r -t 10 called <&"$replies"
+    [ "$called" = "$wanted" ]
+    verdict $? "a reply before the kill of a host with objects: $called"
+done
+kill -KILL "$killed_id"
+{ wait "$killed_id"; } 2> /dev/null
+exec {replies}<&- {requests}>&-
+asks 'object 1\nobject 2\nobject 3\nobject 4\nget m a\nget k a\ncall k f\nobject 3\n'
+ends "serve a host with objects after a kill" 0 "" serve "$store" --budget 1000 --counters 0
+holds "the objects that are found after a kill" "$(printf '%s\n' 'refused 407 NoObject' 'refused 407 NoObject' \
+    'ok object 3 k.A count 3 v 2' 'ok object 4 array count 1 object 3 object 3' 'refused 401 NoModule' 'ok object 3' \
+    'ok seq 6' 'ok object 3 k.A count 4 v 3')"
+
 # Kills at random times: within requests and snapshots, between them, and in openings. A call adds 1 to `n`, which was 7 after
 # the second request of the first example.
 SEED=${SEED:-$RANDOM}

@@ -103,10 +103,10 @@ registered_text() {
     printf 'property Counter 1 int value\nservice 2\nfunction 0 1 int tally(int)\nfunction 0 2 int total()\n'
 }
 
-# image NUMBER MODULES: the image of a host with that text, after fewer than 256 requests, and with these modules, which are
+# image NUMBER MODULES: the image in version 2 of a host with that text, after fewer than 256 requests, and with these modules, which are
 # how many there are and each of them, and which printf writes: 220 bytes without any
 image() {
-    printf '\001\0\277\0\0\0'
+    printf '\002\0\277\0\0\0'
     registered_text
     printf "\\$(printf %o "$1")"
     printf '\0\0\0\0\0\0\0\0\0\0\0\0\0\0\0\0\0'

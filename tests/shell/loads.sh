@@ -1,5 +1,5 @@
 # Sources, each with what a load of it is answered and what a check of it prints. In a row of tests/rows/load a source `runs`,
-# is `sound` and can't be run so far, or is refused for this fault.
+# is checked well but uses something `registered`, which can't be run so far, or is refused for this fault.
 
 # reply PLACE WANTED SOURCE: a load of this source, over what the program registers, is replied to with this line
 reply() {
@@ -13,7 +13,7 @@ reply() {
 loaded() {
     case $2 in
         runs) row "$1" ok "$3"; reply "$1" "ok seq 1" "$3" ;;
-        sound) row "$1" ok "$3"; reply "$1" "refused 199 NotYet" "$3" ;;
+        registered) row "$1" ok "$3"; reply "$1" "refused 199 NotYet" "$3" ;;
         *) row "$1" "$2" "$3"; reply "$1" "refused $2" "$3" ;;
     esac
 }
@@ -33,7 +33,7 @@ number() {
 number 16
 loaded "a number in 16 brackets" runs "$source"
 number 63
-loaded "a number in 63 brackets" sound "$source"
+loaded "a number in 63 brackets" runs "$source"
 number 64
 loaded "a number in 64 brackets" "106 TooDeep 81" "$source"
 
@@ -60,4 +60,4 @@ int first() {
     return log.all[0];
 }
 END
-loaded "a script with an interface, an array, an index and a cast" sound "$source"
+loaded "a script with an interface, an array, an index and a cast" runs "$source"

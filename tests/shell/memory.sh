@@ -4,6 +4,10 @@ empty_store "$scratch/empty"
 mkdir "$scratch/other"
 cc -shared -fPIC -o "$scratch/refuse_memory.so" tests/refuse_memory.c -ldl
 verdict $? "the library that refuses memory"
+REFUSE=1 REFUSED="$scratch/was_refused" LD_PRELOAD="$scratch/refuse_memory.so" \
+    "$ashd" try --budget 1 --counters 0 < /dev/null > "$scratch/output" 2> "$scratch/error"
+[ -e "$scratch/was_refused" ]
+verdict $? "an allocation of this program that is refused"
 
 # refused NUMBER WORD..: sets $end to how ashd ends on these words where the allocation of this number is refused
 refused() {
@@ -144,3 +148,38 @@ for number in $(seq 1 1000); do
     verdict $? "what is found after allocation $number was refused over several records: $found"
 done
 verdict $untouched "a run over several records that no refusal meets"
+
+# A module with objects. Where memory is refused before a request changes anything, the next one is handled; where it is refused
+# while one does, the state is lost, and what was answered before is found.
+source='class A { int v; } A@ a = A(); array<A@> l; void f() { A@ b = A(); b.v = a.v + 1; @a = b; l.insertLast(b); }'
+array='ok object 2 array count 1'
+asks "load m ${#source}\n$source\ncall m f\nobject 2\ncall m f\nobject 2\nseq\n"
+no='refused 509 NoMemory' lost='refused 508 Reopen'
+untouched=1
+for number in $(seq 1 2000); do
+    keep "$scratch/empty" "$scratch/other"
+    refused "$number" serve "$scratch/other" --budget 1000 --counters 0
+    case $end in
+        "1/ashd: 509 NoMemory/") answered=0 ;;
+        "0//$no;refused 401 NoModule;refused 407 NoObject;refused 401 NoModule;refused 407 NoObject;ok 0;") answered=0 ;;
+        "0//$no;$lost;$lost;$lost;$lost;ok 0;") answered=0 ;;
+        "0//ok seq 1;$no;$array;ok seq 2;$array object 3;ok 2;") answered=2 ;;
+        "0//ok seq 1;$no;$lost;$lost;$lost;ok 1;") answered=1 ;;
+        "0//ok seq 1;ok seq 2;$no;ok seq 3;$array object 3 object 4;ok 3;") answered=3 ;;
+        "0//ok seq 1;ok seq 2;$array object 3;$no;$array object 3;ok 2;") answered=2 ;;
+        "0//ok seq 1;ok seq 2;$array object 3;$no;$lost;ok 2;") answered=2 ;;
+        "0//ok seq 1;ok seq 2;$array object 3;ok seq 3;$no;ok 3;") answered=3 ;;
+        "0//ok seq 1;ok seq 2;$array object 3;ok seq 3;$array object 3 object 4;ok 3;") untouched=0; break ;;
+        *) verdict 1 "allocation $number refused over objects: $end"; continue ;;
+    esac
+    case $answered in
+        0) wanted="ok 0;refused 407 NoObject;" ;;
+        1) wanted="ok 1;$array;" ;;
+        2) wanted="ok 2;$array object 3;" ;;
+        *) wanted="ok 3;$array object 3 object 4;" ;;
+    esac
+    found=$(printf 'seq\nobject 2\n' | "$ashd" serve "$scratch/other" --budget 1000 --counters 0 | tr '\n' ';')
+    [ "$found" = "$wanted" ]
+    verdict $? "what is found after allocation $number was refused over objects: $found"
+done
+verdict $untouched "a run over objects that no refusal meets"

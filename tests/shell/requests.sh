@@ -13,11 +13,15 @@ bad='refused 601 BadRequest' missing='refused 401 NoModule' later='refused 199 N
 # What is no request: an empty line, a line with two spaces at its end, and a source that no line feed follows.
 replied "requests, and lines that are none" 1000 \
     'seq\n\nget m n\ncall m f 5 true -7\nload m 3\nabc\nload m 2\nabcd\nobject 1\nseq  \nquit\nseq\n' \
-    'ok 0' "$bad" "$missing" "$missing" 'refused 104 Unexpected 3' "$bad" "$bad" "$bad" ok
+    'ok 0' "$bad" "$missing" "$missing" 'refused 104 Unexpected 3' "$bad" 'refused 407 NoObject' "$bad" ok
 replied "snapshots, which have no number" 0 'load m 0\n\nsnapshot\nsnapshot x\nsnapshot \nsnapshot\nseq\n' \
     'ok seq 1' ok "$bad" "$bad" ok 'ok 1'
-replied "loads of what can't be run so far, which have no number" 1000 'load m 8\nbool b; \nload m 11\nclass A { }\nseq\n' \
-    "$later" "$later" 'ok 0'
+replied "loads of what uses something registered, which have no number" 1000 \
+    'load m 11\nCounter@ c;\nload m 27\nint t() { return total(); }\nseq\n' "$later" "$later" 'ok 0'
+replied "loads of what uses nothing registered" 1000 'load m 8\nbool b; \nload k 11\nclass A { }\nseq\n' 'ok seq 1' 'ok seq 2' 'ok 2'
+replied "looks at objects, and lines that are none" 1000 \
+    'load m 23\nclass A { } A@ a = A();\nobject 1\nobject 2\nobject\nobject x\nobject 1 1\nobject 18446744073709551616\nseq\n' \
+    'ok seq 1' 'ok object 1 m.A count 1' 'refused 407 NoObject' "$bad" "$bad" "$bad" "$bad" 'ok 1'
 replied "loads of what has no tokens, which have no number" 1000 \
     'load m 5\nint "\nload m 4\n/* x\nload m 4\nab\377\376\nload m 27\nint n=999999999999999999999\nseq\n' \
     'refused 101 BadCharacter 4' 'refused 102 UnclosedComment 0' 'refused 101 BadCharacter 2' \

@@ -37,6 +37,18 @@ keep "$store" "$scratch/before"
 ends "create over a store that was used" 1 "ashd: 502 AlreadyThere" create "$store"
 same "a create over a used store changes nothing" "$store" "$scratch/before"
 
+# The second example of README.md, on a copy of that store.
+keep "$store" "$scratch/second"
+cp examples/objects.requests "$scratch/input"
+ends "the second example" 0 "" try --budget 1000 --counters 0
+cmp -s "$scratch/output" examples/objects.replies
+verdict $? "the replies of the second example"
+ends "serve the second example" 0 "" serve "$scratch/second" --budget 1000 --counters 2
+holds "the second example over a store" $'ok seq 3\nok 70 seq 4\nok object 1\nok object 1 shop.Purse count 1 gold 70\nok'
+asks 'object 1\nget m n\n'
+ends "serve the second example again" 0 "" serve "$scratch/second" --budget 1000 --counters 2
+holds "what is found of it" $'ok object 1 shop.Purse count 1 gold 70\nok 7'
+
 asks 'load b 10\nint n = 1;\nload a 10\nint n = 2;\nload c 10\nint n = 3;\ndiscard b\ndiscard z\n'
 keep "$store" "$scratch/other"
 ends "serve several modules" 0 "" serve "$scratch/other" --budget 1000 --counters 0
@@ -104,10 +116,12 @@ asks ''
 ends "serve a store with torn gates" 0 "" serve "$scratch/torn" --budget 1000 --counters 0
 same "torn gates are written over" "$scratch/torn" "$store"
 
-# A store of an older ashd has its state in one image of the first generation, before what is left of a longer one.
+# A store of an older ashd has its state in one image of version 1, of the first generation, before what is left of a longer
+# one.
 mkdir "$scratch/older"
 used='\001\001m\055\0\0\0int n = 2; int f(int k) { n += k; return n; }\001\0\001\007\0\0\0'
 generation 1 278 2 "$used" > "$scratch/older/ash.a"
+put '\001' 21 "$scratch/older/ash.a"
 printf 'what is left of a longer file\001' >> "$scratch/older/ash.a"
 printf '\0' > "$scratch/older/ash.b"
 asks 'get m n\nseq\ncall m f 1\n'

@@ -44,7 +44,8 @@ fn describe(rt: &HostRuntime, registry: &Registry, name: &str, text: &str) -> Re
         text.len()
     )?;
     match fault(rt.alloc(), registry, text)? {
-        Some(fault) => println!(rt; "  {fault}")?,
+        Some(CheckFault::Broken(fault)) => { println!(rt; "  {} {}", fault.rule.code(), fault.at)? }
+        Some(fault) => println!(rt; "  {}", fault.code())?,
         None => println!(rt; "  ok")?,
     }
     Ok(())

@@ -9,8 +9,6 @@ use Rattle.std.specs.Option.{option_map_or}
 use Rattle.std.specs.List.{Contains}
 use Rattle.ash_registrations.specs.Registrations.{Registration}
 use Rattle.ash_tree.specs.Tree.{Class, Item}
-use Rattle.ash_typing.specs.declared.fault.Rule.{Rule}
-use Rattle.ash_typing.specs.declared.fault.Rule.TheVariants as rules
 use Rattle.ash_typed.specs.Modules.{Module}
 use Rattle.ash_typing.specs.Items.{module_typed}
 use Rattle.ash_expressions.specs.declared.error.CheckError.{CheckError}
@@ -20,30 +18,16 @@ use Rattle.ash_classes.specs.Paths.{IsPath}
 use Rattle.ash_classes.specs.References.{Refers, classes_of}
 use Rattle.ash_classes.specs.ReportedCycle.{reported_cycle}
 use Rattle.ash_check.specs.declared.faults.CheckFault.{CheckFault}
-use Rattle.ash_check.specs.Faults.{rule_fault, fault_of_error}
-use Rattle.ash_check.specs.Checks.{ScriptFault, Cyclic, name_at, names_of_cycle, unless_cycle, checked_by, checked, broken_at}
-use Rattle.ash_check.specs.Checks.{script_fault_of, IsReportedFault, Reports, HoldsNamed, LeadsTo, IsNamedCycle}
+use Rattle.ash_check.specs.Faults.{fault_of_error}
+use Rattle.ash_check.specs.Checks.{ScriptFault, Cyclic, name_at, names_of_cycle, unless_cycle, checked_by, checked}
+use Rattle.ash_check.specs.Checks.{Reports, HoldsNamed, LeadsTo, IsNamedCycle}
 
 -- faults
-
-rule_is_reported : (rule : Rule) (at : ℕ) → script_fault_of (rule_fault rule at) ≡ broken_at rule at
-rule_is_reported rules.UnknownName at = refl
-rule_is_reported rules.UnknownType at = refl
-rule_is_reported rules.NameTaken at = refl
-rule_is_reported rules.TypeMismatch at = refl
-rule_is_reported rules.WrongArgumentCount at = refl
-rule_is_reported rules.NotAssignable at = refl
-rule_is_reported rules.NoReturn at = refl
-rule_is_reported rules.Misplaced at = refl
-rule_is_reported rules.NoFactory at = refl
-rule_is_reported rules.TooMany at = refl
-rule_is_reported rules.ConstantOutOfRange at = refl
-rule_is_reported rules.DuplicateCase at = refl
 
 -- a fault of the walk is what is reported
 pub error_is_reported : (registrations : List Registration) (items : List Item) (error : CheckError) → FailsWith error (module_typed registrations items) → Reports (checked registrations items) (fault_of_error error)
 unfolding checked
-error_is_reported registrations items (errors.Fault f) fails = subst (λ why. IsReportedFault why (checked registrations items)) (sym (rule_is_reported f.rule f.at)) (ap (checked_by (classes_of items)) fails)
+error_is_reported registrations items (errors.Fault f) fails = ap (checked_by (classes_of items)) fails
 error_is_reported registrations items errors.NoMemory fails = tt
 
 -- and so what is returned

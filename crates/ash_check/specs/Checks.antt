@@ -6,8 +6,6 @@ use Rattle.std.specs.Option.{option_map_or}
 use Rattle.ash_registrations.specs.Registrations.{Registration}
 use Rattle.ash_tree.specs.Tree.{Class, Item}
 use Rattle.ash_typing.specs.declared.fault.Fault.{Fault}
-use Rattle.ash_typing.specs.declared.fault.Rule.{Rule}
-use Rattle.ash_typing.specs.declared.fault.Rule.TheVariants as rules
 use Rattle.ash_typing.specs.TypingResult.{TypingResult}
 use Rattle.ash_typed.specs.Modules.{Module}
 use Rattle.ash_typing.specs.Items.{module_typed}
@@ -46,24 +44,10 @@ checked registrations items = checked_by (classes_of items) (module_typed regist
 
 -- what the code's faults report
 
-abbrev pub broken_at : Rule → ℕ → Option ScriptFault
-broken_at rule at = Some (Broken (record { rule = rule; at = at }))
-
 -- why a script is refused; none where memory ran out, which says nothing of the script
 abbrev pub script_fault_of : CheckFault → Option ScriptFault
-script_fault_of (faults.UnknownName at) = broken_at rules.UnknownName at
-script_fault_of (faults.UnknownType at) = broken_at rules.UnknownType at
-script_fault_of (faults.NameTaken at) = broken_at rules.NameTaken at
-script_fault_of (faults.TypeMismatch at) = broken_at rules.TypeMismatch at
-script_fault_of (faults.WrongArgumentCount at) = broken_at rules.WrongArgumentCount at
-script_fault_of (faults.NotAssignable at) = broken_at rules.NotAssignable at
-script_fault_of (faults.NoReturn at) = broken_at rules.NoReturn at
-script_fault_of (faults.Misplaced at) = broken_at rules.Misplaced at
-script_fault_of (faults.CyclicType names) = Some (Cyclic (map string_bytes names.0.items))
-script_fault_of (faults.NoFactory at) = broken_at rules.NoFactory at
-script_fault_of (faults.TooMany at) = broken_at rules.TooMany at
-script_fault_of (faults.ConstantOutOfRange at) = broken_at rules.ConstantOutOfRange at
-script_fault_of (faults.DuplicateCase at) = broken_at rules.DuplicateCase at
+script_fault_of (faults.Broken fault) = Some (Broken fault)
+script_fault_of (faults.Cyclic names) = Some (Cyclic (map string_bytes names.0.items))
 script_fault_of faults.NoMemory = None
 
 -- Checking finds this fault, if there is one.

@@ -102,7 +102,7 @@ fn check_against(
             ranks,
             registrations: Snapshot::of(registry),
         }),
-        Err(cycle) => Err(CheckFault::CyclicType(cycle_names(alloc, script, &cycle)?)),
+        Err(cycle) => Err(CheckFault::Cyclic(cycle_names(alloc, script, &cycle)?)),
     }
 }
 
@@ -113,7 +113,7 @@ fn check_against(
 /// # Errors
 ///
 /// The first fault in the order of the text: of an item its types and names, then its body; of a phrase its parts, then
-/// the phrase. Its offset is that of a byte of the source. `CheckFault::CyclicType` comes after all others.
+/// the phrase. Its offset is that of a byte of the source. `CheckFault::Cyclic` comes after all others.
 /// `CheckFault::NoMemory` says nothing of the script.
 pub fn check(
     alloc: Global,

@@ -2,72 +2,63 @@
 
 ghost use Rattle.std.specs.Prelude.{◌≡◌};
 ghost use Rattle.ash_check.specs.declared.faults.CheckFault.TheVariants.{NoMemory};
-ghost use Rattle.ash_check.specs.Faults.{fault_of, fault_of_error};
+ghost use Rattle.ash_check.specs.Faults.{code_of, cycle_code, fault_of_error};
 
 use ash_expressions::CheckError;
-use ash_typing::{Fault, Rule};
+use ash_typing::Fault;
 use std::alloc::{AllocError, AllocFailed};
 use std::fmt;
 use thiserror::Error;
 
-/// Why a script is refused. `at` is a byte offset, from 0: that of the first byte of the token that is reported.
+/// Why a script is refused.
 #[derive(Debug, PartialEq, Eq, Drop, Error)]
 pub enum CheckFault {
-    /// A name that nothing has.
-    #[error("301 UnknownName {at}")]
-    UnknownName { at: usize },
-    /// A type that nothing has.
-    #[error("302 UnknownType {at}")]
-    UnknownType { at: usize },
-    /// A name that something else has.
-    #[error("303 NameTaken {at}")]
-    NameTaken { at: usize },
-    /// An expression of a type that does not fit.
-    #[error("304 TypeMismatch {at}")]
-    TypeMismatch { at: usize },
-    /// A call with more or fewer arguments than there are parameters.
-    #[error("305 WrongArgumentCount {at}")]
-    WrongArgumentCount { at: usize },
-    /// An assignment to what is no place, or to a place that takes none.
-    #[error("306 NotAssignable {at}")]
-    NotAssignable { at: usize },
-    /// A function with a result that may end without one.
-    #[error("307 NoReturn {at}")]
-    NoReturn { at: usize },
-    /// A phrase that may not be where it is.
-    #[error("308 Misplaced {at}")]
-    Misplaced { at: usize },
+    /// A rule of typing that a phrase breaks, and the byte offset of the token that is reported.
+    #[error("{0}")]
+    Broken(Fault),
     /// A class that reaches itself: it and the classes on a shortest path back.
-    #[error("309 CyclicType {0}")]
-    CyclicType(ClassNames),
-    /// An object of a registered type that scripts can't construct.
-    #[error("310 NoFactory {at}")]
-    NoFactory { at: usize },
-    /// One more than there may be.
-    #[error("311 TooMany {at}")]
-    TooMany { at: usize },
-    /// A constant of a `case` that its `switch` can't have.
-    #[error("312 ConstantOutOfRange {at}")]
-    ConstantOutOfRange { at: usize },
-    /// A constant of a `case` that an earlier one has.
-    #[error("313 DuplicateCase {at}")]
-    DuplicateCase { at: usize },
+    #[error("{0}")]
+    Cyclic(ClassNames),
     /// Memory ran out.
-    #[error("509 NoMemory")]
+    #[error("memory was refused")]
     NoMemory,
 }
 
-/// The names of the classes on a cycle, in order. Printed, they are separated by a blank each.
+impl CheckFault {
+    /// The code by which it is reported: its number and its name, without the offset and the names of classes.
+    pub fn code(&self) -> &'static str
+        ensures coded { result.now ≡ code_of self.now }
+    {
+        match self {
+            CheckFault::Broken(fault) => fault.rule.code(),
+            CheckFault::Cyclic(names) => names.code(),
+            CheckFault::NoMemory => "509 NoMemory",
+        }
+    }
+}
+
+/// The names of the classes on a cycle, in order. Printed, they are in a sentence that says how the first reaches
+/// itself.
 #[derive(Debug, PartialEq, Eq, Drop)]
 pub struct ClassNames(pub Vec<String>);
 
+impl ClassNames {
+    /// The code by which a cycle is reported: its number and its name.
+    pub fn code(&self) -> &'static str
+        ensures coded { result.now ≡ cycle_code }
+    {
+        "309 CyclicType"
+    }
+}
+
 impl fmt::Display for ClassNames {
     fn fmt<W: fmt::Write>(&self, f: &mut fmt::Formatter<W>) -> fmt::Result {
-        for (i, name) in self.0.iter().enumerate() {
-            if i > 0 {
-                write!(f, " ")?;
+        for (place, name) in self.0.iter().enumerate() {
+            match place {
+                0 => write!(f, "class {name} reaches itself")?,
+                1 => write!(f, " through {name}")?,
+                _ => write!(f, ", {name}")?,
             }
-            write!(f, "{name}")?;
         }
         Ok(())
     }
@@ -94,31 +85,8 @@ impl From<CheckError> for CheckFault {
 
     fn from(error: CheckError) -> CheckFault {
         match error {
-            CheckError::Fault(fault) => CheckFault::of_fault(fault),
+            CheckError::Fault(fault) => CheckFault::Broken(fault),
             CheckError::NoMemory => CheckFault::NoMemory,
-        }
-    }
-}
-
-impl CheckFault {
-    /// The fault of a broken rule of typing.
-    pub(crate) fn of_fault(fault: Fault) -> CheckFault
-        ensures { result ≡ fault_of fault }
-    {
-        let at = fault.at;
-        match fault.rule {
-            Rule::UnknownName => CheckFault::UnknownName { at },
-            Rule::UnknownType => CheckFault::UnknownType { at },
-            Rule::NameTaken => CheckFault::NameTaken { at },
-            Rule::TypeMismatch => CheckFault::TypeMismatch { at },
-            Rule::WrongArgumentCount => CheckFault::WrongArgumentCount { at },
-            Rule::NotAssignable => CheckFault::NotAssignable { at },
-            Rule::NoReturn => CheckFault::NoReturn { at },
-            Rule::Misplaced => CheckFault::Misplaced { at },
-            Rule::NoFactory => CheckFault::NoFactory { at },
-            Rule::TooMany => CheckFault::TooMany { at },
-            Rule::ConstantOutOfRange => CheckFault::ConstantOutOfRange { at },
-            Rule::DuplicateCase => CheckFault::DuplicateCase { at },
         }
     }
 }

@@ -2,7 +2,7 @@
 //! operands for.
 
 use crate::declared::module_signatures;
-use crate::sources::{Question, check_rows, printed, tree_of};
+use crate::sources::{Question, check_rows, coded, printed, tree_of};
 use ash_check::CheckFault;
 use ash_expressions::{AssignmentSide, Environment, TypedExpr, check_expr};
 use ash_registrations::Registrations;
@@ -47,7 +47,7 @@ fn check_value(alloc: Global, value: &written::Expr) -> Result<TypedExpr, String
     };
     match check_expr(&env, AssignmentSide::Value, value) {
         Ok(typed) => Ok(typed),
-        Err(error) => Err(printed(alloc, &CheckFault::from(error))),
+        Err(error) => Err(coded(alloc, &CheckFault::from(error))),
     }
 }
 

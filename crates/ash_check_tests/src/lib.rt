@@ -16,6 +16,8 @@ mod foreign;
 #[cfg(test)]
 mod limits;
 #[cfg(test)]
+mod sentences;
+#[cfg(test)]
 mod sources;
 #[cfg(test)]
 mod variables;

@@ -7,22 +7,47 @@ ghost use Rattle.ash_typing.specs.Nesting.{ItemsDeclareInBlocks};
 
 use crate::cycles::cycle_of;
 use crate::expressions::{operands_of, type_of};
-use ash_check::{CheckedScript, check};
+use ash_check::{CheckFault, CheckedScript, check};
 use ash_lex::lex;
 use ash_parse::parse_module;
 use ash_registry::{Registry, RegistryFault};
 use ash_tree::Module;
 use std::alloc::{AllocError, Global};
-use std::fmt::Display;
+use std::fmt::{Display, Write};
 use std::process::Abort;
 use std::test::Fail;
 
-/// A fault as it is printed, or nothing where memory is refused.
+/// A value as it is printed, or nothing where memory is refused.
 pub(crate) fn printed<F: Display>(alloc: Global, fault: &F) -> String {
     match format!(in alloc; "{fault}") {
         Ok(text) => text,
         Err(_) => String::new(alloc),
     }
+}
+
+/// Writes names, each after a blank.
+fn write_names(out: &mut String, names: &[String]) -> Result<(), AllocError> {
+    for name in names {
+        write!(out, " {name}")?;
+    }
+    Ok(())
+}
+
+/// Writes a fault by its code, with its offset or its classes.
+fn write_fault(out: &mut String, fault: &CheckFault) -> Result<(), AllocError> {
+    write!(out, "{}", fault.code())?;
+    match fault {
+        CheckFault::Broken(broken) => write!(out, " {}", broken.at),
+        CheckFault::Cyclic(names) => write_names(out, names.0.as_slice()),
+        CheckFault::NoMemory => Ok(()),
+    }
+}
+
+/// A fault by its code, with its offset or its classes, or what could be written of it where memory is refused.
+pub(crate) fn coded(alloc: Global, fault: &CheckFault) -> String {
+    let mut out = String::new(alloc);
+    let _ = write_fault(&mut out, fault);
+    out
 }
 
 /// What is registered.
@@ -94,7 +119,7 @@ pub(crate) fn checked(alloc: Global, source: &str) -> Result<CheckedScript, Stri
     let script = tree_of(alloc, source)?;
     match check(alloc, &registry, &script) {
         Ok(found) => Ok(found),
-        Err(fault) => Err(printed(alloc, &fault)),
+        Err(fault) => Err(coded(alloc, &fault)),
     }
 }
 

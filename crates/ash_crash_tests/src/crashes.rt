@@ -4,11 +4,10 @@ use crate::checks::check;
 use crate::fuses::{Failing, fuses};
 use ash_disk::{FailingDisk, MemoryDisk, Survives};
 use ash_durable::{Host, OpenRefused, StoreFault};
-use ash_meaning::refusal::Refusal;
 use ash_registry::Registry;
 use ash_store_fixtures::hosts::{
-    SOURCE, State, add, closed, disk, found_state, image_after, inner, load, opened, snapshot,
-    state,
+    SOURCE, State, add, closed, disk, found_state, image_after, inner, is_done, load, need, opened,
+    snapshot, state,
 };
 use std::alloc::Global;
 use std::process::Abort;
@@ -29,6 +28,8 @@ pub(crate) type Reached = (State, usize, usize);
 pub(crate) struct Plan {
     /// Whether it is made.
     pub(crate) is_new: bool,
+    /// What is loaded as `m`.
+    pub(crate) source: &'static [u8],
     pub(crate) steps: &'static [Step],
     pub(crate) steps_again: &'static [Step],
     /// What is reached before all of it, and after each part that is acknowledged: the making or the opening, each
@@ -43,27 +44,45 @@ pub(crate) struct Plan {
 // an older generation takes a write and a sync more. An opening syncs both disks.
 static FROM_NOTHING: Plan = Plan {
     is_new: true,
-    steps: &[
-        Step::Load,
-        Step::Call(5),
-        Step::Snapshot,
-        Step::Call(1),
-        Step::Snapshot,
-        Step::Call(1),
-    ],
+    source: SOURCE,
+    steps: STEPS,
     steps_again: &[Step::Call(-9)],
-    reached: &[
-        ((0, None), 0, 0),
-        ((0, None), 6, 2),
-        ((1, Some(2)), 10, 2),
-        ((2, Some(7)), 14, 2),
-        ((2, Some(7)), 14, 6),
-        ((3, Some(8)), 14, 10),
-        ((3, Some(8)), 20, 10),
-        ((4, Some(9)), 24, 10),
-        ((4, Some(9)), 25, 11),
-        ((5, Some(0)), 29, 11),
-    ],
+    reached: REACHED,
+};
+
+const STEPS: &[Step] = &[
+    Step::Load,
+    Step::Call(5),
+    Step::Snapshot,
+    Step::Call(1),
+    Step::Snapshot,
+    Step::Call(1),
+];
+
+const REACHED: &[Reached] = &[
+    ((0, None), 0, 0),
+    ((0, None), 6, 2),
+    ((1, Some(2)), 10, 2),
+    ((2, Some(7)), 14, 2),
+    ((2, Some(7)), 14, 6),
+    ((3, Some(8)), 14, 10),
+    ((3, Some(8)), 20, 10),
+    ((4, Some(9)), 24, 10),
+    ((4, Some(9)), 25, 11),
+    ((5, Some(0)), 29, 11),
+];
+
+// Each call makes an object, whose field goes on from that of the one before it, and puts it into an array.
+const OBJECTS: &[u8] = b"class C { int v = 2; } C@ last = C(); array<C@> all; int n = 2; \
+    int f(int k) { C@ c = C(); c.v = last.v + k; @last = c; all.insertLast(c); n = last.v; return n; }";
+
+// The same requests, of a module with objects.
+static WITH_OBJECTS: Plan = Plan {
+    is_new: true,
+    source: OBJECTS,
+    steps: STEPS,
+    steps_again: &[Step::Call(-9)],
+    reached: REACHED,
 };
 
 impl Plan {
@@ -98,20 +117,20 @@ pub(crate) struct Stopped {
     pub(crate) second: MemoryDisk,
 }
 
-/// Takes a step. Whether it is acknowledged.
-fn is_acknowledged(host: &mut Host<Fused>, step: Step) -> bool {
+/// Takes a step, where this is loaded. Whether it is acknowledged.
+fn is_acknowledged(host: &mut Host<Fused>, source: &[u8], step: Step) -> bool {
     match step {
-        Step::Load => load(host, SOURCE).is_ok(),
-        Step::Call(number) => add(host, number).is_ok(),
-        Step::Snapshot => snapshot(host).is_ok(),
+        Step::Load => is_done(&load(host, source)),
+        Step::Call(number) => is_done(&add(host, number)),
+        Step::Snapshot => is_done(&snapshot(host)),
     }
 }
 
 /// How many steps are acknowledged, up to the first that is not.
-fn count_acknowledged(host: &mut Host<Fused>, steps: &[Step]) -> usize {
+fn count_acknowledged(host: &mut Host<Fused>, source: &[u8], steps: &[Step]) -> usize {
     let mut done = 0_usize;
     for step in steps {
-        if !is_acknowledged(host, *step) {
+        if !is_acknowledged(host, source, *step) {
             return done;
         }
         done = done.wrapping_add(1);
@@ -131,11 +150,12 @@ fn found(alloc: Global, a: Fused, b: Fused) -> Result<Host<Fused>, OpenRefused<F
 /// a disk may keep it from that.
 fn served(
     begun: Result<Host<Fused>, OpenRefused<Fused>>,
+    source: &[u8],
     steps: &[Step],
 ) -> Result<(usize, Fused, Fused), Fail> {
     match begun {
         Ok(mut host) => {
-            let done = count_acknowledged(&mut host, steps);
+            let done = count_acknowledged(&mut host, source, steps);
             let (first, second) = closed(host);
             Ok((done.wrapping_add(1), first, second))
         }
@@ -160,9 +180,10 @@ pub(crate) fn handle_plan(
     } else {
         found(alloc, first, second)
     };
-    let (mut done, mut first, mut second) = served(begun, plan.steps)?;
+    let (mut done, mut first, mut second) = served(begun, plan.source, plan.steps)?;
     if done > plan.steps.len() {
-        let (more, a, b) = served(found(alloc, first, second), plan.steps_again)?;
+        let begun = found(alloc, first, second);
+        let (more, a, b) = served(begun, plan.source, plan.steps_again)?;
         done = done.wrapping_add(more);
         first = a;
         second = b;
@@ -183,20 +204,19 @@ fn state_after(found: State) -> State {
 }
 
 /// Handles that request.
-fn go_on(host: &mut Host<MemoryDisk>) -> Result<(), Refusal> {
-    match state(host) {
+fn go_on(alloc: Global, host: &mut Host<MemoryDisk>, source: &[u8]) -> Result<(), Fail> {
+    let reply = match state(host) {
         (_, Some(_)) => add(host, 1),
-        (_, None) => match load(host, SOURCE) {
-            Ok(_) => Ok(()),
-            Err(refusal) => Err(refusal),
-        },
-    }
+        (_, None) => load(host, source),
+    };
+    need(alloc, reply)
 }
 
 /// Opens what a crash left, handles one request more, and opens what a second crash leaves: the state that was found
 /// first, and the last.
 fn states_of(
     alloc: Global,
+    source: &[u8],
     first: &[u8],
     second: &[u8],
 ) -> Result<Result<(State, State), StoreFault>, Fail> {
@@ -205,8 +225,8 @@ fn states_of(
         Ok(host) => host,
         Err(fault) => return Ok(Err(fault)),
     };
-    let before = state(&host);
-    go_on(&mut host)?;
+    let before = state(&mut host);
+    go_on(alloc, &mut host, source)?;
     let (a, b) = closed(host);
     let first = image_after(&a, a.calls(), Survives::Nothing)?;
     let second = image_after(&b, b.calls(), Survives::Nothing)?;
@@ -225,7 +245,7 @@ pub(crate) fn is_held(
     first: &[u8],
     second: &[u8],
 ) -> Result<bool, Fail> {
-    match states_of(alloc, first, second)? {
+    match states_of(alloc, plan.source, first, second)? {
         Ok((before, after)) => Ok(plan.is_state(done, before) && after == state_after(before)),
         Err(fault) => Ok(plan.is_new && done == 0 && fault == StoreFault::NoGeneration),
     }
@@ -297,10 +317,9 @@ fn empty_disks(alloc: Global) -> (MemoryDisk, MemoryDisk) {
     (MemoryDisk::new(alloc), MemoryDisk::new(alloc))
 }
 
-/// Stops the plan that makes a store at each call of one disk, and looks at what crashes leave. Gives how many stops
-/// there were until it ran to its end.
-fn count_stops(rt: &impl Abort, alloc: Global, failing: Failing) -> Result<u64, Fail> {
-    let plan = &FROM_NOTHING;
+/// Stops a plan that makes a store at each call of one disk, and looks at what crashes leave. Gives how many stops there
+/// were until it ran to its end.
+fn count_stops(rt: &impl Abort, alloc: Global, plan: &Plan, failing: Failing) -> Result<u64, Fail> {
     for calls in 0..200 {
         let stopped = handle_plan(
             alloc,
@@ -316,26 +335,44 @@ fn count_stops(rt: &impl Abort, alloc: Global, failing: Failing) -> Result<u64, 
     Err(Fail::from("no fuse is long enough"))
 }
 
+// The store is made by 9 calls: a length, a length and the first bytes, 2 for the first gate, 4 for the generation. Two
+// requests, the second snapshot over an older generation, and a request. The opening syncs, looks twice, and reads the
+// lengths and the bytes of the image and a record. And a request.
+const STOPS_OF_FIRST: u64 = 9 + 2 * 4 + 6 + 4 + (1 + 2 + 2 * 2) + 4;
+
+// To make the store, 1 + 2 and 2 for the first gate; the first snapshot and a request; and the opening looks at it.
+const STOPS_OF_SECOND: u64 = 5 + 4 + 4 + 1 + 2;
+
 #[test]
 fn the_first_disk_fails(rt: HostRuntime) -> Result<(), Fail> {
-    let stops = count_stops(&rt, rt.alloc(), Failing::First)?;
-    // The store is made by 9 calls: a length, a length and the first bytes, 2 for the first gate, 4 for the generation.
-    // Two requests, the second snapshot over an older generation, and a request. The opening syncs, looks twice, and
-    // reads the lengths and the bytes of the image and a record. And a request.
-    check(
-        &rt,
-        &stops,
-        &(9 + 2 * 4 + 6 + 4 + (1 + 2 + 2 * 2) + 4),
-        "stops",
-    );
+    let stops = count_stops(&rt, rt.alloc(), &FROM_NOTHING, Failing::First)?;
+    check(&rt, &stops, &STOPS_OF_FIRST, "stops");
     Ok(())
 }
 
 #[test]
 fn the_second_disk_fails(rt: HostRuntime) -> Result<(), Fail> {
-    let stops = count_stops(&rt, rt.alloc(), Failing::Second)?;
-    // To make the store, 1 + 2 and 2 for the first gate; the first snapshot and a request; and the opening looks at it.
-    check(&rt, &stops, &(5 + 4 + 4 + 1 + 2), "stops");
+    let stops = count_stops(&rt, rt.alloc(), &FROM_NOTHING, Failing::Second)?;
+    check(&rt, &stops, &STOPS_OF_SECOND, "stops");
+    Ok(())
+}
+
+#[test]
+fn a_disk_fails_with_objects(rt: HostRuntime) -> Result<(), Fail> {
+    let stops = count_stops(&rt, rt.alloc(), &WITH_OBJECTS, Failing::First)?;
+    check(
+        &rt,
+        &stops,
+        &STOPS_OF_FIRST,
+        "stops of the first disk, with objects",
+    );
+    let stops = count_stops(&rt, rt.alloc(), &WITH_OBJECTS, Failing::Second)?;
+    check(
+        &rt,
+        &stops,
+        &STOPS_OF_SECOND,
+        "stops of the second disk, with objects",
+    );
     Ok(())
 }
 
@@ -380,18 +417,26 @@ fn check_part(
     Ok(())
 }
 
-#[test]
-fn each_moment_of_a_life(rt: HostRuntime) -> Result<(), Fail> {
-    let alloc = rt.alloc();
-    let plan = &FROM_NOTHING;
+/// Looks at each moment of each part of a plan.
+fn check_each_moment(rt: &impl Abort, alloc: Global, plan: &Plan) -> Result<(), Fail> {
     let mut ended = handle_plan(alloc, plan, empty_disks(alloc), (u64::MAX, u64::MAX))?;
-    check(&rt, &ended.done, &plan.parts(), "parts");
+    check(rt, &ended.done, &plan.parts(), "parts");
     let (_, first, second) = plan.reached_after(plan.parts());
     let calls = (ended.first.calls(), ended.second.calls());
-    check(&rt, &calls, &(first, second), "calls of both disks");
+    check(rt, &calls, &(first, second), "calls of both disks");
     for done in 0..plan.parts() {
         ended = after_parts(ended, done);
-        check_part(&rt, alloc, plan, &ended, 20)?;
+        check_part(rt, alloc, plan, &ended, 20)?;
     }
     Ok(())
+}
+
+#[test]
+fn each_moment_of_a_life(rt: HostRuntime) -> Result<(), Fail> {
+    check_each_moment(&rt, rt.alloc(), &FROM_NOTHING)
+}
+
+#[test]
+fn each_moment_of_a_life_with_objects(rt: HostRuntime) -> Result<(), Fail> {
+    check_each_moment(&rt, rt.alloc(), &WITH_OBJECTS)
 }

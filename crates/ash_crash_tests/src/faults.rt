@@ -4,13 +4,12 @@ use crate::checks::{check, check_bytes, check_text};
 use crate::fuses::{Failing, fuses};
 use ash_disk::{FailingDisk, MemoryDisk, Survives};
 use ash_durable::{Host, StoreFault};
-use ash_host::Word;
-use ash_meaning::refusal::Refusal;
-use ash_meaning::request::{Argument, Reply, Request};
+use ash_plain_steps::request::Request;
 use ash_registry::Registry;
+use ash_steps::Argument;
 use ash_store_fixtures::hosts::{
-    EMPTY, SOURCE, State, call, closed, created, disk, found, found_state, fuse, image_after, load,
-    opened, replies_to, seq, used,
+    EMPTY, SOURCE, State, add, closed, created, disk, found, found_state, fuse, image_after,
+    is_done, lines_for, load, opened, seq, used,
 };
 use ash_store_fixtures::lives::{File, Step, bytes_of, lived_on_fuses};
 use std::alloc::Global;
@@ -120,8 +119,8 @@ static REFUSED: [Step; 7] = [
     Step::Seq,
 ];
 
-const REFUSALS: &str =
-    "Err(DeviceFailed)\nErr(Reopen)\nErr(Reopen)\nErr(Reopen)\nErr(Reopen)\nErr(Reopen)\n0\n";
+const REFUSALS: &str = "refused 507 DeviceFailed\nrefused 508 Reopen\nrefused 508 Reopen\n\
+    refused 508 Reopen\nrefused 508 Reopen\nrefused 508 Reopen\n0\n";
 
 /// How many calls of the first disk succeed, and what is the gate of the record, if it is there.
 type FirstWrite = (&'static str, u64, Option<u8>);
@@ -167,8 +166,7 @@ fn a_first_write_that_fails(rt: HostRuntime) -> Result<(), Fail> {
 // A host loads a module and loses the answer to a call, and then it is asked once more.
 static LOST: [Step; 3] = [Step::Load, Step::Call(5), Step::Call(5)];
 
-const LOST_CALL: &str =
-    "Ok(Answer { outcome: Finished(None), seq: 1 })\nErr(DeviceFailed)\nErr(Reopen)\n";
+const LOST_CALL: &str = "ok seq 1\nrefused 507 DeviceFailed\nrefused 508 Reopen\n";
 
 /// The disks of that host, whose first disk fails after so many calls.
 fn lost_call(rt: &impl Abort, alloc: Global, calls: u64) -> Result<(MemoryDisk, MemoryDisk), Fail> {
@@ -236,10 +234,10 @@ fn a_second_sync_that_fails(rt: HostRuntime) -> Result<(), Fail> {
     check_crashes(&rt, rt.alloc(), &disks, AFTER)
 }
 
-/// The requests of a host whose disk fails when the answer to the third is kept.
-fn six_requests<'a>() -> [Request<'a>; 6] {
+/// The requests of a host whose disk fails when the answer to the third is stored.
+fn seven_requests<'a>() -> [Request<'a>; 7] {
     let load = Request::Load {
-        name: "m",
+        module: "m",
         source: SOURCE,
     };
     let call = Request::Call {
@@ -247,42 +245,37 @@ fn six_requests<'a>() -> [Request<'a>; 6] {
         function: "f",
         arguments: &[Argument::Number(5)],
     };
-    let global = Request::Global {
+    let get = Request::Get {
         module: "m",
         name: "n",
     };
-    [load, global, call, call, Request::Seq, global]
+    let object = Request::Object { number: 1 };
+    [load, get, call, call, Request::Seq, get, object]
 }
 
-/// Whether they are the replies of a host that is lost at the third request.
-fn is_lost_at_the_third(replies: &[Reply]) -> bool {
-    matches!(
-        replies,
-        [
-            Reply::Answer(_),
-            Reply::Value(Word::Int(2)),
-            Reply::Refused(Refusal::DeviceFailed),
-            Reply::Refused(Refusal::Reopen),
-            Reply::Seq(1),
-            Reply::Refused(Refusal::Reopen)
-        ]
-    )
-}
+// The answer to the third is lost, and the host must be reopened.
+const LOST_AT_THE_THIRD: &str =
+    "ok seq 1\nok 2\nrefused 507 DeviceFailed\nrefused 508 Reopen\nok 1\n\
+    refused 508 Reopen\nrefused 508 Reopen\n";
 
 #[test]
 fn requests_after_a_failure(rt: HostRuntime) -> Result<(), Fail> {
-    // Nine calls on the first disk make the store, and four keep the answer to the load.
+    // Nine calls on the first disk make the store, and four store the answer to the load.
     let mut host = fused(rt.alloc(), 13, 100)?;
-    let replies = replies_to(rt.alloc(), &mut host, &six_requests())?;
-    let is_lost = is_lost_at_the_third(&replies);
-    check(&rt, &is_lost, &true, "the replies after a failure");
+    let lines = lines_for(rt.alloc(), &mut host, &seven_requests())?;
+    check_text(
+        &rt,
+        lines.as_str(),
+        LOST_AT_THE_THIRD,
+        "the replies after a failure",
+    );
     Ok(())
 }
 
 /// How many of two requests a host answers, and its number after them.
 fn answers(host: &mut Host<FailingDisk<MemoryDisk>>) -> (u64, u64) {
-    let loaded = load(host, SOURCE).is_ok();
-    let called = call(host, &[Argument::Number(5)]).is_ok();
+    let loaded = is_done(&load(host, SOURCE));
+    let called = is_done(&add(host, 5));
     (u64::from(loaded) + u64::from(called), seq(host))
 }
 

@@ -5,7 +5,7 @@ use crate::crashes::{Plan, Step, Stopped, handle_plan, is_held};
 use crate::fuses::{Failing, fuses};
 use ash_disk::{MemoryDisk, Survives};
 use ash_store_fixtures::full::{AT_THE_LIMIT, full_file};
-use ash_store_fixtures::hosts::{disk, image_after};
+use ash_store_fixtures::hosts::{SOURCE, disk, image_after};
 use std::alloc::{AllocError, Global};
 use std::process::Abort;
 use std::test::Fail;
@@ -13,6 +13,7 @@ use std::test::Fail;
 // A store whose next request installs a generation on the second disk, and what is asked of it after that.
 static FROM_A_FULL_FILE: Plan = Plan {
     is_new: false,
+    source: SOURCE,
     steps: &[Step::Call(5), Step::Call(1)],
     steps_again: &[Step::Call(1)],
     reached: &[

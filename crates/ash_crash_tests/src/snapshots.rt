@@ -4,12 +4,11 @@
 use crate::checks::{Life, check, check_bytes, check_calls, check_lives, check_text};
 use ash_disk::{MemoryDisk, Survives};
 use ash_durable::Host;
-use ash_meaning::refusal::Refusal;
 use ash_registry::Registry;
 use ash_store_fixtures::files::{Module, add_record, generation, image};
 use ash_store_fixtures::full::{AT_THE_LIMIT, LIMIT, full_file, spaces};
 use ash_store_fixtures::hosts::{
-    EMPTY, closed, discard, disk, found_state, image_after, load, made, opened, shown,
+    EMPTY, closed, discard, disk, found_state, image_after, load, made, need, opened,
 };
 use ash_store_fixtures::lives::{File, Run, Start, Step, answers, bytes_of, lived_on_fuses};
 use std::alloc::{AllocError, Global};
@@ -29,8 +28,7 @@ static LIVES: [Life; 5] = [
                 what: "a snapshot",
                 start: Start::Make,
                 steps: &[Step::Load, Step::Call(5), Step::Snapshot, Step::State],
-                answers: "Ok(Answer { outcome: Finished(None), seq: 1 })\n\
-                    Ok(Answer { outcome: Finished(Some(Int(7))), seq: 2 })\nOk(())\n(2, Some(7))\n",
+                answers: "ok seq 1\nok 7 seq 2\nok\n(2, Some(7))\n",
                 is_reopened: false,
                 first: USED,
                 second: File::Written(2, (2, Some(7)), &[], &[]),
@@ -56,9 +54,7 @@ static LIVES: [Life; 5] = [
                 what: "a request after a snapshot",
                 start: Start::Make,
                 steps: &[Step::Load, Step::Call(5), Step::Snapshot, Step::Call(1)],
-                answers: "Ok(Answer { outcome: Finished(None), seq: 1 })\n\
-                    Ok(Answer { outcome: Finished(Some(Int(7))), seq: 2 })\nOk(())\n\
-                    Ok(Answer { outcome: Finished(Some(Int(8))), seq: 3 })\n",
+                answers: "ok seq 1\nok 7 seq 2\nok\nok 8 seq 3\n",
                 is_reopened: false,
                 first: USED,
                 second: File::Written(2, (2, Some(7)), &[(3, Some(8))], &[]),
@@ -85,8 +81,7 @@ static LIVES: [Life; 5] = [
                 what: "two snapshots",
                 start: Start::Make,
                 steps: &[Step::Load, Step::Call(5), Step::Snapshot, Step::Snapshot],
-                answers: "Ok(Answer { outcome: Finished(None), seq: 1 })\n\
-                    Ok(Answer { outcome: Finished(Some(Int(7))), seq: 2 })\nOk(())\nOk(())\n",
+                answers: "ok seq 1\nok 7 seq 2\nok\nok\n",
                 is_reopened: false,
                 first: File::Over(3, (2, Some(7)), &[(1, Some(2)), (2, Some(7))]),
                 second: File::Written(2, (2, Some(7)), &[], &[]),
@@ -96,7 +91,7 @@ static LIVES: [Life; 5] = [
                 what: "a third snapshot",
                 start: Start::Open,
                 steps: &[Step::State, Step::Snapshot],
-                answers: "(2, Some(7))\nOk(())\n",
+                answers: "(2, Some(7))\nok\n",
                 is_reopened: true,
                 first: File::Over(3, (2, Some(7)), &[(1, Some(2)), (2, Some(7))]),
                 second: File::Written(4, (2, Some(7)), &[], &[]),
@@ -111,7 +106,7 @@ static LIVES: [Life; 5] = [
             what: "a snapshot of nothing",
             start: Start::Make,
             steps: &[Step::Snapshot],
-            answers: "Ok(())\n",
+            answers: "ok\n",
             is_reopened: false,
             first: File::Empty,
             second: File::Written(2, (0, None), &[], &[]),
@@ -132,8 +127,8 @@ static LIVES: [Life; 5] = [
                 Step::State,
                 Step::Snapshot,
             ],
-            answers: "Err(GenerationSpent)\nErr(GenerationSpent)\nOk(Answer { outcome: Finished(None), seq: 1 })\n\
-                (1, Some(2))\nErr(GenerationSpent)\n",
+            answers: "refused 511 GenerationSpent\nrefused 511 GenerationSpent\nok seq 1\n\
+                (1, Some(2))\nrefused 511 GenerationSpent\n",
             is_reopened: false,
             first: File::Written(u64::MAX, (0, None), &[(1, Some(2))], &[]),
             second: File::Bytes(&[0]),
@@ -157,9 +152,8 @@ static FAILED: [Step; 6] = [
     Step::Seq,
 ];
 
-const REFUSED: &str =
-    "Ok(Answer { outcome: Finished(None), seq: 1 })\nErr(DeviceFailed)\nErr(Reopen)\nErr(Reopen)\n\
-    Err(Reopen)\n1\n";
+const REFUSED: &str = "ok seq 1\nrefused 507 DeviceFailed\nrefused 508 Reopen\nrefused 508 Reopen\n\
+    refused 508 Reopen\n1\n";
 
 /// Compares what is left of a snapshot where the second disk fails after so many calls, of which five make the store.
 fn check_failed(rt: &impl Abort, alloc: Global, calls: u64) -> Result<(), Fail> {
@@ -179,18 +173,20 @@ fn a_snapshot_that_fails(rt: HostRuntime) -> Result<(), Fail> {
     Ok(())
 }
 
-/// Loads a source as the module `m`, and takes it away by the next request, so many requests in all.
-fn take_turns(host: &mut Host<MemoryDisk>, source: &[u8], requests: u64) -> Result<(), Refusal> {
+/// Loads a source as the module `m`, and removes it by the next request, so many requests in all.
+fn take_turns(
+    alloc: Global,
+    host: &mut Host<MemoryDisk>,
+    source: &[u8],
+    requests: u64,
+) -> Result<(), Fail> {
     for request in 0..requests {
-        let answer = if request % 2 == 0 {
+        let reply = if request % 2 == 0 {
             load(host, source)
         } else {
             discard(host)
         };
-        match answer {
-            Ok(_) => {}
-            Err(refusal) => return Err(refusal),
-        }
+        need(alloc, reply)?;
     }
     Ok(())
 }
@@ -199,7 +195,7 @@ fn take_turns(host: &mut Host<MemoryDisk>, source: &[u8], requests: u64) -> Resu
 fn disks_after(alloc: Global, requests: u64) -> Result<(MemoryDisk, MemoryDisk), Fail> {
     let source = spaces(alloc, 65_536)?;
     let mut host = made(alloc, &[], &[])?;
-    take_turns(&mut host, &source, requests)?;
+    take_turns(alloc, &mut host, &source, requests)?;
     Ok(closed(host))
 }
 
@@ -291,7 +287,7 @@ static AT_THE_SIZE: [Full; 2] = [
         number: 1,
         last: AT_THE_LIMIT,
         steps: &[Step::State, Step::Call(5)],
-        answers: "(17, Some(2))\nOk(Answer { outcome: Finished(Some(Int(7))), seq: 18 })\n",
+        answers: "(17, Some(2))\nok 7 seq 18\n",
         added: 0,
         second: File::Written(2, (17, Some(2)), &[(18, Some(7))], &[]),
     },
@@ -300,7 +296,7 @@ static AT_THE_SIZE: [Full; 2] = [
         number: 1,
         last: AT_THE_LIMIT - 1,
         steps: &[Step::State, Step::Call(5)],
-        answers: "(17, Some(2))\nOk(Answer { outcome: Finished(Some(Int(7))), seq: 18 })\n",
+        answers: "(17, Some(2))\nok 7 seq 18\n",
         added: 93,
         second: File::Bytes(&[0]),
     },
@@ -322,7 +318,7 @@ static REFUSED_REQUESTS: Full = Full {
     number: 1,
     last: AT_THE_LIMIT,
     steps: &[Step::CallIn("z"), Step::CallIn("y"), Step::State],
-    answers: "Err(NoModule)\nErr(NoModule)\n(17, Some(2))\n",
+    answers: "refused 401 NoModule\nrefused 401 NoModule\n(17, Some(2))\n",
     added: 0,
     second: File::Written(2, (17, Some(2)), &[], &[]),
 };
@@ -344,8 +340,8 @@ static NO_ROOM: Full = Full {
         Step::CallIn("z"),
         Step::State,
     ],
-    answers: "Err(GenerationSpent)\nErr(GenerationSpent)\nErr(GenerationSpent)\nErr(GenerationSpent)\n\
-        Err(GenerationSpent)\n(17, Some(2))\n",
+    answers: "refused 511 GenerationSpent\nrefused 511 GenerationSpent\nrefused 511 GenerationSpent\n\
+        refused 511 GenerationSpent\nrefused 511 GenerationSpent\n(17, Some(2))\n",
     added: 0,
     second: File::Bytes(&[0]),
 };

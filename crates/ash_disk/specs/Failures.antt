@@ -1,5 +1,10 @@
--- These definitions say how a device counts its failures.
-use Rattle.std.specs.Prelude.{◌≡◌, ℕ, ◌+◌, ◌-◌, ◌^◌, ◌≤◌, min, Result, OnOk, OnErr}
+-- These definitions say how a device counts its failures, and by which code a failure is reported.
+use Rattle.std.specs.Prelude.{◌≡◌, ℕ, List, ◌+◌, ◌-◌, ◌^◌, ◌≤◌, min, Result, OnOk, OnErr, codes}
+use Rattle.ash_disk.specs.declared.failure.DeviceFailed.{DeviceFailed}
+
+-- `code_of failure` is its number and its name.
+abbrev pub code_of : DeviceFailed → List ℕ
+code_of _ = codes "507 DeviceFailed"
 
 -- The count rose, unless it is the greatest that 64 bits hold.
 abbrev pub Rose : ℕ → ℕ → Type 0

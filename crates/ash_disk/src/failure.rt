@@ -1,6 +1,6 @@
 //! The one error of a device, and its count.
 ghost use Rattle.std.specs.Prelude.{◌≡◌, Ok, Some, codes, IsErr, MatchResult};
-ghost use Rattle.ash_disk.specs.Failures.{CountsFailure};
+ghost use Rattle.ash_disk.specs.Failures.{CountsFailure, code_of};
 
 use std::error::Error;
 use std::fmt;
@@ -9,11 +9,20 @@ use std::fmt;
 #[derive(Clone, Copy, Debug, PartialEq, Eq)]
 pub struct DeviceFailed;
 
+impl DeviceFailed {
+    /// The code by which it is reported.
+    pub fn code(self) -> &'static str
+        ensures coded { result.now ≡ code_of self }
+    {
+        "507 DeviceFailed"
+    }
+}
+
 impl fmt::Display for DeviceFailed {
-    ghost output = { λ _. Some (codes "507 DeviceFailed") };
+    ghost output = { λ _. Some (codes "a device failed") };
 
     fn fmt<W: fmt::Write>(&self, f: &mut fmt::Formatter<W>) -> fmt::Result {
-        write!(f, "507 DeviceFailed")
+        f.write_str("a device failed")
     }
 }
 

@@ -24,7 +24,7 @@ use Rattle.ash_steps.specs.Steps.{Step, perform, unless_refused, after_load, aft
 use Rattle.ash_steps.specs.Steps as steps
 use Rattle.ash_plain_steps.specs.StepViews.{IsChange}
 use Rattle.ash_registry.specs.Registrations.{Registration}
-use Rattle.ash_meaning.specs.SourceFaults.{SourceFault}
+use Rattle.ash_sources.specs.SourceFaults.{SourceFault}
 use Rattle.ash_states.specs.States.{HostState, embedding_for}
 use Rattle.ash_states.specs.Steps.{Steps, task_of, step, outcome_of, no_hosts}
 use Rattle.ash_durable.specs.Hosting.{IsAnswer, IsDeviceFailed}

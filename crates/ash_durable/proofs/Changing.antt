@@ -13,7 +13,7 @@ use Rattle.ash_steps.specs.Tasks.{described, max_seq}
 use Rattle.ash_steps.specs.Tasks as tasks
 use Rattle.ash_steps.specs.Steps.{Step, unless_refused}
 use Rattle.ash_plain_steps.specs.StepViews.{IsChange}
-use Rattle.ash_meaning.specs.SourceFaults.{SourceFault}
+use Rattle.ash_sources.specs.SourceFaults.{SourceFault}
 use Rattle.ash_states.specs.States.{HostState, embedding_for}
 use Rattle.ash_states.specs.Steps.{Steps, step, task_of, outcome_of, no_hosts}
 use Rattle.ash_durable.specs.Hosting.{Hosted, IsAnswer, MayAdd, WantsInstall, HasRoom, Replies, Handles}

@@ -8,7 +8,7 @@ use Rattle.ash_journal.specs.Failures.{CountsFailures}
 use Rattle.ash_steps.specs.Requests.{Request, Seq, Reply, Refused, NoMemory}
 use Rattle.ash_plain_steps.specs.declared.request.Refusal.TheVariants as the
 use Rattle.ash_plain_steps.specs.StepViews.{IsChange}
-use Rattle.ash_meaning.specs.SourceFaults.{SourceFault}
+use Rattle.ash_sources.specs.SourceFaults.{SourceFault}
 use Rattle.ash_states.specs.States.{HostState}
 use Rattle.ash_states.specs.Steps.{Steps, task_of}
 use Rattle.ash_durable.specs.States.{HoldsState}
@@ -331,6 +331,6 @@ handles_lost_state device budget request (Some number) seen left journal state o
     seq_is = absurd (never_stopped device request number state seen journal old between is room)
 handles_lost_state {D} device budget request None seen left journal state old between seq is room changes same seq_is =
     subst (λ (n : ℕ). Handles device budget request old (Refused NoMemory) (seen_host (Some n) left journal))
-        (sym seq_is)
+    (sym seq_is)
     (lost_between device budget request seen left journal old
     (room_seen device request state seen journal old between is room) changes same)

@@ -6,10 +6,12 @@ use Rattle.ash_journal.specs.declared.journal.Journal.{Journal}
 use Rattle.ash_steps.specs.Requests.{Request, Seq, Snapshot, Refusal, Reply, Number, Done, Refused}
 use Rattle.ash_steps.specs.Requests.{DeviceFailed, NoMemory, GenerationSpent}
 use Rattle.ash_plain_steps.specs.declared.request.StepError.{StepError}
+use Rattle.ash_plain_steps.specs.declared.request.StepError.TheVariants as errors
 use Rattle.ash_plain_steps.specs.RequestViews.{refusal_seen}
-use Rattle.ash_meaning.specs.SourceFaults.{SourceFault, fault_of}
+use Rattle.ash_plain_steps.specs.StepViews.{IsChange}
+use Rattle.ash_sources.specs.SourceFaults.{SourceFault, fault_of}
 use Rattle.ash_states.specs.States.{HostState}
-use Rattle.ash_states.specs.Steps.{Steps, Handled}
+use Rattle.ash_states.specs.Steps.{Steps, task_of, HasNoEnd, Handled}
 use Rattle.ash_durable.specs.Saving.{HostRefusal}
 use Rattle.ash_durable.specs.Hosting.{Hosted, first, second, state_unless, IsRunning, IsSaved, IsFull, WantsInstall}
 use Rattle.ash_durable.specs.Hosting.{InstallRefused, IsAnswer, IsInstalled, Replies, Handles}
@@ -39,6 +41,12 @@ room_made {D} device request old between runs made =
     )
 
 -- ---- a request that is handled once room was made
+
+-- a request that has no end changes the state
+no_end_changes : (budget : ℕ) (request : Request) (state : HostState) (error : StepError)
+    → HasNoEnd budget request state error → IsChange (task_of request state)
+no_end_changes budget request state errors.NoMemory no_end = no_end
+no_end_changes budget request state errors.NoStep no_end = no_end.0
 
 module _ {D : Type 0} (device : Device D) (budget : ℕ) (request : Request) (stopped : Option ℕ)
     (seen after : HostState) (journal : Journal D) (old between : Hosted D) (runs : IsSome old.state)
@@ -83,8 +91,8 @@ module _ {D : Type 0} (device : Device D) (budget : ℕ) (request : Request) (st
       → Handles device budget request old (Refused NoMemory) (seen_host (Some seq) after journal)
   handled_lost seq error handled seq_is =
       let room = room_made device request old between runs made in
-      handles_lost_state device budget request stopped seen after journal room.0 old between seq is room.1 handled.0
-      (ap (λ (s : HostState). s.registered) handled.1) seq_is
+      handles_lost_state device budget request stopped seen after journal room.0 old between seq is room.1
+      (no_end_changes budget request seen error handled.0) (ap (λ (s : HostState). s.registered) handled.1) seq_is
 
 -- ---- no room
 

@@ -3,7 +3,7 @@ use Rattle.std.proofs.Common.{◌≡◌, ◌⊎◌, inl, inr, ℕ, List, [], ◌
 use Rattle.std.proofs.Common.{append_assoc}
 use Rattle.ash_disk.specs.Device.{Device}
 use Rattle.ash_steps.specs.Requests.{Request, Reply, Answered, Value, ShownAs, Number, Done, Refused}
-use Rattle.ash_meaning.specs.SourceFaults.{SourceFault}
+use Rattle.ash_sources.specs.SourceFaults.{SourceFault}
 use Rattle.ash_states.specs.States.{HostState}
 use Rattle.ash_registry.specs.Registrations.{Registration}
 use Rattle.ash_durable.specs.Hosting.{Hosted, IsAnswer, Handles, HandlesAll}

@@ -14,12 +14,12 @@ use Rattle.ash_steps.specs.Tasks.{TaskResult, numbered, require, initialize, is_
 use Rattle.ash_steps.specs.Steps.{unless_refused}
 use Rattle.ash_plain_steps.specs.TaskViews.{TakesMemoryToFind}
 use Rattle.ash_plain_steps.specs.StepViews.{IsChange}
-use Rattle.ash_meaning.specs.SourceFaults.{SourceFault, Lexical}
-use Rattle.ash_meaning.specs.SourceFaults as sources
-use Rattle.ash_meaning.specs.TypedSource.{TypedResult, typed_if_checked, typed_source}
-use Rattle.ash_meaning.specs.Sources.{admitted_as}
-use Rattle.ash_meaning.specs.declared.sources.AdmittedScripts.TheVariants.{UsingNothingRegistered}
-use Rattle.ash_meaning.proofs.CheckedSourceLaws.{of_no_tokens}
+use Rattle.ash_sources.specs.SourceFaults.{SourceFault, Lexical}
+use Rattle.ash_sources.specs.SourceFaults as sources
+use Rattle.ash_sources.specs.TypedSource.{TypedResult, typed_if_checked, typed_source}
+use Rattle.ash_sources.specs.Sources.{admitted_as}
+use Rattle.ash_sources.specs.declared.sources.AdmittedScripts.TheVariants.{UsingNothingRegistered}
+use Rattle.ash_sources.proofs.CheckedSourceLaws.{of_no_tokens}
 use Rattle.ash_states.specs.States.{HostState, embedding_for}
 use Rattle.ash_states.specs.Steps.{task_of, step, outcome_of, no_hosts}
 use Rattle.ash_durable.specs.Hosting.{Hosted, Replies, Handles}

@@ -156,6 +156,12 @@ through_more before next r records (Err fault) on through =
     ))
     fault through
 
+-- a record leads to no state, and is reported
+pub through_none : (before : HostState) (r : Record) (records : List Record) (fault : StoreFault)
+    → LeadsOn before.registered r.body.items r.gate (Err fault) → LeadsThrough before (r ∷ records) (Err fault)
+through_none before r records fault on =
+    damage_is _ (FirstRecordWithout (IsAdmittedBody before.registered) (r ∷ records)) (λ at none. inl none) fault on
+
 -- what is registered is the same after records that were read as before
 pub through_registered : (registered : List Registration) (before : HostState) (records : List Record)
     (result : Result HostState StoreFault) → before.registered ≡ registered → LeadsThrough before records result

@@ -7,8 +7,8 @@ use Rattle.ash_steps.specs.Tasks.{TaskResult}
 use Rattle.ash_steps.specs.Steps.{unless_refused}
 use Rattle.ash_plain_steps.specs.TaskViews.{TakesMemoryToFind}
 use Rattle.ash_plain_steps.specs.StepViews.{IsChange}
-use Rattle.ash_meaning.specs.SourceFaults.{SourceFault}
-use Rattle.ash_meaning.specs.SourceFaults as sources
+use Rattle.ash_sources.specs.SourceFaults.{SourceFault}
+use Rattle.ash_sources.specs.SourceFaults as sources
 use Rattle.ash_states.specs.States.{HostState}
 use Rattle.ash_states.specs.Steps.{task_of, outcome_of, no_hosts}
 use Rattle.ash_durable.specs.Hosting.{Hosted, WantsInstall, TookStep, Replies, Handles, IsAnswer, Refuses, RefusesFirst}

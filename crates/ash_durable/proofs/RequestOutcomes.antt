@@ -3,7 +3,7 @@ use Rattle.std.proofs.Common.{◌≡◌, ◌⊎◌, inl, inr, ℕ, List, [], ◌
 use Rattle.ash_disk.specs.Device.{Device}
 use Rattle.ash_journal.specs.declared.journal.Journal.{Journal}
 use Rattle.ash_steps.specs.Requests.{Request, Seq, Reply, Answered, Refused, DeviceFailed, NoMemory, GenerationSpent}
-use Rattle.ash_meaning.specs.SourceFaults.{SourceFault}
+use Rattle.ash_sources.specs.SourceFaults.{SourceFault}
 use Rattle.ash_states.specs.States.{HostState}
 use Rattle.ash_states.specs.Steps.{Steps}
 use Rattle.ash_durable.specs.Hosting.{Hosted, first, second, IsRunning, IsSaved, IsHonest, IsAnswer, InstallRefused}

@@ -1,6 +1,6 @@
 -- What the parts of a request do to a host, by what they do to its journal.
 use Rattle.std.proofs.Common.{◌≡◌, ◌⊎◌, inl, inr, ℕ, Option, Some, None, IsSome, Result, Ok, Err, OnOk, refl, subst}
-use Rattle.std.proofs.Common.{arith}
+use Rattle.std.proofs.Common.{ap, arith}
 use Rattle.std.proofs.lemmas.Bool.{cases_lt}
 use Rattle.ash_disk.specs.Device.{Device}
 use Rattle.ash_journal.specs.declared.journal.Journal.{Journal}
@@ -9,9 +9,9 @@ use Rattle.ash_steps.specs.Requests.{Request, Load, Call, Discard, Get, Object, 
 use Rattle.ash_plain_steps.specs.declared.request.Refusal.TheVariants as the
 use Rattle.ash_states.specs.States.{HostState}
 use Rattle.ash_durable.specs.States.{HoldsState, GoesOn}
-use Rattle.ash_durable.specs.Saving.{HostRefusal, AddsWith, Adds, Installs}
+use Rattle.ash_durable.specs.Saving.{HostRefusal, AddsWith, Adds, InstallsWith, Installs}
 use Rattle.ash_durable.specs.Hosting.{Hosted, state_unless, IsRunning, IsHonest, IsFull, full_record_bytes, MayAdd}
-use Rattle.ash_durable.specs.Hosting.{WantsInstall, Settles, WasInstalled, WasLost}
+use Rattle.ash_durable.specs.Hosting.{WantsInstall, Settles, WasInstalled, InstallRefused, WasLost}
 use Rattle.ash_durable.specs.Replies.{refused_by}
 use Rattle.ash_durable.specs.Requests.{InstallsInto, TriesInstall, MakesRoom, CommitsWith, Commits}
 use Rattle.ash_durable.proofs.Composing.{runs_in, honest_before, untouched_disks}
@@ -50,6 +50,58 @@ install_ok device None state old new runs installs = record {
       at_each state old (λ (s : HostState). WasInstalled device s (seen_host None state old) (seen_host None state new)
       × Settles device s s (seen_host None state old) (seen_host None state new)) (
         installed device state old new installs,
+        λ honest was. installs.moments (was honest state (running_seen state old)),
+      ) other runs_too;
+  disks = record {
+    failures = installs.failures;
+    honesty_first = installs.honesty_first;
+    honesty_second = installs.honesty_second;
+    registered = refl;
+  };
+}
+
+-- no device failed, and nothing changed
+refused_for : {D : Type 0} (state : HostState) (refusal : HostRefusal) (old new : Journal D)
+    → (refusal ≡ the.DeviceFailed → ⊥) → InstallsWith old (Err refusal) new
+    → InstallRefused (seen_host None state old) (refused_by refusal) (seen_host None state new)
+refused_for state the.GenerationSpent old new not outcome = (outcome.0, ap (seen_host None state) outcome.1)
+refused_for state the.NoMemory old new not outcome = (outcome.0, ap (seen_host None state) outcome.1)
+refused_for state the.DeviceFailed old new not outcome = absurd (not refl)
+refused_for state _ old new not outcome = absurd outcome
+
+pub install_refused : {D : Type 0} (device : Device D) (stopped : Option ℕ) (state : HostState) (refusal : HostRefusal)
+    (old new : Journal D) → IsSome (state_unless stopped state) → (refusal ≡ the.DeviceFailed → ⊥)
+    → Installs device state old (Err refusal) new
+    → TriesInstall device (seen_host stopped state old) (Err refusal) (seen_host stopped state new)
+install_refused device (Some seq) state refusal old new runs not installs = absurd (cc)
+install_refused device None state refusal old new runs not installs = record {
+  installs = λ other runs_too.
+      at_each state old (λ (s : HostState).
+      InstallRefused (seen_host None state old) (refused_by refusal) (seen_host None state new)
+      × Settles device s s (seen_host None state old) (seen_host None state new)) (
+        refused_for state refusal old new not installs.outcome,
+        λ honest was. installs.moments (was honest state (running_seen state old)),
+      ) other runs_too;
+  disks = record {
+    failures = installs.failures;
+    honesty_first = installs.honesty_first;
+    honesty_second = installs.honesty_second;
+    registered = refl;
+  };
+}
+
+-- a device failed
+pub install_failed : {D : Type 0} (device : Device D) (seq : ℕ) (stopped : Option ℕ) (state : HostState)
+    (old new : Journal D) → IsSome (state_unless stopped state) → seq ≡ state.state.seq
+    → Installs device state old (Err the.DeviceFailed) new
+    → TriesInstall device (seen_host stopped state old) (Err the.DeviceFailed) (seen_host (Some seq) state new)
+install_failed device seq (Some number) state old new runs seq_is installs = absurd (cc)
+install_failed device seq None state old new runs seq_is installs = record {
+  installs = λ other runs_too.
+      at_each state old (λ (s : HostState).
+      InstallRefused (seen_host None state old) (refused_by the.DeviceFailed) (seen_host (Some seq) state new)
+      × Settles device s s (seen_host None state old) (seen_host (Some seq) state new)) (
+        (installs.outcome.0, record { stopped = refl; seq_same = seq_is }),
         λ honest was. installs.moments (was honest state (running_seen state old)),
       ) other runs_too;
   disks = record {

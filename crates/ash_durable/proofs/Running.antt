@@ -5,7 +5,7 @@ use Rattle.ash_journal.specs.declared.journal.Journal.{Journal}
 use Rattle.ash_steps.specs.Requests.{Request, Get, Object, Seq, Refusal, Reply, Refused, DeviceFailed, NoMemory}
 use Rattle.ash_steps.specs.Requests.{GenerationSpent}
 use Rattle.ash_plain_steps.specs.StepViews.{IsChange}
-use Rattle.ash_meaning.specs.SourceFaults.{SourceFault}
+use Rattle.ash_sources.specs.SourceFaults.{SourceFault}
 use Rattle.ash_states.specs.States.{HostState}
 use Rattle.ash_states.specs.Steps.{task_of}
 use Rattle.ash_durable.specs.Hosting.{Hosted, IsRunning, WantsInstall, InstallRefused, WasLost, HasStopped}

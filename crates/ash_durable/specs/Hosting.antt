@@ -9,8 +9,8 @@ use Rattle.ash_steps.specs.Requests.{Request, Load, Call, Discard, Get, Object, 
 use Rattle.ash_steps.specs.Requests.{Number, Refused, Reopen, DeviceFailed, NoMemory, GenerationSpent}
 use Rattle.ash_plain_steps.specs.TaskViews.{TakesMemoryToFind}
 use Rattle.ash_plain_steps.specs.StepViews.{IsChange}
-use Rattle.ash_meaning.specs.SourceFaults.{SourceFault}
-use Rattle.ash_meaning.specs.SourceFaults as sources
+use Rattle.ash_sources.specs.SourceFaults.{SourceFault}
+use Rattle.ash_sources.specs.SourceFaults as sources
 use Rattle.ash_states.specs.States.{HostState}
 use Rattle.ash_states.specs.Steps.{RanOut, task_of, first_refusal, step}
 use Rattle.ash_durable.specs.States.{AreHonest, HoldsState, BeginsAnew}
@@ -171,8 +171,9 @@ pub record WasNotCommitted {D : Type 0} (device : Device D) (budget : ℕ) (requ
   pub stopped : HasStopped old new
   pub settles : Settles device state after old new
 
--- Memory was refused while a request changed the state, which is lost: the host has to be reopened, and is then in the
--- state before the request, on which alone the files settle.
+-- Memory was refused while a request changed the state, or its run called a host object, for which there is no step: the
+-- state is lost. The host has to be reopened, and is then in the state before the request, on which alone the files
+-- settle.
 pub record LostItsState {D : Type 0} (device : Device D) (request : Request) (state : HostState) (old : Hosted D)
     (reply : Reply SourceFault) (new : Hosted D) : Type 0 where
   pub between : Hosted D

@@ -9,7 +9,7 @@ use Rattle.ash_host.specs.declared.event.Event.{Event as HostEvent}
 use Rattle.ash_phrases.specs.Ends.{End}
 use Rattle.ash_steps.specs.Requests.{Request, Reply, Answered}
 use Rattle.ash_registry.specs.Registrations.{Registration}
-use Rattle.ash_meaning.specs.SourceFaults.{SourceFault}
+use Rattle.ash_sources.specs.SourceFaults.{SourceFault}
 use Rattle.ash_states.specs.States.{HostState, empty}
 use Rattle.ash_states.specs.Steps.{Steps}
 use Rattle.ash_durable.specs.Hosting.{Hosted, first, second, IsRunning, IsSaved, IsAnswer, Handles}

@@ -3,8 +3,8 @@ use Rattle.std.specs.Prelude.{Result, Ok, Err}
 use Rattle.ash_steps.specs.Requests.{Reply, Done, Refused}
 use Rattle.ash_plain_steps.specs.declared.request.Reply as code_reply
 use Rattle.ash_plain_steps.specs.RequestViews.{refusal_seen, reply_seen}
-use Rattle.ash_meaning.specs.declared.fault.SourceFault.{SourceFault as CodeFault}
-use Rattle.ash_meaning.specs.SourceFaults.{SourceFault, fault_of}
+use Rattle.ash_sources.specs.declared.fault.SourceFault.{SourceFault as CodeFault}
+use Rattle.ash_sources.specs.SourceFaults.{SourceFault, fault_of}
 use Rattle.ash_durable.specs.Saving.{HostRefusal}
 
 -- What the code replies to a request.

@@ -2,7 +2,7 @@
 use Rattle.std.specs.Prelude.{◌≡◌, ◌⊎◌, ℕ, List, [], ◌∷◌, ◌++◌, map, None}
 use Rattle.ash_steps.specs.Requests.{Request, Get, Object, Seq, Reply, Refused, DeviceFailed, NoMemory, GenerationSpent}
 use Rattle.ash_plain_steps.specs.StepViews.{IsChange}
-use Rattle.ash_meaning.specs.SourceFaults.{SourceFault}
+use Rattle.ash_sources.specs.SourceFaults.{SourceFault}
 use Rattle.ash_states.specs.States.{HostState}
 use Rattle.ash_states.specs.Steps.{Steps, task_of}
 use Rattle.ash_durable.specs.Hosting.{Hosted, IsRunning, reply_stopped}

@@ -4,7 +4,7 @@ use Rattle.ash_disk.specs.Device.{Device}
 use Rattle.ash_journal.specs.declared.journal.Journal.{Journal}
 use Rattle.ash_journal.specs.Failures.{CountsFailures}
 use Rattle.ash_journal.specs.Journal.{first_disk, second_disk, generation, record_bytes, HasFailed, IsReady}
-use Rattle.ash_meaning.specs.declared.fault.SourceFault.{SourceFault as CodeFault}
+use Rattle.ash_sources.specs.declared.fault.SourceFault.{SourceFault as CodeFault}
 use Rattle.ash_plain_steps.specs.declared.request.Refusal.{Refusal}
 use Rattle.ash_plain_steps.specs.declared.request.Refusal.TheVariants as the
 use Rattle.ash_states.specs.States.{HostState}

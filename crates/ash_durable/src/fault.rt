@@ -9,24 +9,43 @@ use thiserror::Error;
 #[derive(Clone, Copy, Debug, PartialEq, Eq, Error)]
 pub enum StoreFault {
     /// No file of the store is open: nothing was ever stored in it.
-    #[error("501 NoGeneration")]
+    #[error("no file of the store is open: nothing was ever stored in it")]
     NoGeneration,
     /// A file of the store is open already.
-    #[error("502 AlreadyThere")]
+    #[error("a file of the store is open already")]
     AlreadyThere,
     /// The bytes are not those of a store. The offset, in bytes, is that of the gate before the record that is damaged,
     /// or 0 for what is before the first record.
-    #[error("503 Damaged")]
+    #[error("the store is damaged at byte {0}")]
     Damaged(u64),
     /// The store was made with another registration.
-    #[error("504 OtherInterface")]
+    #[error("the store was made with another registration")]
     OtherInterface,
     /// A disk failed.
-    #[error("507 DeviceFailed")]
+    #[error("a disk failed")]
     DeviceFailed,
     /// Memory was refused.
-    #[error("509 NoMemory")]
+    #[error("memory was refused")]
     NoMemory,
+}
+
+impl StoreFault {
+    ghost use Rattle.std.specs.Prelude.{◌≡◌};
+    ghost use Rattle.ash_durable.specs.Faults.{code_of};
+
+    /// The code by which it is reported: its number and its name, without the offset.
+    pub fn code(self) -> &'static str
+        ensures coded { result.now ≡ code_of self }
+    {
+        match self {
+            StoreFault::NoGeneration => "501 NoGeneration",
+            StoreFault::AlreadyThere => "502 AlreadyThere",
+            StoreFault::Damaged(_) => "503 Damaged",
+            StoreFault::OtherInterface => "504 OtherInterface",
+            StoreFault::DeviceFailed => "507 DeviceFailed",
+            StoreFault::NoMemory => "509 NoMemory",
+        }
+    }
 }
 
 impl From<DeviceFailed> for StoreFault {

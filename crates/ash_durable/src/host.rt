@@ -4,7 +4,7 @@ ghost use Rattle.std.specs.Prelude.{◌≡◌, ◌↔◌, ℕ, map, Some, IfOk, 
 ghost use Rattle.ash_registry.specs.Registered.{registered};
 ghost use Rattle.ash_steps.specs.Requests.{Call, Discard, Get, Load, Number, Object, Seq, Snapshot};
 ghost use Rattle.ash_plain_steps.specs.RequestViews.{request_seen, reply_seen};
-ghost use Rattle.ash_meaning.specs.SourceFaults.{fault_of};
+ghost use Rattle.ash_sources.specs.SourceFaults.{fault_of};
 ghost use Rattle.ash_states.specs.States.{HostState};
 ghost use Rattle.ash_durable.specs.Hosting.{first, second, Handles, HandlesAll, IsAnswer, IsFull, IsInstalled};
 ghost use Rattle.ash_durable.specs.Hosting.{IsRunning, RefusesFirst, WantsInstall, reply_stopped};
@@ -146,11 +146,13 @@ impl<D: Disk> Host<D> {
     {
         match install_state(&self.state, &mut self.journal) {
             Ok(()) => Ok(()),
-            Err(Refusal::DeviceFailed) => {
-                self.stopped = Some(self.state.seq());
-                Err(Refusal::DeviceFailed)
-            }
-            Err(refusal) => Err(refusal),
+            Err(refusal) => match refusal {
+                Refusal::DeviceFailed => {
+                    self.stopped = Some(self.state.seq());
+                    Err(Refusal::DeviceFailed)
+                }
+                refusal => Err(refusal),
+            },
         }
     }
 

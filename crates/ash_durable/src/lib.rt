@@ -24,6 +24,6 @@ pub mod lives;
 mod saving;
 mod store;
 
-pub use ash_meaning::checking::check_source;
+pub use ash_sources::checking::check_source;
 pub use fault::{OpenRefused, StoreFault};
 pub use host::Host;

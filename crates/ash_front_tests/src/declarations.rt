@@ -1,7 +1,7 @@
 //! Registered declarations: `ok`, or the first fault by the grammar. The offsets are counted by hand.
 
 use crate::compare::check_text;
-use crate::tokens::printed_fault;
+use crate::tokens::coded_fault;
 use ash_lex::{Token, lex};
 use ash_parse::{
     ParseFault, has_one_declaration, has_one_declaration_fault, parse_declaration, parse_module,
@@ -10,11 +10,23 @@ use ash_tree::Module;
 use std::alloc::{AllocError, Global};
 use std::process::Abort;
 
-/// `ok`, or a fault as it is printed.
-pub(crate) fn printed(alloc: Global, fault: Option<&ParseFault>) -> Result<String, AllocError> {
+/// A fault by its code, with its word and its offset if it has any.
+pub(crate) fn coded(alloc: Global, fault: &ParseFault) -> Result<String, AllocError> {
+    let code = fault.code();
+    match fault {
+        ParseFault::Unexpected { at } | ParseFault::TooDeep { at } => {
+            format!(in alloc; "{code} {at}")
+        }
+        ParseFault::Unsupported { word, at } => format!(in alloc; "{code} {word} {at}"),
+        ParseFault::NoMemory => String::from_str(alloc, code),
+    }
+}
+
+/// `ok`, or a fault.
+pub(crate) fn outcome_of(alloc: Global, fault: Option<&ParseFault>) -> Result<String, AllocError> {
     match fault {
         None => String::from_str(alloc, "ok"),
-        Some(fault) => format!(in alloc; "{fault}"),
+        Some(fault) => coded(alloc, fault),
     }
 }
 
@@ -33,8 +45,8 @@ fn declaration_fault(alloc: Global, tokens: &[Token]) -> Option<ParseFault> {
 /// How a registered declaration is parsed: `ok`, or its fault.
 fn declaration_outcome_of(alloc: Global, source: &str) -> Result<String, AllocError> {
     match lex(alloc, source) {
-        Ok(tokens) => Ok(printed(alloc, declaration_fault(alloc, tokens.as_slice()).as_ref())?),
-        Err(fault) => Ok(printed_fault(alloc, &fault)?),
+        Ok(tokens) => Ok(outcome_of(alloc, declaration_fault(alloc, tokens.as_slice()).as_ref())?),
+        Err(fault) => Ok(coded_fault(alloc, &fault)?),
     }
 }
 

@@ -1,8 +1,8 @@
 //! Sources of 65,536 bytes: their trees are shallow, so that comparing and dropping one takes little stack.
 
 use crate::compare::{check_number, check_text, check_true};
-use crate::declarations::{parsed, printed};
-use crate::tokens::{printed_fault, push_times};
+use crate::declarations::{outcome_of, parsed};
+use crate::tokens::{coded_fault, push_times};
 use ash_lex::{MAX_SOURCE_BYTES, Token, lex};
 use std::alloc::{AllocError, Global};
 use std::process::Abort;
@@ -30,7 +30,7 @@ fn check_trees(
 ) -> Result<(), AllocError> {
     let first = parsed(alloc, tokens);
     let second = parsed(alloc, tokens);
-    let fault = printed(alloc, first.as_ref().err())?;
+    let fault = outcome_of(alloc, first.as_ref().err())?;
     check_text(rt, fault.as_str(), "ok", row);
     check_true(rt, first == second, row);
     Ok(())
@@ -42,7 +42,7 @@ fn check(rt: &impl Abort, alloc: Global, source: &str, row: &str) -> Result<(), 
     match lex(alloc, source) {
         Ok(tokens) => check_trees(rt, alloc, tokens.as_slice(), row),
         Err(fault) => {
-            check_text(rt, printed_fault(alloc, &fault)?.as_str(), "tokens", row);
+            check_text(rt, coded_fault(alloc, &fault)?.as_str(), "tokens", row);
             Ok(())
         }
     }

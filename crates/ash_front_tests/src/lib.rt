@@ -3,7 +3,7 @@
 //!
 //! In reading order: `compare`, with the comparisons; `tokens`, `signs` and `words`, of `ash_lex`; `declarations`,
 //! `trees` with `expression_trees`, `statement_trees` and `item_trees`, and `largest`, of `ash_parse`;
-//! `registrations`, `refusals` and `registry_limits`, of `ash_registry`.
+//! `registrations`, `refusals` and `registry_limits`, of `ash_registry`; `sentences`, of the faults of all three.
 #![tactic(auto)]
 
 #[cfg(test)]
@@ -22,6 +22,8 @@ mod refusals;
 mod registrations;
 #[cfg(test)]
 mod registry_limits;
+#[cfg(test)]
+mod sentences;
 #[cfg(test)]
 mod signs;
 #[cfg(test)]

@@ -28,12 +28,18 @@ fn show_token(out: &mut String, token: &Token) -> Result<(), AllocError> {
     show_kind(out, &token.kind)
 }
 
-/// A fault as it is printed.
-pub(crate) fn printed_fault(alloc: Global, fault: &LexFault) -> Result<String, AllocError> {
-    format!(in alloc; "{fault}")
+/// A fault by its code, with its offset if it has one.
+pub(crate) fn coded_fault(alloc: Global, fault: &LexFault) -> Result<String, AllocError> {
+    let code = fault.code();
+    match fault {
+        LexFault::BadCharacter { at }
+        | LexFault::UnclosedComment { at }
+        | LexFault::NumberTooLarge { at } => format!(in alloc; "{code} {at}"),
+        LexFault::SourceTooLong | LexFault::NoMemory => String::from_str(alloc, code),
+    }
 }
 
-/// The tokens of a text, or its fault as it is printed.
+/// The tokens of a text, or its fault.
 pub(crate) fn shown(alloc: Global, text: &str) -> Result<String, AllocError> {
     match lex(alloc, text) {
         Ok(tokens) => {
@@ -43,7 +49,7 @@ pub(crate) fn shown(alloc: Global, text: &str) -> Result<String, AllocError> {
             }
             Ok(out)
         }
-        Err(fault) => printed_fault(alloc, &fault),
+        Err(fault) => coded_fault(alloc, &fault),
     }
 }
 
@@ -195,7 +201,7 @@ fn longest_source(rt: HostRuntime) -> Result<(), AllocError> {
         ("\"", 65_537, "107 SourceTooLong"),
     ];
     check_repeated(&rt, rt.alloc(), rows)?;
-    let found = printed_fault(rt.alloc(), &LexFault::NoMemory)?;
+    let found = coded_fault(rt.alloc(), &LexFault::NoMemory)?;
     check_text(&rt, found.as_str(), "509 NoMemory", "no memory");
     Ok(())
 }

@@ -2,8 +2,8 @@
 //! `@8/2` of offset 8 in the second.
 
 use crate::compare::check_text;
-use crate::declarations::parsed;
-use crate::tokens::printed_fault;
+use crate::declarations::{coded, parsed};
+use crate::tokens::coded_fault;
 use ash_lex::{Token, lex};
 use ash_parse::{has_one_fault, has_one_module};
 use std::alloc::{AllocError, Global};
@@ -15,7 +15,7 @@ fn printed_tree(alloc: Global, tokens: &[Token]) -> Result<String, AllocError> {
     has_one_fault(tokens);
     match parsed(alloc, tokens) {
         Ok(tree) => format!(in alloc; "{tree:?}"),
-        Err(fault) => format!(in alloc; "{fault}"),
+        Err(fault) => coded(alloc, &fault),
     }
 }
 
@@ -23,7 +23,7 @@ fn printed_tree(alloc: Global, tokens: &[Token]) -> Result<String, AllocError> {
 fn printed(alloc: Global, source: &str) -> Result<String, AllocError> {
     match lex(alloc, source) {
         Ok(tokens) => printed_tree(alloc, tokens.as_slice()),
-        Err(fault) => printed_fault(alloc, &fault),
+        Err(fault) => coded_fault(alloc, &fault),
     }
 }
 

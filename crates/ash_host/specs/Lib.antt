@@ -8,3 +8,4 @@ pub mod Reach
 pub mod Records
 pub mod Saved
 pub mod Laws
+pub mod FaultCodes

@@ -1,5 +1,6 @@
 //! Why a host object isn't saved or restored.
 
+ghost use Rattle.ash_host.specs.FaultCodes.{code_of};
 ghost use Rattle.ash_host.specs.declared.fault.RestoreFault.TheVariants as restore_faults;
 ghost use Rattle.std.specs.Prelude.{◌≡◌, Some, codes};
 
@@ -11,11 +12,20 @@ use std::fmt;
 #[derive(Clone, Copy, Debug, PartialEq, Eq)]
 pub struct NoMemory;
 
+impl NoMemory {
+    /// The code by which it is reported.
+    pub fn code(self) -> &'static str
+        ensures coded { result.now ≡ code_of self }
+    {
+        "509 NoMemory"
+    }
+}
+
 impl fmt::Display for NoMemory {
-    ghost output = { λ _. Some (codes "509 NoMemory") };
+    ghost output = { λ _. Some (codes "memory was refused") };
 
     fn fmt<W: fmt::Write>(&self, f: &mut fmt::Formatter<W>) -> fmt::Result {
-        write!(f, "509 NoMemory")
+        f.write_str("memory was refused")
     }
 }
 
@@ -41,6 +51,17 @@ pub enum RestoreFault {
     /// Memory ran out.
     NoMemory,
 }
+
+impl fmt::Display for RestoreFault {
+    fn fmt<W: fmt::Write>(&self, f: &mut fmt::Formatter<W>) -> fmt::Result {
+        f.write_str(match self {
+            RestoreFault::Refused => "the bytes are no state of an object of this kind",
+            RestoreFault::NoMemory => "memory was refused",
+        })
+    }
+}
+
+impl Error for RestoreFault {}
 
 impl From<AllocError> for RestoreFault {
     ghost from_gives = { λ _ fault. fault ≡ restore_faults.NoMemory };

@@ -7,3 +7,4 @@ pub mod OtherState
 pub mod Reading
 pub mod Runs
 pub mod Writes
+pub mod FaultCodes

@@ -1,60 +1,115 @@
 //! Why a call is refused: one type a call, with the errors that it can answer.
 
+ghost use Rattle.std.specs.Prelude.{◌≡◌};
+ghost use Rattle.ash_journal.specs.FaultCodes.{append_code, create_code, install_code, open_code};
+
 use thiserror::Error;
 
 /// Why no record was added.
 #[derive(Clone, Copy, Debug, PartialEq, Eq, Drop, Error)]
 pub enum AppendError {
     /// Memory was refused, and nothing has changed.
-    #[error("509 NoMemory")]
+    #[error("memory was refused")]
     NoMemory,
     /// A device failed: the record may be there or not, and the journal is to be opened again.
-    #[error("507 DeviceFailed")]
+    #[error("a device failed")]
     DeviceFailed,
+}
+
+impl AppendError {
+    /// The code by which it is reported: its number and its name.
+    pub fn code(self) -> &'static str
+        ensures coded { result.now ≡ append_code self }
+    {
+        match self {
+            AppendError::NoMemory => "509 NoMemory",
+            AppendError::DeviceFailed => "507 DeviceFailed",
+        }
+    }
 }
 
 /// Why no new generation was installed.
 #[derive(Clone, Copy, Debug, PartialEq, Eq, Drop, Error)]
 pub enum InstallError {
     /// The generation is the last that a number can have, and nothing has changed.
-    #[error("511 GenerationSpent")]
+    #[error("the generation is the last that a number can have")]
     GenerationSpent,
     /// Memory was refused, and nothing has changed.
-    #[error("509 NoMemory")]
+    #[error("memory was refused")]
     NoMemory,
     /// A device failed: the new generation may be there or not, and the journal is to be opened again.
-    #[error("507 DeviceFailed")]
+    #[error("a device failed")]
     DeviceFailed,
+}
+
+impl InstallError {
+    /// The code by which it is reported: its number and its name.
+    pub fn code(self) -> &'static str
+        ensures coded { result.now ≡ install_code self }
+    {
+        match self {
+            InstallError::GenerationSpent => "511 GenerationSpent",
+            InstallError::NoMemory => "509 NoMemory",
+            InstallError::DeviceFailed => "507 DeviceFailed",
+        }
+    }
 }
 
 /// Why two files were not opened.
 #[derive(Clone, Copy, Debug, PartialEq, Eq, Drop, Error)]
 pub enum OpenFault {
     /// A device failed.
-    #[error("507 DeviceFailed")]
+    #[error("a device failed")]
     DeviceFailed,
     /// Neither file is open.
-    #[error("501 NoGeneration")]
+    #[error("no file of the journal is open")]
     NoGeneration,
     /// The bytes are no generation: at 0 the magic, the number or the image, elsewhere the record after the gate at
     /// this offset in the current file.
-    #[error("503 Damaged {0}")]
+    #[error("the file is damaged at byte {0}")]
     Damaged(u64),
     /// Memory was refused.
-    #[error("509 NoMemory")]
+    #[error("memory was refused")]
     NoMemory,
+}
+
+impl OpenFault {
+    /// The code by which it is reported: its number and its name, without the offset.
+    pub fn code(self) -> &'static str
+        ensures coded { result.now ≡ open_code self }
+    {
+        match self {
+            OpenFault::DeviceFailed => "507 DeviceFailed",
+            OpenFault::NoGeneration => "501 NoGeneration",
+            OpenFault::Damaged(_) => "503 Damaged",
+            OpenFault::NoMemory => "509 NoMemory",
+        }
+    }
 }
 
 /// Why no journal was created.
 #[derive(Clone, Copy, Debug, PartialEq, Eq, Drop, Error)]
 pub enum CreateFault {
     /// A device failed.
-    #[error("507 DeviceFailed")]
+    #[error("a device failed")]
     DeviceFailed,
     /// A file is open. Nothing was written.
-    #[error("502 AlreadyThere")]
+    #[error("a file of the journal is open already")]
     AlreadyThere,
     /// Memory was refused, and nothing was written.
-    #[error("509 NoMemory")]
+    #[error("memory was refused")]
     NoMemory,
+}
+
+impl CreateFault {
+    /// The code by which it is reported: its number and its name.
+    pub fn code(self) -> &'static str
+        ensures coded { result.now ≡ create_code self }
+    {
+        match self {
+            CreateFault::DeviceFailed => "507 DeviceFailed",
+            CreateFault::AlreadyThere => "502 AlreadyThere",
+            CreateFault::NoMemory => "509 NoMemory",
+        }
+    }
 }

@@ -5,3 +5,4 @@ pub mod Pieces
 pub mod Tokens
 pub mod Scan
 pub mod ScannedPieces
+pub mod FaultCodes

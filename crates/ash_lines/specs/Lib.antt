@@ -4,7 +4,7 @@ pub mod Reading
 pub mod Lines
 pub mod Words
 pub mod ParsedLines
-pub mod FaultNames
+pub mod FaultDetails
 pub mod RefusalTexts
 pub mod ObjectTexts
 pub mod Replies

@@ -4,42 +4,26 @@ use Rattle.std.specs.List.{flat_map}
 use Rattle.ash_parse.specs.Faults.{part_text}
 use Rattle.ash_steps.specs.Requests.{Refusal}
 use Rattle.ash_steps.specs.Requests as refusals
-use Rattle.ash_meaning.specs.SourceFaults.{SourceFault}
-use Rattle.ash_lines.specs.FaultNames.{Details, Nothing, At, WordAt, Names, source_code, source_name, source_details}
+use Rattle.ash_sources.specs.SourceFaults.{SourceFault, code_of}
+use Rattle.ash_lines.specs.FaultDetails.{Details, Nothing, At, WordAt, Names, source_details}
 
-abbrev pub refusal_code : Refusal SourceFault → ℕ
-refusal_code (refusals.BadSource fault) = source_code fault
-refusal_code refusals.NoModule = 401
-refusal_code refusals.ModuleTaken = 402
-refusal_code refusals.NoFunction = 403
-refusal_code refusals.NotCallable = 404
-refusal_code refusals.BadArguments = 405
-refusal_code refusals.NoGlobal = 406
-refusal_code refusals.NoObject = 407
-refusal_code refusals.TooManyModules = 408
-refusal_code refusals.BadName = 409
-refusal_code refusals.SequenceSpent = 410
-refusal_code refusals.DeviceFailed = 507
-refusal_code refusals.Reopen = 508
-refusal_code refusals.NoMemory = 509
-refusal_code refusals.GenerationSpent = 511
-
-abbrev pub refusal_name : Refusal SourceFault → List ℕ
-refusal_name (refusals.BadSource fault) = source_name fault
-refusal_name refusals.NoModule = codes "NoModule"
-refusal_name refusals.ModuleTaken = codes "ModuleTaken"
-refusal_name refusals.NoFunction = codes "NoFunction"
-refusal_name refusals.NotCallable = codes "NotCallable"
-refusal_name refusals.BadArguments = codes "BadArguments"
-refusal_name refusals.NoGlobal = codes "NoGlobal"
-refusal_name refusals.NoObject = codes "NoObject"
-refusal_name refusals.TooManyModules = codes "TooManyModules"
-refusal_name refusals.BadName = codes "BadName"
-refusal_name refusals.SequenceSpent = codes "SequenceSpent"
-refusal_name refusals.DeviceFailed = codes "DeviceFailed"
-refusal_name refusals.Reopen = codes "Reopen"
-refusal_name refusals.NoMemory = codes "NoMemory"
-refusal_name refusals.GenerationSpent = codes "GenerationSpent"
+-- the number and the name of a refusal
+abbrev pub refusal_code : Refusal SourceFault → List ℕ
+refusal_code (refusals.BadSource fault) = code_of fault
+refusal_code refusals.NoModule = codes "401 NoModule"
+refusal_code refusals.ModuleTaken = codes "402 ModuleTaken"
+refusal_code refusals.NoFunction = codes "403 NoFunction"
+refusal_code refusals.NotCallable = codes "404 NotCallable"
+refusal_code refusals.BadArguments = codes "405 BadArguments"
+refusal_code refusals.NoGlobal = codes "406 NoGlobal"
+refusal_code refusals.NoObject = codes "407 NoObject"
+refusal_code refusals.TooManyModules = codes "408 TooManyModules"
+refusal_code refusals.BadName = codes "409 BadName"
+refusal_code refusals.SequenceSpent = codes "410 SequenceSpent"
+refusal_code refusals.DeviceFailed = codes "507 DeviceFailed"
+refusal_code refusals.Reopen = codes "508 Reopen"
+refusal_code refusals.NoMemory = codes "509 NoMemory"
+refusal_code refusals.GenerationSpent = codes "511 GenerationSpent"
 
 -- Only a refusal of a source reports more than its name.
 abbrev pub refusal_details : Refusal SourceFault → Details
@@ -56,18 +40,18 @@ details_text (At at) = codes " " ++ decimal at
 details_text (WordAt word at) = codes " " ++ (part_text word ++ (codes " " ++ decimal at))
 details_text (Names names) = names_text names
 
--- the number and the name of a refusal
-abbrev pub label_text : ℕ → List ℕ → List ℕ
-label_text code name = codes "refused " ++ (decimal code ++ (codes " " ++ name))
+-- that a request is refused, with the number and the name of the refusal
+abbrev pub label_text : List ℕ → List ℕ
+label_text code = codes "refused " ++ code
 
--- a refusal by its number, its name and what it reports of a source
-abbrev pub refused_text : ℕ → List ℕ → Details → List ℕ
-refused_text code name details = label_text code name ++ details_text details
+-- a refusal by its number and its name, and what it reports of a source
+abbrev pub refused_text : List ℕ → Details → List ℕ
+refused_text code details = label_text code ++ details_text details
 
 -- the refusal of a source
 abbrev pub fault_text : SourceFault → List ℕ
-fault_text fault = refused_text (source_code fault) (source_name fault) (source_details fault)
+fault_text fault = refused_text (code_of fault) (source_details fault)
 
 -- the refusal of a request; that of a source is the refusal of the source
 abbrev pub refusal_text : Refusal SourceFault → List ℕ
-refusal_text refusal = refused_text (refusal_code refusal) (refusal_name refusal) (refusal_details refusal)
+refusal_text refusal = refused_text (refusal_code refusal) (refusal_details refusal)

@@ -2,18 +2,18 @@
 
 ghost use Rattle.std.specs.Prelude.{◌≡◌, map, string_bytes};
 ghost use Rattle.ash_plain_steps.specs.RequestViews.{refusal_seen};
-ghost use Rattle.ash_meaning.specs.SourceFaults.{fault_of};
+ghost use Rattle.ash_sources.specs.SourceFaults.{fault_of};
 ghost use Rattle.ash_lines.specs.Sink.{Writes};
-ghost use Rattle.ash_lines.specs.FaultNames.{details_of};
-ghost use Rattle.ash_lines.specs.RefusalTexts.{refusal_code, refusal_name, refusal_details, names_text};
+ghost use Rattle.ash_lines.specs.FaultDetails.{details_of};
+ghost use Rattle.ash_lines.specs.RefusalTexts.{refusal_code, refusal_details, names_text};
 ghost use Rattle.ash_lines.specs.RefusalTexts.{details_text, label_text, refused_text, fault_text, refusal_text};
 
 use crate::details::Details;
-use crate::faults::{source_code, source_details, source_name};
+use crate::faults::source_details;
 use crate::pieces::write_all;
 use crate::sink::{Sink, WriteFault};
-use ash_meaning::fault::SourceFault;
 use ash_plain_steps::request::Refusal;
+use ash_sources::fault::SourceFault;
 use itoa::Buffer;
 
 /// Writes the refusal of a request.
@@ -24,69 +24,36 @@ pub(crate) fn write_refusal<K: Sink>(
     ensures text { Writes K.outlet output.old (refusal_text (refusal_seen fault_of refusal.now))
         result output.new }
 {
-    write_refused(
-        output,
-        refusal_code(refusal),
-        refusal_name(refusal),
-        refusal_details(refusal),
-    )
+    write_refused(output, refusal_code(refusal), refusal_details(refusal))
 }
 
 /// Writes the refusal of a source.
 pub(crate) fn write_fault<K: Sink>(output: &mut K, fault: &SourceFault) -> Result<(), WriteFault>
     ensures text { Writes K.outlet output.old (fault_text (fault_of fault.now)) result output.new }
 {
-    write_refused(
-        output,
-        source_code(fault),
-        source_name(fault),
-        source_details(fault),
-    )
+    write_refused(output, fault.code(), source_details(fault))
 }
 
-/// The number of a refusal.
-fn refusal_code(refusal: &Refusal<SourceFault>) -> u16
-    ensures code { result ≡ refusal_code (refusal_seen fault_of refusal.now) }
+/// The number and the name of a refusal.
+fn refusal_code(refusal: &Refusal<SourceFault>) -> &'static str
+    ensures code { result.now ≡ refusal_code (refusal_seen fault_of refusal.now) }
 {
     match refusal {
-        Refusal::BadSource(fault) => source_code(fault),
-        Refusal::NoModule => 401,
-        Refusal::ModuleTaken => 402,
-        Refusal::NoFunction => 403,
-        Refusal::NotCallable => 404,
-        Refusal::BadArguments => 405,
-        Refusal::NoGlobal => 406,
-        Refusal::NoObject => 407,
-        Refusal::TooManyModules => 408,
-        Refusal::BadName => 409,
-        Refusal::SequenceSpent => 410,
-        Refusal::DeviceFailed => 507,
-        Refusal::Reopen => 508,
-        Refusal::NoMemory => 509,
-        Refusal::GenerationSpent => 511,
-    }
-}
-
-/// The name of a refusal.
-fn refusal_name(refusal: &Refusal<SourceFault>) -> &'static str
-    ensures name { result.now ≡ refusal_name (refusal_seen fault_of refusal.now) }
-{
-    match refusal {
-        Refusal::BadSource(fault) => source_name(fault),
-        Refusal::NoModule => "NoModule",
-        Refusal::ModuleTaken => "ModuleTaken",
-        Refusal::NoFunction => "NoFunction",
-        Refusal::NotCallable => "NotCallable",
-        Refusal::BadArguments => "BadArguments",
-        Refusal::NoGlobal => "NoGlobal",
-        Refusal::NoObject => "NoObject",
-        Refusal::TooManyModules => "TooManyModules",
-        Refusal::BadName => "BadName",
-        Refusal::SequenceSpent => "SequenceSpent",
-        Refusal::DeviceFailed => "DeviceFailed",
-        Refusal::Reopen => "Reopen",
-        Refusal::NoMemory => "NoMemory",
-        Refusal::GenerationSpent => "GenerationSpent",
+        Refusal::BadSource(fault) => fault.code(),
+        Refusal::NoModule => "401 NoModule",
+        Refusal::ModuleTaken => "402 ModuleTaken",
+        Refusal::NoFunction => "403 NoFunction",
+        Refusal::NotCallable => "404 NotCallable",
+        Refusal::BadArguments => "405 BadArguments",
+        Refusal::NoGlobal => "406 NoGlobal",
+        Refusal::NoObject => "407 NoObject",
+        Refusal::TooManyModules => "408 TooManyModules",
+        Refusal::BadName => "409 BadName",
+        Refusal::SequenceSpent => "410 SequenceSpent",
+        Refusal::DeviceFailed => "507 DeviceFailed",
+        Refusal::Reopen => "508 Reopen",
+        Refusal::NoMemory => "509 NoMemory",
+        Refusal::GenerationSpent => "511 GenerationSpent",
     }
 }
 
@@ -100,34 +67,24 @@ fn refusal_details(refusal: &Refusal<SourceFault>) -> Details<'_>
     }
 }
 
-/// Writes a refusal by its number, its name and what it reports of a source.
+/// Writes a refusal by its number and its name, and what it reports of a source.
 fn write_refused<K: Sink>(
     output: &mut K,
-    code: u16,
-    name: &str,
+    code: &str,
     details: Details<'_>,
 ) -> Result<(), WriteFault>
     ensures text { Writes K.outlet output.old
-        (refused_text code name.now (details_of details.entry)) result output.new }
+        (refused_text code.now (details_of details.entry)) result output.new }
 {
-    write_label(output, code, name)?;
+    write_label(output, code)?;
     write_details(output, details)
 }
 
-/// Writes the number and the name of a refusal.
-fn write_label<K: Sink>(output: &mut K, code: u16, name: &str) -> Result<(), WriteFault>
-    ensures text { Writes K.outlet output.old (label_text code name.now) result output.new }
+/// Writes that a request is refused, with the number and the name of the refusal.
+fn write_label<K: Sink>(output: &mut K, code: &str) -> Result<(), WriteFault>
+    ensures text { Writes K.outlet output.old (label_text code.now) result output.new }
 {
-    let mut digits = Buffer::new();
-    write_all(
-        output,
-        &[
-            b"refused ".as_slice(),
-            digits.format(code).as_bytes(),
-            b" ".as_slice(),
-            name.as_bytes(),
-        ],
-    )
+    write_all(output, &[b"refused ".as_slice(), code.as_bytes()])
 }
 
 /// Writes what a refusal reports of a source, with a blank before each part.

@@ -2,7 +2,7 @@
 
 ghost use Rattle.std.specs.Prelude.{◌≡◌, ◌∷◌, [], ◌++◌};
 ghost use Rattle.ash_plain_steps.specs.RequestViews.{reply_seen};
-ghost use Rattle.ash_meaning.specs.SourceFaults.{fault_of};
+ghost use Rattle.ash_sources.specs.SourceFaults.{fault_of};
 ghost use Rattle.ash_lines.specs.Sink.{Writes, WritesAndFlushes};
 ghost use Rattle.ash_lines.specs.RefusalTexts.{fault_text};
 ghost use Rattle.ash_lines.specs.Replies.{line_reply_of, reply_line, reply_text};
@@ -12,8 +12,8 @@ use crate::object::{write_ok, write_shown};
 use crate::pieces::write_all;
 use crate::refusal::{write_fault, write_refusal};
 use crate::sink::{Sink, WriteFault};
-use ash_meaning::fault::SourceFault;
 use ash_plain_steps::request::Reply;
+use ash_sources::fault::SourceFault;
 use itoa::Buffer;
 
 /// The reply to a line.

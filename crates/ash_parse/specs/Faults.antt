@@ -1,4 +1,4 @@
--- The fault that is returned where reading stops.
+-- The fault that is returned where reading stops, and the code by which it is reported.
 use Rattle.std.specs.Prelude.{◌≡◌, ℕ, List, [], ◌∷◌, Option, Some, None, Ok, Err, ◌-◌, length, codes, if◌then◌else◌}
 use Rattle.std.specs.List.{slice_get}
 use Rattle.ash_lex.specs.Tokens.{Meaning, sign, unsupported}
@@ -21,6 +21,13 @@ abbrev pub part_text : UnsupportedPart → List ℕ
 part_text (parts.Word w) = unsupported_text w
 part_text parts.Power = codes "**"
 part_text parts.Scope = codes "::"
+
+-- the code by which a fault is reported: its number and its name
+abbrev pub code_of : ParseFault → List ℕ
+code_of (faults.Unexpected at) = codes "104 Unexpected"
+code_of (faults.Unsupported part at) = codes "105 Unsupported"
+code_of (faults.TooDeep at) = codes "106 TooDeep"
+code_of faults.NoMemory = codes "509 NoMemory"
 
 -- the part that a token belongs to which the profile doesn't have
 unfoldable pub part_of : Meaning → Option UnsupportedPart

@@ -1,7 +1,7 @@
 //! Why tokens have no tree.
 
 ghost use Rattle.std.specs.Prelude.{◌≡◌};
-ghost use Rattle.ash_parse.specs.Faults.{part_text};
+ghost use Rattle.ash_parse.specs.Faults.{code_of, part_text};
 
 use ash_lex::UnsupportedWord;
 use std::fmt;
@@ -46,15 +46,29 @@ impl fmt::Display for UnsupportedPart {
 #[derive(Clone, Copy, Debug, PartialEq, Eq, Error)]
 pub enum ParseFault {
     /// The first token that the tokens before it do not go on with, or the end.
-    #[error("104 Unexpected {at}")]
+    #[error("unexpected token or end at byte {at}")]
     Unexpected { at: usize },
     /// The same, where this token is a word or sign that the profile does not have.
-    #[error("105 Unsupported {word} {at}")]
+    #[error("`{word}` at byte {at} is not supported")]
     Unsupported { word: UnsupportedPart, at: usize },
     /// The first token that is deeper than 64.
-    #[error("106 TooDeep {at}")]
+    #[error("the token at byte {at} is nested more than 64 levels deep")]
     TooDeep { at: usize },
     /// Memory ran out.
-    #[error("509 NoMemory")]
+    #[error("memory was refused")]
     NoMemory,
+}
+
+impl ParseFault {
+    /// The code by which it is reported: its number and its name, without the word and the offset.
+    pub fn code(self) -> &'static str
+        ensures coded { result.now ≡ code_of self }
+    {
+        match self {
+            ParseFault::Unexpected { .. } => "104 Unexpected",
+            ParseFault::Unsupported { .. } => "105 Unsupported",
+            ParseFault::TooDeep { .. } => "106 TooDeep",
+            ParseFault::NoMemory => "509 NoMemory",
+        }
+    }
 }

@@ -10,16 +10,19 @@ ghost use Rattle.ash_registrations.specs.declared.adding.AddFault.TheVariants.{N
 use crate::text::line;
 use crate::{Registration, Registrations};
 use std::alloc::{AllocError, AllocFailed};
+use thiserror::Error;
 
 /// The most bytes of the text.
 const MAX_REGISTERED_TEXT_BYTES: usize = 1_048_576;
 
 /// Why a registration is not added.
-#[derive(Clone, Copy, Debug, PartialEq, Eq)]
+#[derive(Clone, Copy, Debug, PartialEq, Eq, Error)]
 pub enum AddFault {
     /// The text has no room for its line.
+    #[error("the text of the registrations has no room for another line")]
     TooLong,
     /// Memory ran out.
+    #[error("memory was refused")]
     NoMemory,
 }
 

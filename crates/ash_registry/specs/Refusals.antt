@@ -1,7 +1,7 @@
 -- These definitions say which registrations are refused, with the first cause in the order in which they are tested,
--- and what an accepted one adds.
+-- and what an accepted one adds, and by which code a fault is reported.
 use Rattle.std.specs.Prelude.{◌≡◌, ◌⊎◌, ℕ, Bool, true, false, not, ◌||◌, List, [], ◌∷◌, ◌++◌, Option, None, Some}
-use Rattle.std.specs.Prelude.{Result, Err, OnOk, OnErr, IfErr, nat_le, count_by}
+use Rattle.std.specs.Prelude.{Result, Err, OnOk, OnErr, IfErr, nat_le, count_by, codes}
 use Rattle.std.specs.List.{list_any, filter_map}
 use Rattle.std.specs.Option.{is_none, option_and_then, option_to_list}
 use Rattle.std.specs.Str.{bytes_eq}
@@ -30,6 +30,18 @@ use Rattle.ash_registrations.specs.declared.adding.AddFault.TheVariants as add_f
 abbrev pub fault_of : AddFault → RegistryFault
 fault_of add_faults.TooLong = TooMany
 fault_of add_faults.NoMemory = NoMemory
+
+-- `code_of fault` is the code by which a fault is reported: its number and its name.
+abbrev pub code_of : RegistryFault → List ℕ
+code_of UnknownType = codes "203 UnknownType"
+code_of NoService = codes "208 NoService"
+code_of BadDeclaration = codes "201 BadDeclaration"
+code_of ReservedName = codes "204 ReservedName"
+code_of NotPrimitive = codes "206 NotPrimitive"
+code_of NameTaken = codes "202 NameTaken"
+code_of FactoryTaken = codes "207 FactoryTaken"
+code_of TooMany = codes "205 TooMany"
+code_of NoMemory = codes "509 NoMemory"
 
 -- `cause test fault later` is the fault where the test holds, and else what is tested later.
 abbrev pub cause : Bool → RegistryFault → Option RegistryFault → Option RegistryFault

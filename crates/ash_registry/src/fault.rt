@@ -1,7 +1,7 @@
 //! Why a registration is refused.
 ghost use Rattle.std.specs.Prelude.{◌≡◌};
 ghost use Rattle.ash_registry.specs.declared.fault.RegistryFault.TheVariants.{NoMemory};
-ghost use Rattle.ash_registry.specs.Refusals.{fault_of};
+ghost use Rattle.ash_registry.specs.Refusals.{code_of, fault_of};
 
 use ash_registrations::AddFault;
 use std::alloc::{AllocError, AllocFailed};
@@ -11,32 +11,51 @@ use thiserror::Error;
 #[derive(Clone, Copy, Debug, PartialEq, Eq, Error)]
 pub enum RegistryFault {
     /// A type that isn't registered, as the argument or inside the declaration.
-    #[error("203 UnknownType")]
+    #[error("the type is not registered")]
     UnknownType,
     /// No service of that index.
-    #[error("208 NoService")]
+    #[error("no service has this number")]
     NoService,
     /// A declaration that isn't one of its kind, or a name that is none.
-    #[error("201 BadDeclaration")]
+    #[error("the declaration is not one of its kind")]
     BadDeclaration,
     /// A name that is a word of the language.
-    #[error("204 ReservedName")]
+    #[error("the name is a word of the language")]
     ReservedName,
     /// A parameter or result that isn't primitive.
-    #[error("206 NotPrimitive")]
+    #[error("a parameter or the result is not of a primitive type")]
     NotPrimitive,
     /// A name, a kind or a number that is taken.
-    #[error("202 NameTaken")]
+    #[error("the name, the kind or the number is taken")]
     NameTaken,
     /// A second factory of a type.
-    #[error("207 FactoryTaken")]
+    #[error("the type has a factory")]
     FactoryTaken,
     /// One more than there may be.
-    #[error("205 TooMany")]
+    #[error("there are as many registrations of this sort as there may be")]
     TooMany,
     /// Memory ran out.
-    #[error("509 NoMemory")]
+    #[error("memory was refused")]
     NoMemory,
+}
+
+impl RegistryFault {
+    /// The code by which it is reported: its number and its name.
+    pub fn code(self) -> &'static str
+        ensures coded { result.now ≡ code_of self }
+    {
+        match self {
+            RegistryFault::UnknownType => "203 UnknownType",
+            RegistryFault::NoService => "208 NoService",
+            RegistryFault::BadDeclaration => "201 BadDeclaration",
+            RegistryFault::ReservedName => "204 ReservedName",
+            RegistryFault::NotPrimitive => "206 NotPrimitive",
+            RegistryFault::NameTaken => "202 NameTaken",
+            RegistryFault::FactoryTaken => "207 FactoryTaken",
+            RegistryFault::TooMany => "205 TooMany",
+            RegistryFault::NoMemory => "509 NoMemory",
+        }
+    }
 }
 
 impl From<AllocError> for RegistryFault {

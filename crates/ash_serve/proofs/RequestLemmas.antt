@@ -4,8 +4,8 @@ use Rattle.std.proofs.Common.{Err}
 use Rattle.ash_steps.specs.Requests.{Load}
 use Rattle.ash_plain_steps.specs.declared.request.Reply as steps
 use Rattle.ash_plain_steps.specs.RequestViews.{reply_seen}
-use Rattle.ash_meaning.specs.declared.fault.SourceFault as code_fault
-use Rattle.ash_meaning.specs.SourceFaults.{fault_of}
+use Rattle.ash_sources.specs.declared.fault.SourceFault as code_fault
+use Rattle.ash_sources.specs.SourceFaults.{fault_of}
 use Rattle.ash_lines.specs.Source.{Feed, IsFeed, Faults}
 use Rattle.ash_lines.specs.Reading.{ReadsLinePart, ReadsWholeLine, FaultsInLine, source_prefix}
 use Rattle.ash_lines.specs.Lines.{Line, HostRequest, BadRequest, LineTooLong, parse_line, Complete, LoadHeader, next}

@@ -3,9 +3,9 @@ use Rattle.std.specs.Prelude.{◌≡◌, ◌<◌, ◌⊎◌, ℕ, List, [], ◌�
 use Rattle.std.specs.Prelude.{Result, Ok, Err, IfSome}
 use Rattle.std.specs.Io.KnownBytes.{Appends, Keeps}
 use Rattle.ash_registry.specs.Registrations.{Registration}
-use Rattle.ash_meaning.specs.declared.fault.SourceFault as code
-use Rattle.ash_meaning.specs.SourceFaults.{SourceFault, fault_of, TakesMemoryFor}
-use Rattle.ash_meaning.specs.CheckedSource.{CheckResult, checked_source}
+use Rattle.ash_sources.specs.declared.fault.SourceFault as code
+use Rattle.ash_sources.specs.SourceFaults.{SourceFault, fault_of, TakesMemoryFor}
+use Rattle.ash_sources.specs.CheckedSource.{CheckResult, checked_source}
 use Rattle.ash_lines.specs.Source.{Feed, Faults}
 use Rattle.ash_lines.specs.Sink.{Outlet, WritesAll, FailsPartway}
 use Rattle.ash_lines.specs.Reading.{max_prefix_bytes, source_prefix}

@@ -4,7 +4,7 @@ use Rattle.std.specs.Prelude.{IfSome}
 use Rattle.std.specs.List.{AllByRecursion}
 use Rattle.std.specs.Io.KnownBytes.{Appends, Keeps}
 use Rattle.ash_steps.specs.Requests.{Request, Reply}
-use Rattle.ash_meaning.specs.SourceFaults.{SourceFault}
+use Rattle.ash_sources.specs.SourceFaults.{SourceFault}
 use Rattle.ash_lines.specs.Lines.{Line, HostRequest, Quit, GoesOn, Cut, next, ConsistsOf, is_unfinished}
 use Rattle.ash_lines.specs.Replies.{LineReply, HostReply, reply_line, text_of}
 use Rattle.ash_serve.specs.Serving.{RequestRelation, RepliesToAll}

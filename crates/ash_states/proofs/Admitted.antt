@@ -8,9 +8,9 @@ use Rattle.ash_wellformed.proofs.Entries.{mapped}
 use Rattle.ash_wellformed_states.specs.WellFormedStates.{AreHosts}
 use Rattle.ash_wellformed_states.proofs.Stepped.{steps_keep}
 use Rattle.ash_wellformed_states.proofs.First.{empty_well}
-use Rattle.ash_meaning.specs.SourceFaults.{SourceFault}
-use Rattle.ash_meaning.specs.Sources.{admitting_unregistered}
-use Rattle.ash_meaning.proofs.SourceLaws.{read_sound}
+use Rattle.ash_sources.specs.SourceFaults.{SourceFault}
+use Rattle.ash_sources.specs.Sources.{admitting_unregistered}
+use Rattle.ash_sources.proofs.SourceLaws.{read_sound}
 use Rattle.ash_states.specs.States.{HostState, IsAdmitted, empty, embedding_for, offered_to}
 use Rattle.ash_states.specs.Steps.{no_hosts, outcome_of, step, Steps, StepsKeepAdmitted}
 use Rattle.ash_states.proofs.NoServices.{steps_leave_none}

@@ -6,9 +6,9 @@ use Rattle.std.specs.Str.{IsUtf8}
 use Rattle.ash_host.specs.Objects.{Objects, Bools, Ints, Uints, Int64s, Uint64s, Handles, Hosts, Plain, Script, Array, Host}
 use Rattle.ash_registry.specs.Text.{text_of}
 use Rattle.ash_typed.specs.Modules.{Module}
-use Rattle.ash_meaning.specs.Sources.{admitting_unregistered}
-use Rattle.ash_meaning.proofs.SourceLaws.{read_sound, admitted_exact}
-use Rattle.ash_meaning.proofs.TypedSourceLaws.{typed_rules}
+use Rattle.ash_sources.specs.Sources.{admitting_unregistered}
+use Rattle.ash_sources.proofs.SourceLaws.{read_sound, admitted_exact}
+use Rattle.ash_sources.proofs.TypedSourceLaws.{typed_rules}
 use Rattle.ash_state_image.specs.declared.version.Version.TheVariants.{Two}
 use Rattle.ash_state_image.specs.declared.parts.ModuleParts.{ModuleParts}
 use Rattle.ash_state_image.specs.declared.parts.ObjectParts.{ObjectParts}

@@ -5,7 +5,7 @@ use Rattle.std.specs.List.{AllByRecursion}
 use Rattle.ash_host.specs.Objects.{Objects}
 use Rattle.ash_registry.specs.Registrations.{Registration}
 use Rattle.ash_steps.specs.States.{LoadedModule, State, Embedding}
-use Rattle.ash_meaning.specs.SourceFaults.{SourceFault}
+use Rattle.ash_sources.specs.SourceFaults.{SourceFault}
 use Rattle.ash_wellformed.specs.WellFormed.{AreObjects, AreOffered}
 use Rattle.ash_wellformed_states.specs.WellFormedStates.{known_of, IsLoaded}
 use Rattle.ash_plain_steps.specs.declared.state.LoadedModule as code_module

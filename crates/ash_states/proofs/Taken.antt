@@ -19,10 +19,10 @@ use Rattle.ash_plain_steps.specs.RequestViews.{reply_seen, step_seen}
 use Rattle.ash_plain_steps.specs.Consistency.{AreConsistent}
 use Rattle.ash_plain_steps.specs.TaskViews.{TakesMemoryToFind}
 use Rattle.ash_plain_steps.specs.StepViews.{IsChange, IsStep}
-use Rattle.ash_meaning.specs.declared.fault.SourceFault as code_fault
-use Rattle.ash_meaning.specs.SourceFaults.{SourceFault, fault_of}
-use Rattle.ash_meaning.specs.SourceFaults as faults
-use Rattle.ash_meaning.specs.Sources.{SourceRules, embedding_of, admitting_unregistered}
+use Rattle.ash_sources.specs.declared.fault.SourceFault as code_fault
+use Rattle.ash_sources.specs.SourceFaults.{SourceFault, fault_of}
+use Rattle.ash_sources.specs.SourceFaults as faults
+use Rattle.ash_sources.specs.Sources.{SourceRules, embedding_of, admitting_unregistered}
 use Rattle.ash_states.specs.States.{HostState, IsAdmitted, empty, embedding_for}
 use Rattle.ash_states.specs.Steps.{no_hosts, task_of, outcome_of, Steps}
 use Rattle.ash_states.specs.Holding.{held_with, IsHeld, IsStepOf}

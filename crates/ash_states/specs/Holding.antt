@@ -8,8 +8,8 @@ use Rattle.ash_plain_steps.specs.declared.state.PlainState.{PlainState}
 use Rattle.ash_plain_steps.specs.RequestViews.{reply_seen}
 use Rattle.ash_plain_steps.specs.StateViews.{state_seen}
 use Rattle.ash_plain_steps.specs.Consistency.{AreConsistent}
-use Rattle.ash_meaning.specs.declared.fault.SourceFault as code_fault
-use Rattle.ash_meaning.specs.SourceFaults.{fault_of}
+use Rattle.ash_sources.specs.declared.fault.SourceFault as code_fault
+use Rattle.ash_sources.specs.SourceFaults.{fault_of}
 use Rattle.ash_states.specs.States.{HostState, IsAdmitted, embedding_for}
 use Rattle.ash_states.specs.Steps.{Steps, HasNoEnd}
 

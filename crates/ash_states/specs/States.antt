@@ -5,8 +5,8 @@ use Rattle.ash_typed.specs.Signatures.{Host}
 use Rattle.ash_steps.specs.States.{State, Embedding}
 use Rattle.ash_steps.specs.States as steps
 use Rattle.ash_wellformed_states.specs.WellFormedStates.{IsWellFormedState}
-use Rattle.ash_meaning.specs.SourceFaults.{SourceFault}
-use Rattle.ash_meaning.specs.Sources.{embedding_of, host_for, admitting_unregistered}
+use Rattle.ash_sources.specs.SourceFaults.{SourceFault}
+use Rattle.ash_sources.specs.Sources.{embedding_of, host_for, admitting_unregistered}
 
 -- The state of a host is what is registered, and what outlives a request.
 pub record HostState : Type 0 where

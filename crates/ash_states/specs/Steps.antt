@@ -13,9 +13,9 @@ use Rattle.ash_plain_steps.specs.declared.request.StepError.TheVariants as error
 use Rattle.ash_plain_steps.specs.RequestViews.{reply_seen}
 use Rattle.ash_plain_steps.specs.TaskViews.{TakesMemoryToFind}
 use Rattle.ash_plain_steps.specs.StepViews.{IsChange}
-use Rattle.ash_meaning.specs.declared.fault.SourceFault as code_fault
-use Rattle.ash_meaning.specs.SourceFaults.{SourceFault, fault_of}
-use Rattle.ash_meaning.specs.SourceFaults as faults
+use Rattle.ash_sources.specs.declared.fault.SourceFault as code_fault
+use Rattle.ash_sources.specs.SourceFaults.{SourceFault, fault_of}
+use Rattle.ash_sources.specs.SourceFaults as faults
 use Rattle.ash_states.specs.States.{HostState, IsAdmitted, embedding_for, empty}
 
 -- There are no host objects: no box is free, and no answer waits.

@@ -2,7 +2,7 @@
 
 ghost use Rattle.std.specs.Prelude.{◌≡◌, IfOk};
 ghost use Rattle.ash_registry.specs.Registered.{registered};
-ghost use Rattle.ash_meaning.specs.Sources.{rules_of, admitting_unregistered};
+ghost use Rattle.ash_sources.specs.Sources.{rules_of, admitting_unregistered};
 ghost use Rattle.ash_state_image.specs.Rules.{IsShaped};
 ghost use Rattle.ash_state_image.specs.Views.{snapshot_of};
 ghost use Rattle.ash_states.specs.Restoring.{RestoresState};
@@ -10,9 +10,9 @@ ghost use Rattle.ash_states.specs.Restoring.{RestoresState};
 use crate::modules::read_modules;
 use crate::objects::objects_of;
 use ash_admission::admission::is_well_typed;
-use ash_meaning::sources::{AdmittedScripts, Sources};
 use ash_plain_steps::state::PlainState;
 use ash_registry::Registry;
+use ash_sources::sources::{AdmittedScripts, Sources};
 use ash_state_image::stored::StoredState;
 use std::alloc::{AllocError, Global};
 

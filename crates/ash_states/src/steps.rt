@@ -9,11 +9,11 @@ ghost use Rattle.ash_plain_steps.specs.RequestViews.{request_seen};
 ghost use Rattle.ash_states.specs.Holding.{IsHeld, IsStepOf};
 
 use crate::restoring::sources_for;
-use ash_meaning::fault::SourceFault;
 use ash_plain_steps::request::{Request, Step, StepError};
 use ash_plain_steps::state::{Hosts, PlainState};
 use ash_plain_steps::steps::plain_step;
 use ash_registry::Registry;
+use ash_sources::fault::SourceFault;
 use std::alloc::Global;
 use std::collections::VecDeque;
 

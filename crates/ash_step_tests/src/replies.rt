@@ -2,9 +2,11 @@
 
 use ash_evaluator::ends::End;
 use ash_host::{Event, Target, Word};
-use ash_meaning::fault::SourceFault;
+use ash_lex::LexFault;
+use ash_parse::ParseFault;
 use ash_phrases::Exception;
 use ash_plain_steps::request::{Answer, ObjectContents, Refusal, Reply, Shown};
+use ash_sources::fault::SourceFault;
 use std::alloc::{AllocError, Global};
 use std::fmt::Write;
 
@@ -111,12 +113,41 @@ fn write_shown(out: &mut String, shown: &Shown) -> Result<(), AllocError> {
     write_contents(out, &shown.contents)
 }
 
-fn write_fault(out: &mut String, fault: &SourceFault) -> Result<(), AllocError> {
+/// The offset of a lexical fault, if it has one.
+fn write_lexical(out: &mut String, fault: LexFault) -> Result<(), AllocError> {
     match fault {
-        SourceFault::Lexical(fault) => write!(out, "{fault}"),
-        SourceFault::Syntactic(fault) => write!(out, "{fault}"),
-        SourceFault::Typing(fault) => write!(out, "{fault}"),
-        SourceFault::NotYet => write!(out, "199 NotYet"),
+        LexFault::BadCharacter { at }
+        | LexFault::UnclosedComment { at }
+        | LexFault::NumberTooLarge { at } => write!(out, " {at}"),
+        LexFault::SourceTooLong | LexFault::NoMemory => Ok(()),
+    }
+}
+
+/// The word and the offset of a fault of the grammar, if it has them.
+fn write_syntactic(out: &mut String, fault: ParseFault) -> Result<(), AllocError> {
+    match fault {
+        ParseFault::Unexpected { at } | ParseFault::TooDeep { at } => write!(out, " {at}"),
+        ParseFault::Unsupported { word, at } => write!(out, " {word} {at}"),
+        ParseFault::NoMemory => Ok(()),
+    }
+}
+
+/// Names, each after a blank.
+fn write_names(out: &mut String, names: &[String]) -> Result<(), AllocError> {
+    for name in names {
+        write!(out, " {name}")?;
+    }
+    Ok(())
+}
+
+fn write_fault(out: &mut String, fault: &SourceFault) -> Result<(), AllocError> {
+    write!(out, "{}", fault.code())?;
+    match fault {
+        SourceFault::Lexical(fault) => write_lexical(out, *fault),
+        SourceFault::Syntactic(fault) => write_syntactic(out, *fault),
+        SourceFault::Broken(fault) => write!(out, " {}", fault.at),
+        SourceFault::Cyclic(names) => write_names(out, names.0.as_slice()),
+        SourceFault::NotYet => Ok(()),
     }
 }
 

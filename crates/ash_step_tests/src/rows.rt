@@ -1,7 +1,7 @@
 //! Rows, and how they are run.
 
 ghost use Rattle.std.specs.Prelude.{◌≡◌, [], IfOk};
-ghost use Rattle.ash_meaning.specs.Sources.{rules_of, embedding_of};
+ghost use Rattle.ash_sources.specs.Sources.{rules_of, embedding_of};
 ghost use Rattle.ash_plain_steps.specs.Consistency.{AreConsistent};
 
 use crate::calls::{HostStep, answers};
@@ -9,11 +9,11 @@ use crate::registered::{pool, registry, zero};
 use crate::replies::{events_text, reply_text};
 use crate::requests::{arguments_of, request_of};
 use crate::states::state_text;
-use ash_meaning::fault::SourceFault;
-use ash_meaning::sources::{AdmittedScripts, Sources};
 use ash_plain_steps::request::{Request, Step, StepError};
 use ash_plain_steps::state::{Hosts, PlainState};
 use ash_plain_steps::steps::plain_step;
+use ash_sources::fault::SourceFault;
+use ash_sources::sources::{AdmittedScripts, Sources};
 use std::alloc::Global;
 use std::process::Abort;
 use std::test::Fail;

@@ -1,7 +1,7 @@
 //! Which sources are admitted where only those scripts are that use nothing registered.
 
 use crate::rows::{HOST, Host, Row, check_row};
-use ash_meaning::sources::AdmittedScripts;
+use ash_sources::sources::AdmittedScripts;
 use std::test::Fail;
 
 /// Only those scripts are admitted that use nothing registered.

@@ -32,10 +32,15 @@ fn add_module(image: &mut Vec<u8>, module: &Module) -> Result<(), AllocError> {
     }
 }
 
-/// The image of a host in which nothing is registered: its version, no text, its number, no object's number, no
-/// services, its modules, and no objects.
-pub fn image(alloc: Global, seq: u64, modules: &[Module]) -> Result<Vec<u8>, AllocError> {
-    let mut image = Vec::from_slice(alloc, &[1, 0, 0, 0, 0, 0])?;
+/// The image of a host in which nothing is registered, in a version: the version, no text, its number, no object's
+/// number, no services, its modules, and no objects.
+pub fn image_in(
+    alloc: Global,
+    version: u8,
+    seq: u64,
+    modules: &[Module],
+) -> Result<Vec<u8>, AllocError> {
+    let mut image = Vec::from_slice(alloc, &[version, 0, 0, 0, 0, 0])?;
     image.extend_from_slice(&seq.to_le_bytes())?;
     image.extend_from_slice(&[0; 10])?;
     let count = u8::try_from(modules.len()).unwrap_or(u8::MAX);
@@ -45,6 +50,11 @@ pub fn image(alloc: Global, seq: u64, modules: &[Module]) -> Result<Vec<u8>, All
     }
     image.extend_from_slice(&[0; 4])?;
     Ok(image)
+}
+
+/// The same in the version that is written.
+pub fn image(alloc: Global, seq: u64, modules: &[Module]) -> Result<Vec<u8>, AllocError> {
+    image_in(alloc, 2, seq, modules)
 }
 
 /// The file of a generation with an image and no records.

@@ -1,12 +1,17 @@
 //! Hosts over disks in memory, and their calls. Each call of a host is in a function of its own, which promises
-//! nothing: so its contract is seen once, and not in every test.
+//! nothing: so its contract is seen once, and not in every test. What a host replies is compared as the line that is
+//! written of it.
 
 use ash_disk::{Disk, FailingDisk, MemoryDisk, Survives};
 use ash_durable::{Host, StoreFault};
 use ash_host::Word;
-use ash_meaning::refusal::Refusal;
-use ash_meaning::request::{Answer, Argument, Reply, Request};
+use ash_lines::reply::{LineReply, write_line_reply};
+use ash_lines::sink::WriteFault;
+use ash_lines::writer::Writer;
+use ash_plain_steps::request::{Reply, Request};
 use ash_registry::Registry;
+use ash_states::state::HostReply;
+use ash_steps::Argument;
 use std::alloc::{AllocError, Global};
 use std::fmt::Debug;
 use std::test::Fail;
@@ -16,14 +21,38 @@ pub const SOURCE: &[u8] = b"int n = 2; int f(int k) { n += k; return n; }";
 /// The file of a host that has no module, nothing registered, and has answered no request.
 pub static EMPTY: [u8; 51] = [
     0x01, 0x41, 0x53, 0x48, 0x4f, 0x53, 0x54, 0x30, 0x31, 0x01, 0x00, 0x00, 0x00, 0x00, 0x00, 0x00,
-    0x00, 0x1d, 0x00, 0x00, 0x00, 0x01, 0x00, 0x00, 0x00, 0x00, 0x00, 0x00, 0x00, 0x00, 0x00, 0x00,
+    0x00, 0x1d, 0x00, 0x00, 0x00, 0x02, 0x00, 0x00, 0x00, 0x00, 0x00, 0x00, 0x00, 0x00, 0x00, 0x00,
     0x00, 0x00, 0x00, 0x00, 0x00, 0x00, 0x00, 0x00, 0x00, 0x00, 0x00, 0x00, 0x00, 0x00, 0x00, 0x00,
     0x00, 0x00, 0x00,
 ];
 
+/// How many ticks a request has.
+const BUDGET: u64 = 1000;
+
+/// The most bytes of a line that are buffered.
+const MAX_BUFFERED_BYTES: usize = 8192;
+
 /// A value, written out.
 pub fn shown<T: Debug>(alloc: Global, value: &T) -> Result<String, AllocError> {
     format!(in alloc; "{value:?}")
+}
+
+/// Writes what a host replies as a line.
+fn write_reply(
+    alloc: Global,
+    bytes: &mut Vec<u8>,
+    reply: HostReply,
+) -> Result<Result<(), WriteFault>, AllocError> {
+    let buffer = Vec::with_capacity(alloc, MAX_BUFFERED_BYTES)?;
+    let mut writer = Writer::new(bytes, buffer);
+    Ok(write_line_reply(&mut writer, &LineReply::Host(reply)))
+}
+
+/// What a host replies, as the line that is written of it, with its line feed.
+pub fn line_of(alloc: Global, reply: HostReply) -> Result<String, Fail> {
+    let mut bytes = Vec::new(alloc);
+    write_reply(alloc, &mut bytes, reply)??;
+    Ok(String::from_utf8(bytes)?)
 }
 
 pub fn disk(alloc: Global, bytes: &[u8]) -> Result<MemoryDisk, AllocError> {
@@ -86,54 +115,89 @@ pub fn closed<D: Disk>(host: Host<D>) -> (D, D) {
     host.close()
 }
 
+/// What a host replies to a request.
+pub fn reply_to<D: Disk>(host: &mut Host<D>, request: &Request) -> HostReply {
+    host.handle(request, BUDGET)
+}
+
+/// The same as a line.
+pub fn line_for<D: Disk>(
+    alloc: Global,
+    host: &mut Host<D>,
+    request: &Request,
+) -> Result<String, Fail> {
+    line_of(alloc, reply_to(host, request))
+}
+
+/// What a host replies to requests that are handled together, a line each.
+pub fn lines_for<D: Disk>(
+    alloc: Global,
+    host: &mut Host<D>,
+    requests: &[Request],
+) -> Result<String, Fail> {
+    let mut lines = String::new(alloc);
+    for reply in host.handle_all(alloc, requests, BUDGET)? {
+        lines.push_str(&line_of(alloc, reply)?)?;
+    }
+    Ok(lines)
+}
+
+/// Loads a source as a module of this name.
+pub fn load_as<D: Disk>(host: &mut Host<D>, module: &str, source: &[u8]) -> HostReply {
+    host.load(module, source, BUDGET)
+}
+
 /// Loads a source as the module `m`.
-pub fn load<D: Disk>(host: &mut Host<D>, source: &[u8]) -> Result<Answer, Refusal> {
-    host.load("m", source, 1000)
+pub fn load<D: Disk>(host: &mut Host<D>, source: &[u8]) -> HostReply {
+    load_as(host, "m", source)
 }
 
 /// Calls the function `f` of a module.
-pub fn call_in<D: Disk>(
-    host: &mut Host<D>,
-    module: &str,
-    arguments: &[Argument],
-) -> Result<Answer, Refusal> {
-    host.call(module, "f", arguments, 1000)
+pub fn call_in<D: Disk>(host: &mut Host<D>, module: &str, arguments: &[Argument]) -> HostReply {
+    host.call(module, "f", arguments, BUDGET)
 }
 
 /// Calls the function `f` of the module `m`.
-pub fn call<D: Disk>(host: &mut Host<D>, arguments: &[Argument]) -> Result<Answer, Refusal> {
+pub fn call<D: Disk>(host: &mut Host<D>, arguments: &[Argument]) -> HostReply {
     call_in(host, "m", arguments)
 }
 
 /// Calls it with a number.
-pub fn add<D: Disk>(host: &mut Host<D>, number: i128) -> Result<(), Refusal> {
-    match call(host, &[Argument::Number(number)]) {
-        Ok(_) => Ok(()),
-        Err(refusal) => Err(refusal),
-    }
+pub fn add<D: Disk>(host: &mut Host<D>, number: i128) -> HostReply {
+    call(host, &[Argument::Number(number)])
 }
 
-/// Takes the module `m` away.
-pub fn discard<D: Disk>(host: &mut Host<D>) -> Result<Answer, Refusal> {
-    host.discard("m")
+/// Removes a module.
+pub fn discard_of<D: Disk>(host: &mut Host<D>, module: &str) -> HostReply {
+    host.discard(module)
 }
 
-pub fn replies_to<D: Disk>(
-    alloc: Global,
-    host: &mut Host<D>,
-    requests: &[Request],
-) -> Result<Vec<Reply>, AllocError> {
-    host.handle_all(alloc, requests, 1000)
+/// Removes the module `m`.
+pub fn discard<D: Disk>(host: &mut Host<D>) -> HostReply {
+    discard_of(host, "m")
 }
 
 /// Writes the whole state into a new generation.
-pub fn snapshot<D: Disk>(host: &mut Host<D>) -> Result<(), Refusal> {
-    host.snapshot()
+pub fn snapshot<D: Disk>(host: &mut Host<D>) -> HostReply {
+    match host.snapshot() {
+        Ok(()) => Reply::Done,
+        Err(refusal) => Reply::Refused(refusal),
+    }
 }
 
-/// A global of the module `m`.
-pub fn global<D: Disk>(host: &Host<D>, name: &str) -> Result<Word, Refusal> {
-    host.global("m", name)
+/// What a global of a module holds.
+pub fn get<D: Disk>(host: &mut Host<D>, module: &str, name: &str) -> HostReply {
+    host.get(module, name)
+}
+
+/// What a global of the module `m` holds.
+pub fn global<D: Disk>(host: &mut Host<D>, name: &str) -> HostReply {
+    get(host, "m", name)
+}
+
+/// The object of a number.
+pub fn object<D: Disk>(host: &mut Host<D>, number: u64) -> HostReply {
+    host.object(number)
 }
 
 /// How many requests have been answered.
@@ -141,12 +205,25 @@ pub fn seq<D: Disk>(host: &Host<D>) -> u64 {
     host.seq()
 }
 
+/// Whether a host does what it was asked for.
+pub fn is_done(reply: &HostReply) -> bool {
+    !matches!(reply, Reply::Refused(_))
+}
+
+/// Ends a test whose request is refused, with the line of the reply.
+pub fn need(alloc: Global, reply: HostReply) -> Result<(), Fail> {
+    if is_done(&reply) {
+        return Ok(());
+    }
+    Err(Fail::new(line_of(alloc, reply)?))
+}
+
 /// What is looked at of a host's state: its number, and the global `n` of the module `m`, if there is one.
 pub type State = (u64, Option<i32>);
 
-pub fn state<D: Disk>(host: &Host<D>) -> State {
+pub fn state<D: Disk>(host: &mut Host<D>) -> State {
     match global(host, "n") {
-        Ok(Word::Int(number)) => (seq(host), Some(number)),
+        Reply::Value(Word::Int(number)) => (seq(host), Some(number)),
         _ => (seq(host), None),
     }
 }
@@ -166,14 +243,17 @@ pub fn found(alloc: Global, a: &[u8], b: &[u8]) -> Result<Result<u64, StoreFault
 /// The same for the host's state.
 pub fn found_state(alloc: Global, a: &[u8], b: &[u8]) -> Result<Result<State, StoreFault>, Fail> {
     let (a, b) = (disk(alloc, a)?, disk(alloc, b)?);
-    Ok(opened(alloc, a, b, Registry::new(alloc)).map(|host| state(&host)))
+    match opened(alloc, a, b, Registry::new(alloc)) {
+        Ok(mut host) => Ok(Ok(state(&mut host))),
+        Err(fault) => Ok(Err(fault)),
+    }
 }
 
 /// A host that has answered two requests, after which `n` is 7.
 pub fn used(alloc: Global) -> Result<Host<MemoryDisk>, Fail> {
     let mut host = made(alloc, &[], &[])?;
-    load(&mut host, SOURCE)?;
-    call(&mut host, &[Argument::Number(5)])?;
+    need(alloc, load(&mut host, SOURCE))?;
+    need(alloc, add(&mut host, 5))?;
     Ok(host)
 }
 
@@ -181,14 +261,14 @@ pub fn used(alloc: Global) -> Result<Host<MemoryDisk>, Fail> {
 pub fn with_modules(alloc: Global, names: &[&str]) -> Result<Host<MemoryDisk>, Fail> {
     let mut host = made(alloc, &[], &[])?;
     for name in names {
-        host.load(name, b"", 0)?;
+        need(alloc, load_as(&mut host, name, b""))?;
     }
     Ok(host)
 }
 
 /// The disk of the second generation, which holds the state of a host with a new store, and no record.
-pub fn second_generation(mut host: Host<MemoryDisk>) -> Result<MemoryDisk, Fail> {
-    snapshot(&mut host)?;
+pub fn second_generation(alloc: Global, mut host: Host<MemoryDisk>) -> Result<MemoryDisk, Fail> {
+    need(alloc, snapshot(&mut host))?;
     let (_, second) = closed(host);
     Ok(second)
 }

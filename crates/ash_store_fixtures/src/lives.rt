@@ -1,16 +1,16 @@
 //! Lives of a store as data: what is asked of a host from the making or the opening of its store until it is closed,
 //! and the files by hand that it then leaves. What is answered is written out, so that a test compares a text.
 
-use crate::files::{Module, add_record, generation, image};
+use crate::files::{Module, add_record, generation, image_in};
 use crate::hosts::{
-    EMPTY, SOURCE, State, call, call_in, closed, created, discard, disk, fuse, global, inner, load,
-    opened, reopened, seq, shown, snapshot, state,
+    EMPTY, SOURCE, State, add, call_in, closed, created, discard, discard_of, disk, fuse, get,
+    global, inner, line_of, load, load_as, object, opened, reopened, seq, shown, snapshot, state,
 };
 use ash_disk::{Disk, MemoryDisk};
 use ash_durable::{Host, StoreFault};
-use ash_meaning::request::Argument;
 use ash_registry::Registry;
 use std::alloc::{AllocError, Global};
+use std::fmt::Debug;
 use std::test::Fail;
 
 /// What is asked of a host.
@@ -32,33 +32,45 @@ pub enum Step {
     Seq,
     /// That number, and what the global `n` of `m` holds.
     State,
+    /// A module is loaded from a source.
+    LoadAs(&'static str, &'static [u8]),
+    /// A module is removed.
+    DiscardOf(&'static str),
+    /// A global of a module is read.
+    Get(&'static str, &'static str),
+    /// The object of a number is looked at.
+    Object(u64),
 }
 
-/// Takes a step, and writes out what is answered.
-fn answer<D: Disk>(alloc: Global, host: &mut Host<D>, step: Step) -> Result<String, AllocError> {
+/// A value, written out as a line.
+fn line<T: Debug>(alloc: Global, value: &T) -> Result<String, Fail> {
+    Ok(format!(in alloc; "{value:?}\n")?)
+}
+
+/// Takes a step, and writes out what is answered, as a line.
+fn answer<D: Disk>(alloc: Global, host: &mut Host<D>, step: Step) -> Result<String, Fail> {
     match step {
-        Step::Load => shown(alloc, &load(host, SOURCE)),
-        Step::Call(number) => shown(alloc, &call(host, &[Argument::Number(number)])),
-        Step::CallIn(module) => shown(alloc, &call_in(host, module, &[])),
-        Step::Discard => shown(alloc, &discard(host)),
-        Step::Snapshot => shown(alloc, &snapshot(host)),
-        Step::Global(name) => shown(alloc, &global(host, name)),
-        Step::Seq => shown(alloc, &seq(host)),
-        Step::State => shown(alloc, &state(host)),
+        Step::Load => line_of(alloc, load(host, SOURCE)),
+        Step::Call(number) => line_of(alloc, add(host, number)),
+        Step::CallIn(module) => line_of(alloc, call_in(host, module, &[])),
+        Step::Discard => line_of(alloc, discard(host)),
+        Step::Snapshot => line_of(alloc, snapshot(host)),
+        Step::Global(name) => line_of(alloc, global(host, name)),
+        Step::Seq => line(alloc, &seq(host)),
+        Step::State => line(alloc, &state(host)),
+        Step::LoadAs(module, source) => line_of(alloc, load_as(host, module, source)),
+        Step::DiscardOf(module) => line_of(alloc, discard_of(host, module)),
+        Step::Get(module, name) => line_of(alloc, get(host, module, name)),
+        Step::Object(number) => line_of(alloc, object(host, number)),
     }
 }
 
-/// What is answered to each step, with a line feed after each.
-pub fn answers<D: Disk>(
-    alloc: Global,
-    host: &mut Host<D>,
-    steps: &[Step],
-) -> Result<String, AllocError> {
+/// What is answered to each step, a line each.
+pub fn answers<D: Disk>(alloc: Global, host: &mut Host<D>, steps: &[Step]) -> Result<String, Fail> {
     let mut all = String::new(alloc);
     for step in steps {
         let answer = answer(alloc, host, *step)?;
         all.push_str(answer.as_str())?;
-        all.push_str("\n")?;
     }
     Ok(all)
 }
@@ -73,13 +85,15 @@ pub enum File {
     /// The generation of a number: the state in its image, the states in its records, and what is left after them of
     /// what was longer.
     Written(u64, State, &'static [State], &'static [u8]),
+    /// The generation of a number in version 1: the state in its image, and the states in its records.
+    Older(u64, State, &'static [State]),
     /// The generation of a number with a state in its image, over the first one, which had an empty image and these
     /// states in its records, and was longer.
     Over(u64, State, &'static [State]),
 }
 
-/// The image of a host in a state, whose module has the source that steps load.
-pub fn image_of(alloc: Global, state: State) -> Result<Vec<u8>, AllocError> {
+/// The image of a host in a state, in a version. Its module has the source that steps load.
+pub fn image_of(alloc: Global, version: u8, state: State) -> Result<Vec<u8>, AllocError> {
     let (seq, global) = state;
     let module = Module {
         name: "m",
@@ -87,21 +101,23 @@ pub fn image_of(alloc: Global, state: State) -> Result<Vec<u8>, AllocError> {
         global,
     };
     match global {
-        Some(_) => image(alloc, seq, &[module]),
-        None => image(alloc, seq, &[]),
+        Some(_) => image_in(alloc, version, seq, &[module]),
+        None => image_in(alloc, version, seq, &[]),
     }
 }
 
+/// The generation of a number, in a version.
 fn written(
     alloc: Global,
+    version: u8,
     number: u64,
     first: State,
     records: &[State],
 ) -> Result<Vec<u8>, AllocError> {
-    let image = image_of(alloc, first)?;
+    let image = image_of(alloc, version, first)?;
     let mut file = generation(alloc, number, image.as_slice())?;
     for state in records {
-        let image = image_of(alloc, *state)?;
+        let image = image_of(alloc, version, *state)?;
         add_record(&mut file, image.as_slice())?;
     }
     Ok(file)
@@ -113,13 +129,14 @@ pub fn bytes_of(alloc: Global, file: File) -> Result<Vec<u8>, AllocError> {
         File::Bytes(bytes) => Vec::from_slice(alloc, bytes),
         File::Empty => Vec::from_slice(alloc, &EMPTY),
         File::Written(number, first, records, rest) => {
-            let mut file = written(alloc, number, first, records)?;
+            let mut file = written(alloc, 2, number, first, records)?;
             file.extend_from_slice(rest)?;
             Ok(file)
         }
+        File::Older(number, first, records) => written(alloc, 1, number, first, records),
         File::Over(number, state, records) => {
-            let old = written(alloc, 1, (0, None), records)?;
-            let mut file = written(alloc, number, state, &[])?;
+            let old = written(alloc, 2, 1, (0, None), records)?;
+            let mut file = written(alloc, 2, number, state, &[])?;
             let rest = old.as_slice().get(file.len()..).unwrap_or_default();
             file.extend_from_slice(rest)?;
             Ok(file)
@@ -195,10 +212,10 @@ pub fn found_answers(
     a: MemoryDisk,
     b: MemoryDisk,
     steps: &[Step],
-) -> Result<String, AllocError> {
+) -> Result<String, Fail> {
     match opened(alloc, a, b, Registry::new(alloc)) {
         Ok(mut host) => answers(alloc, &mut host, steps),
-        Err(fault) => shown(alloc, &fault),
+        Err(fault) => Ok(shown(alloc, &fault)?),
     }
 }
 

@@ -122,7 +122,7 @@ fn a_file_cut_short(rt: HostRuntime) -> Result<(), Fail> {
 }
 
 /// A file with another byte at a place.
-fn changed(alloc: Global, file: &[u8], place: usize, byte: u8) -> Result<Vec<u8>, AllocError> {
+pub fn changed(alloc: Global, file: &[u8], place: usize, byte: u8) -> Result<Vec<u8>, AllocError> {
     let mut file = Vec::from_slice(alloc, file)?;
     if let Some(old) = file.get_mut(place) {
         *old = byte;
@@ -144,21 +144,25 @@ fn wanted_of_loaded(place: usize, byte: u8) -> Found {
     match place {
         // The gate of the file.
         0 => Err(StoreFault::NoGeneration),
-        // The generation, which no other file is open beside, and the number in the image, before that in the record.
-        9..=16 | 27..=34 => Ok(1),
+        // The generation, which no other file is open beside, and what is in the image before the state in the record:
+        // the version, the number, and the last number of an object.
+        9..=16 | 27..=42 => Ok(1),
+        21 if byte == 1 => Ok(1),
         // The length of the image. Two lengths lead to a byte 1 of the record, at 80 and 81, as the gate of a record
         // that is cut; from the others none is found, or a whole one after an image of another length.
         17 if byte == 59 => Err(StoreFault::Damaged(80)),
         17 if byte == 60 => Err(StoreFault::Damaged(81)),
         // What the file is known by, and the rest of the image.
-        1..=8 | 17..=26 | 35..=49 => DAMAGED,
+        1..=8 | 17..=26 | 43..=49 => DAMAGED,
         // The gate before the record, which then counts no more.
         50 => Ok(0),
         // The length of the body, of which the same is to be said.
         51 if byte == 25 => Err(StoreFault::Damaged(80)),
         51 if byte == 26 => Err(StoreFault::Damaged(81)),
-        // The number in the record.
+        // In the record the version, the number, and the last number of an object.
+        56 if byte == 1 => Ok(1),
         62..=69 => Ok(number_with(place.wrapping_sub(62), byte)),
+        70..=77 => Ok(1),
         // The module's name, of one byte.
         82 if byte == b'_' || byte.is_ascii_alphabetic() => Ok(1),
         // The next gate, after which a record would be cut.
@@ -196,7 +200,7 @@ fn each_byte_changed(rt: HostRuntime) -> Result<(), Fail> {
 type Changed = (usize, u8, Found);
 
 // A store whose state is all in its image, with a module of 45 bytes of source and one global.
-static CHANGED: [Changed; 21] = [
+static CHANGED: [Changed; 24] = [
     // The gate.
     (0, 0, Err(StoreFault::NoGeneration)),
     (0, 2, Err(StoreFault::NoGeneration)),
@@ -205,9 +209,12 @@ static CHANGED: [Changed; 21] = [
     (9, 0, Ok(2)),
     (16, 0xff, Ok(2)),
     (17, 0x1e, DAMAGED),
-    (21, 2, DAMAGED),
-    // How many requests have been answered.
+    (21, 0, DAMAGED),
+    (21, 1, Ok(2)),
+    (21, 3, DAMAGED),
+    // How many requests have been answered, and the last number of an object.
     (27, 9, Ok(9)),
+    (35, 9, Ok(2)),
     // How many modules there are, the name's length, and the name.
     (45, 0, DAMAGED),
     (45, 2, DAMAGED),

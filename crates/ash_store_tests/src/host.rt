@@ -3,11 +3,13 @@
 use crate::checks::{Life, check, check_life, check_text};
 use ash_disk::MemoryDisk;
 use ash_durable::Host;
-use ash_meaning::refusal::Refusal;
-use ash_meaning::request::{Argument, Reply, Request};
-use ash_store_fixtures::hosts::{SOURCE, call, load, made, seq, shown};
+use ash_plain_steps::request::Request;
+use ash_steps::Argument;
+use ash_store_fixtures::hosts::{
+    SOURCE, call, line_for, line_of, lines_for, load, made, need, seq, shown,
+};
 use ash_store_fixtures::lives::{File, Run, Start, Step};
-use std::alloc::{AllocError, Global};
+use std::alloc::Global;
 use std::process::Abort;
 use std::test::Fail;
 
@@ -32,10 +34,8 @@ static EACH_CALL: Life = (
             Step::Discard,
             Step::Seq,
         ],
-        answers: "0\nOk(Answer { outcome: Finished(None), seq: 1 })\n\
-            Ok(Answer { outcome: Finished(Some(Int(7))), seq: 2 })\nOk(Int(7))\nErr(NoGlobal)\n2\n\
-            Ok(())\nOk(Int(7))\nErr(NoGlobal)\n2\n\
-            Ok(Answer { outcome: Finished(None), seq: 3 })\nErr(NoModule)\n3\n",
+        answers: "0\nok seq 1\nok 7 seq 2\nok 7\nrefused 406 NoGlobal\n2\n\
+            ok\nok 7\nrefused 406 NoGlobal\n2\nok seq 3\nrefused 401 NoModule\n3\n",
         is_reopened: false,
         first: File::Written(1, (0, None), &[(1, Some(2)), (2, Some(7))], &[]),
         second: File::Written(2, (2, Some(7)), &[(3, None)], &[]),
@@ -48,9 +48,9 @@ fn each_call(rt: HostRuntime) -> Result<(), Fail> {
     check_life(&rt, rt.alloc(), &EACH_CALL)
 }
 
-static REQUESTS: [Request; 7] = [
+static REQUESTS: [Request; 9] = [
     Request::Load {
-        name: "m",
+        module: "m",
         source: SOURCE,
     },
     Request::Call {
@@ -58,51 +58,31 @@ static REQUESTS: [Request; 7] = [
         function: "f",
         arguments: &[Argument::Number(-2)],
     },
-    Request::Global {
+    Request::Get {
         module: "m",
         name: "n",
     },
+    Request::Object { number: 1 },
     Request::Snapshot,
-    Request::Discard { name: "m" },
-    Request::Discard { name: "m" },
+    Request::Discard { module: "m" },
+    Request::Discard { module: "m" },
     Request::Seq,
+    Request::Get {
+        module: "m",
+        name: "n",
+    },
 ];
 
-/// The reply to a request, written out.
-fn replied(
-    alloc: Global,
-    host: &mut Host<MemoryDisk>,
-    request: Request,
-) -> Result<String, AllocError> {
-    shown(alloc, &handle(host, request))
-}
-
-fn handle(host: &mut Host<MemoryDisk>, request: Request) -> Reply {
-    host.handle(&request, 1000)
-}
-
-/// The replies to requests that are handled together, written out.
-fn all_replied(
-    alloc: Global,
-    host: &mut Host<MemoryDisk>,
-    requests: &[Request],
-) -> Result<String, AllocError> {
-    let replies = host.handle_all(alloc, requests, 1000)?;
-    shown(alloc, &replies)
-}
-
-const FIRST_REPLY: &str = "Answer(Answer { outcome: Finished(None), seq: 1 })";
-
 const REPLIES: &str =
-    "[Refused(ModuleTaken), Answer(Answer { outcome: Finished(Some(Int(0))), seq: 2 }), Value(Int(0)), Done, \
-    Answer(Answer { outcome: Finished(None), seq: 3 }), Refused(NoModule), Seq(3)]";
+    "refused 402 ModuleTaken\nok 0 seq 2\nok 0\nrefused 407 NoObject\nok\nok seq 3\n\
+    refused 401 NoModule\nok 3\nrefused 401 NoModule\n";
 
 #[test]
 fn each_request(rt: HostRuntime) -> Result<(), Fail> {
     let mut host = made(rt.alloc(), &[], &[])?;
-    let found = replied(rt.alloc(), &mut host, REQUESTS[0])?;
-    check_text(&rt, found.as_str(), FIRST_REPLY, "the first request");
-    let found = all_replied(rt.alloc(), &mut host, &REQUESTS)?;
+    let found = line_for(rt.alloc(), &mut host, &REQUESTS[0])?;
+    check_text(&rt, found.as_str(), "ok seq 1\n", "the first request");
+    let found = lines_for(rt.alloc(), &mut host, &REQUESTS)?;
     check_text(&rt, found.as_str(), REPLIES, "all requests");
     Ok(())
 }
@@ -120,16 +100,21 @@ fn check_refused(
     host: &mut Host<MemoryDisk>,
     argument: Argument,
 ) -> Result<(), Fail> {
-    let found = call(host, &[argument]).err();
+    let found = line_of(alloc, call(host, &[argument]))?;
     let what = shown(alloc, &argument)?;
-    check(rt, &found, &Some(Refusal::BadArguments), what.as_str());
+    check_text(
+        rt,
+        found.as_str(),
+        "refused 405 BadArguments\n",
+        what.as_str(),
+    );
     Ok(())
 }
 
 /// A host that has loaded a module.
 fn loaded(alloc: Global) -> Result<Host<MemoryDisk>, Fail> {
     let mut host = made(alloc, &[], &[])?;
-    load(&mut host, SOURCE)?;
+    need(alloc, load(&mut host, SOURCE))?;
     Ok(host)
 }
 
@@ -159,7 +144,7 @@ static SPENT: Life = (
             Step::Global("n"),
             Step::Seq,
         ],
-        answers: "Err(SequenceSpent)\nErr(SequenceSpent)\nErr(SequenceSpent)\nOk(())\nOk(Int(7))\n\
+        answers: "refused 410 SequenceSpent\nrefused 410 SequenceSpent\nrefused 410 SequenceSpent\nok\nok 7\n\
             18446744073709551615\n",
         is_reopened: false,
         first: File::Written(2, (u64::MAX, Some(7)), &[], &[]),

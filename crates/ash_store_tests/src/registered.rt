@@ -5,7 +5,7 @@ use ash_disk::MemoryDisk;
 use ash_durable::{Host, StoreFault};
 use ash_registry::{Registry, RegistryFault};
 use ash_store_fixtures::hosts::{
-    closed, created, discard, disk, load, opened, second_generation, snapshot,
+    closed, created, discard, disk, load, need, opened, second_generation, snapshot,
 };
 use std::alloc::{AllocError, Global};
 use std::process::Abort;
@@ -40,7 +40,7 @@ const SOURCE: &[u8] = b"int Tale = 2;";
 fn loaded(alloc: Global) -> Result<Host<MemoryDisk>, Fail> {
     let (a, b) = (MemoryDisk::new(alloc), MemoryDisk::new(alloc));
     let mut host = created(alloc, a, b, one_type(alloc, "Tall")?)?;
-    load(&mut host, SOURCE)?;
+    need(alloc, load(&mut host, SOURCE))?;
     Ok(host)
 }
 
@@ -56,14 +56,14 @@ enum Place {
 fn stored(alloc: Global, place: Place) -> Result<MemoryDisk, Fail> {
     let mut host = loaded(alloc)?;
     match place {
-        Place::Image => second_generation(host),
+        Place::Image => second_generation(alloc, host),
         Place::Record => {
             let (first, _) = closed(host);
             Ok(first)
         }
         Place::ImageBeforeRecord => {
-            snapshot(&mut host)?;
-            discard(&mut host)?;
+            need(alloc, snapshot(&mut host))?;
+            need(alloc, discard(&mut host))?;
             let (_, second) = closed(host);
             Ok(second)
         }
@@ -355,7 +355,7 @@ fn shapes_come_first(rt: HostRuntime) -> Result<(), Fail> {
 fn after_a_discard(alloc: Global, first: &[u8]) -> Result<MemoryDisk, Fail> {
     let (a, b) = (disk(alloc, first)?, disk(alloc, &[0])?);
     let mut host = opened(alloc, a, b, one_type(alloc, "Tall")?)?;
-    discard(&mut host)?;
+    need(alloc, discard(&mut host))?;
     let (first, _) = closed(host);
     Ok(first)
 }

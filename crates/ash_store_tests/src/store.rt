@@ -91,8 +91,7 @@ static LIVES: [Life; 6] = [
                 what: "two requests, and a second load",
                 start: Start::Make,
                 steps: &[Step::Load, Step::Call(5), Step::Global("n"), Step::Load],
-                answers: "Ok(Answer { outcome: Finished(None), seq: 1 })\n\
-                    Ok(Answer { outcome: Finished(Some(Int(7))), seq: 2 })\nOk(Int(7))\nErr(ModuleTaken)\n",
+                answers: "ok seq 1\nok 7 seq 2\nok 7\nrefused 402 ModuleTaken\n",
                 is_reopened: false,
                 first: File::Written(1, (0, None), &[(1, Some(2)), (2, Some(7))], &[]),
                 second: File::Bytes(&[0]),
@@ -120,7 +119,7 @@ static LIVES: [Life; 6] = [
                 what: "a store in one image",
                 start: Start::Open,
                 steps: &[Step::State, Step::Call(1)],
-                answers: "(2, Some(7))\nOk(Answer { outcome: Finished(Some(Int(8))), seq: 3 })\n",
+                answers: "(2, Some(7))\nok 8 seq 3\n",
                 is_reopened: false,
                 first: File::Written(1, (2, Some(7)), &[(3, Some(8))], &[]),
                 second: File::Bytes(&[0]),
@@ -151,9 +150,9 @@ fn stores_with_their_bytes_and_device_calls(rt: HostRuntime) -> Result<(), Fail>
 /// and the next gate.
 static LOADED: [u8; 94] = [
     0x01, 0x41, 0x53, 0x48, 0x4f, 0x53, 0x54, 0x30, 0x31, 0x01, 0x00, 0x00, 0x00, 0x00, 0x00, 0x00,
-    0x00, 0x1d, 0x00, 0x00, 0x00, 0x01, 0x00, 0x00, 0x00, 0x00, 0x00, 0x00, 0x00, 0x00, 0x00, 0x00,
+    0x00, 0x1d, 0x00, 0x00, 0x00, 0x02, 0x00, 0x00, 0x00, 0x00, 0x00, 0x00, 0x00, 0x00, 0x00, 0x00,
     0x00, 0x00, 0x00, 0x00, 0x00, 0x00, 0x00, 0x00, 0x00, 0x00, 0x00, 0x00, 0x00, 0x00, 0x00, 0x00,
-    0x00, 0x00, 0x01, 0x26, 0x00, 0x00, 0x00, 0x01, 0x01, 0x00, 0x00, 0x00, 0x00, 0x00, 0x01, 0x00,
+    0x00, 0x00, 0x01, 0x26, 0x00, 0x00, 0x00, 0x01, 0x02, 0x00, 0x00, 0x00, 0x00, 0x00, 0x01, 0x00,
     0x00, 0x00, 0x00, 0x00, 0x00, 0x00, 0x00, 0x00, 0x00, 0x00, 0x00, 0x00, 0x00, 0x00, 0x00, 0x00,
     0x01, 0x01, 0x6d, 0x00, 0x00, 0x00, 0x00, 0x00, 0x00, 0x00, 0x00, 0x00, 0x00, 0x00,
 ];
@@ -189,26 +188,31 @@ static SURVIVES: [Survives; 5] = [
     Survives::Part(3),
 ];
 
-/// What a store answers that is opened where a crash leaves such parts of two disks: its number, and its global `n`.
+/// What is asked of a store that is opened again, and what is answered.
+pub type Look = (&'static [Step], &'static str);
+
+/// What a store answers that is opened where a crash leaves such parts of two disks.
 fn found_after_crash(
     alloc: Global,
     disks: &(MemoryDisk, MemoryDisk),
     survives: Survives,
+    looks: &[Step],
 ) -> Result<String, Fail> {
     let a = crashed(alloc, &disks.0, survives)?;
     let b = crashed(alloc, &disks.1, survives)?;
-    Ok(found_answers(alloc, a, b, &[Step::Seq, Step::Global("n")])?)
+    found_answers(alloc, a, b, looks)
 }
 
 /// Compares what is found after each crash between two requests.
-fn check_survives(
+pub fn check_survives(
     rt: &impl Abort,
     alloc: Global,
     disks: &(MemoryDisk, MemoryDisk),
-    wanted: &str,
+    look: Look,
 ) -> Result<(), Fail> {
+    let (looks, wanted) = look;
     for survives in &SURVIVES {
-        let found = found_after_crash(alloc, disks, *survives)?;
+        let found = found_after_crash(alloc, disks, *survives, looks)?;
         let what = format!(in alloc; "after a crash that {survives:?} survives")?;
         check_text(rt, found.as_str(), wanted, what.as_str());
     }
@@ -228,62 +232,64 @@ static CRASHES: [(Run, &str); 4] = [
             second: File::Bytes(&[0]),
             calls: (6, 2),
         },
-        "0\nErr(NoModule)\n",
+        "0\nrefused 401 NoModule\n",
     ),
     (
         Run {
             what: "a load",
             start: Start::Open,
             steps: &[Step::Load],
-            answers: "Ok(Answer { outcome: Finished(None), seq: 1 })\n",
+            answers: "ok seq 1\n",
             is_reopened: false,
             first: File::Written(1, (0, None), &[(1, Some(2))], &[]),
             second: File::Bytes(&[0]),
             calls: (6 + 1 + 4, 2 + 1),
         },
-        "1\nOk(Int(2))\n",
+        "1\nok 2\n",
     ),
     (
         Run {
             what: "a call",
             start: Start::Open,
             steps: &[Step::Call(-9)],
-            answers: "Ok(Answer { outcome: Finished(Some(Int(-7))), seq: 2 })\n",
+            answers: "ok -7 seq 2\n",
             is_reopened: true,
             first: File::Written(1, (0, None), &[(1, Some(2)), (2, Some(-7))], &[]),
             second: File::Bytes(&[0]),
             calls: (11 + 1 + 4 + 1, 3 + 1 + 1),
         },
-        "2\nOk(Int(-7))\n",
+        "2\nok -7\n",
     ),
     (
         Run {
             what: "a discard",
             start: Start::Open,
             steps: &[Step::Discard],
-            answers: "Ok(Answer { outcome: Finished(None), seq: 3 })\n",
+            answers: "ok seq 3\n",
             is_reopened: false,
             first: File::Written(1, (0, None), &[(1, Some(2)), (2, Some(-7)), (3, None)], &[]),
             second: File::Bytes(&[0]),
             calls: (17 + 1 + 4, 5 + 1),
         },
-        "3\nErr(NoModule)\n",
+        "3\nrefused 401 NoModule\n",
     ),
 ];
+
+const LOOKS: &[Step] = &[Step::Seq, Step::Global("n")];
 
 #[test]
 fn crashes_between_requests(rt: HostRuntime) -> Result<(), Fail> {
     let mut disks = disks_of(rt.alloc(), File::Bytes(&[]), File::Bytes(&[1]))?;
     for (run, wanted) in &CRASHES {
         disks = check_run(&rt, rt.alloc(), disks, run)?;
-        check_survives(&rt, rt.alloc(), &disks, wanted)?;
+        check_survives(&rt, rt.alloc(), &disks, (LOOKS, *wanted))?;
     }
     Ok(())
 }
 
 /// The file of a generation that holds these modules, loaded in this order, and no records.
 pub fn file_with(alloc: Global, names: &[&str]) -> Result<Vec<u8>, Fail> {
-    let second = second_generation(with_modules(alloc, names)?)?;
+    let second = second_generation(alloc, with_modules(alloc, names)?)?;
     Ok(Vec::from_slice(alloc, second.bytes())?)
 }
 

@@ -23,3 +23,4 @@ pub mod FaultMeaning
 pub mod Offered
 pub mod Soundness
 pub mod Nesting
+pub mod RuleCodes

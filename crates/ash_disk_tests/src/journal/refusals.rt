@@ -72,10 +72,32 @@ fn a_file_that_is_open_is_not_created_over(rt: HostRuntime) -> Result<(), Fail> 
 
 const FAULTS: &str =
     "507 DeviceFailed, 509 NoMemory, 507 DeviceFailed, 511 GenerationSpent, 509 NoMemory, \
-    501 NoGeneration, 503 Damaged 50, 502 AlreadyThere";
+    501 NoGeneration, 503 Damaged, 502 AlreadyThere";
 
 #[test]
-fn faults_are_written_with_their_numbers(rt: HostRuntime) -> Result<(), Fail> {
+fn faults_have_numbers_and_names(rt: HostRuntime) -> Result<(), Fail> {
+    let text = format!(in rt.alloc();
+        "{}, {}, {}, {}, {}, {}, {}, {}",
+        DeviceFailed.code(),
+        AppendError::NoMemory.code(),
+        AppendError::DeviceFailed.code(),
+        InstallError::GenerationSpent.code(),
+        InstallError::NoMemory.code(),
+        OpenFault::NoGeneration.code(),
+        OpenFault::Damaged(50).code(),
+        CreateFault::AlreadyThere.code()
+    )?;
+    assert_eq!(rt; text.as_str(), FAULTS);
+    Ok(())
+}
+
+const SENTENCES: &str =
+    "a device failed, memory was refused, a device failed, the generation is the last that a number can have, \
+    memory was refused, no file of the journal is open, the file is damaged at byte 50, \
+    a file of the journal is open already";
+
+#[test]
+fn faults_are_sentences(rt: HostRuntime) -> Result<(), Fail> {
     let text = format!(in rt.alloc();
         "{DeviceFailed}, {}, {}, {}, {}, {}, {}, {}",
         AppendError::NoMemory,
@@ -86,6 +108,6 @@ fn faults_are_written_with_their_numbers(rt: HostRuntime) -> Result<(), Fail> {
         OpenFault::Damaged(50),
         CreateFault::AlreadyThere
     )?;
-    assert_eq!(rt; text.as_str(), FAULTS);
+    assert_eq!(rt; text.as_str(), SENTENCES);
     Ok(())
 }

@@ -15,8 +15,8 @@ use ash_lines::reply::{write_fault_line, write_line};
 use ash_lines::sink::Sink;
 use ash_lines::source::Source;
 use ash_lines::writer::Writer;
-use ash_meaning::fault::{SourceError, SourceFault};
 use ash_registry::Registry;
+use ash_sources::fault::{SourceError, SourceFault};
 use std::alloc::Global;
 use std::io::{Read, Write};
 

@@ -19,10 +19,10 @@ pub enum Fault {
     #[error("509 NoMemory")]
     NoMemory,
     /// What the program offers to scripts was not registered.
-    #[error("{0}")]
+    #[error("{}", .0.code())]
     Registry(RegistryFault),
     /// The store was not made or not opened. Its files are part of it.
-    #[error("{0}")]
+    #[error("{}", .0.code())]
     Store(StoreFault),
     /// The run ended by a fault.
     #[error("{0}")]

@@ -1,12 +1,13 @@
-use Rattle.std.proofs.Common.{◌+◌, ◌∙◌, ℕ, List, Ok, drop, sym, subst}
+use Rattle.std.proofs.Common.{rules, ◌≡◌, ◌+◌, ◌∙◌, ℕ, List, Ok, Err, drop, sym, subst}
 use Rattle.std.specs.List.{AllByRecursion}
 use Rattle.ash_journal.specs.declared.record.Record.{Record}
 use Rattle.ash_journal.specs.Reading.{bodies_of}
 use Rattle.ash_registry.specs.Registrations.{Registration}
+use Rattle.ash_registry.specs.Registered.{registered}
 use Rattle.ash_registry.specs.Text.{text_of}
 use Rattle.ash_states.specs.Images.{IsBodyOf}
 use Rattle.ash_durable.specs.Contents.{IsBodyWith, LeadsOn, LeadsThrough}
-use Rattle.ash_durable.proofs.Reading.{left_from, through_more}
+use Rattle.ash_durable.proofs.Reading.{left_from, through_more, through_none}
 use Rattle.ash_durable.proofs.contents.last_state.Goals as goal
 
 pub loop-record-preserved : goal.loop-record-preserved
@@ -29,3 +30,19 @@ loop-record-preserved c =
           c.loop-record.invariant.leads result (subst (λ (l : List Record). LeadsThrough before l result) (sym left)
           (through_more before next r later result on through));
     }
+
+pub returns-in_err-state : goal.returns-in_err-state
+returns-in_err-state c =
+    let r = c.record-item.result in
+    let before = c.loop-record.state in
+    let later = drop (c.loop-record.record-index + 1) c.args.records.now in
+    let left = left_from c.args.records.now c.loop-record.record-index r c.loop-record-test.true c.record-item.is in
+    let fault = c.in_err-state.field-0.0 in
+    let reported : c.from_residual.result ≡ Err fault = search rules in
+    let on : LeadsOn before.registered r.body.items r.gate (Err fault) =
+    subst (λ (of : List Registration). LeadsOn of r.body.items r.gate (Err fault)) c.into_registry.ensures.same
+    (subst (λ (body : List ℕ). LeadsOn (registered c.into_registry.result) body r.gate (Err fault))
+    c.deref.ensures.value c.in_err-state.ensures) in
+    rw reported (c.loop-record.invariant.leads (Err fault)
+    (subst (λ (l : List Record). LeadsThrough before l (Err fault)) (sym left)
+    (through_none before r later fault on)))

@@ -1,6 +1,6 @@
 use Rattle.std.proofs.Common.{◌∷◌, []}
 use Rattle.std.proofs.lemmas.Result.{err_from_is_err_and}
-use Rattle.ash_meaning.specs.SourceFaults.{fault_of}
+use Rattle.ash_sources.specs.SourceFaults.{fault_of}
 use Rattle.ash_lines.specs.RefusalTexts.{fault_text}
 use Rattle.ash_lines.proofs.SinkLemmas.{fails-more, writes_line-then}
 use Rattle.ash_lines.proofs.reply.write_fault_line.Goals as goal

@@ -9,7 +9,7 @@ use Rattle.ash_steps.specs.States.{LoadedModule}
 use Rattle.ash_plain_steps.specs.declared.state.LoadedModule as code_module
 use Rattle.ash_plain_steps.specs.declared.state.PlainState.{PlainState}
 use Rattle.ash_plain_steps.specs.StateViews.{modules_seen, state_seen}
-use Rattle.ash_meaning.specs.Sources.{SourceRules, embedding_of}
+use Rattle.ash_sources.specs.Sources.{SourceRules, embedding_of}
 use Rattle.ash_admission.specs.Admission.{OffersNothing, IsWellTyped}
 use Rattle.ash_state_image.specs.Snapshots.{Snapshot}
 use Rattle.ash_state_image.specs.ObjectViews.{service_of}

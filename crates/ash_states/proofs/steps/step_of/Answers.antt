@@ -2,7 +2,7 @@ use Rattle.std.proofs.Common.{rules, sym, subst}
 use Rattle.ash_registry.specs.Registered.{registered}
 use Rattle.ash_plain_steps.specs.Consistency.{AreConsistent}
 use Rattle.ash_plain_steps.specs.RequestViews.{request_seen}
-use Rattle.ash_meaning.specs.Sources.{SourceRules, rules_of, embedding_of}
+use Rattle.ash_sources.specs.Sources.{SourceRules, rules_of, embedding_of}
 use Rattle.ash_states.proofs.Taken.{step_by}
 use Rattle.ash_states.proofs.steps.step_of.Goals as goal
 

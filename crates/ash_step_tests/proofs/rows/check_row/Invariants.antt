@@ -1,4 +1,4 @@
-use Rattle.ash_meaning.specs.Sources.{rules_of, embedding_of}
+use Rattle.ash_sources.specs.Sources.{rules_of, embedding_of}
 use Rattle.ash_plain_steps.specs.Consistency.{AreConsistent}
 use Rattle.ash_step_tests.proofs.rows.check_row.Given as goal
 

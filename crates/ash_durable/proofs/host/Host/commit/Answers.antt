@@ -1,4 +1,4 @@
-use Rattle.std.proofs.Common.{rules, ◌≡◌, Some, IsSome, Ok, Err, sym, subst}
+use Rattle.std.proofs.Common.{Some, IsSome, Ok, Err, sym, subst}
 use Rattle.ash_durable.specs.Hosting.{Hosted, state_unless}
 use Rattle.ash_durable.specs.Requests.{Commits}
 use Rattle.ash_durable.proofs.HandledRequests.{seen_host}
@@ -20,11 +20,7 @@ returns-in-Err g c =
     let device = g.D.Disk in
     let runs : IsSome (state_unless c.self.inside.stopped c.self.inside.state) =
     subst (λ (host : Hosted g.row.D.Denot). IsSome host.state) (sym c.self.view_is) c.requires.running in
-    let same : seen_host (Some c.args.last) c.self.inside.state c.add_state.new.journal ≡ c.match-add_state.self =
-    search rules in
-    subst (λ (host : Hosted g.row.D.Denot). Commits device c.args.last c.args.self.now
-    (Err c.in-Err.refusal) host) same
-    (subst (λ (host : Hosted g.row.D.Denot). Commits device c.args.last host (Err c.in-Err.refusal)
+    subst (λ (host : Hosted g.row.D.Denot). Commits device c.args.last host (Err c.in-Err.refusal)
     (seen_host (Some c.args.last) c.self.inside.state c.add_state.new.journal)) c.self.view_is
     (commit_err device c.args.last c.self.inside.stopped c.self.inside.state c.in-Err.refusal
-    c.self.inside.journal c.add_state.new.journal runs c.in-Err.ensures))
+    c.self.inside.journal c.add_state.new.journal runs c.in-Err.ensures)

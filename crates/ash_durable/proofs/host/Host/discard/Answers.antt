@@ -1,7 +1,7 @@
 use Rattle.std.proofs.Common.{rules}
 use Rattle.ash_steps.specs.Requests.{Discard}
 use Rattle.ash_plain_steps.specs.RequestViews.{reply_seen}
-use Rattle.ash_meaning.specs.SourceFaults.{fault_of}
+use Rattle.ash_sources.specs.SourceFaults.{fault_of}
 use Rattle.ash_durable.proofs.Changing.{handles_at}
 use Rattle.ash_durable.proofs.host.Host.discard.Goals as goal
 

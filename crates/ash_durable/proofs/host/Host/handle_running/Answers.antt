@@ -1,8 +1,8 @@
-use Rattle.std.proofs.Common.{rules, ◌≡◌, Some, IsSome, Ok, Err, sym, subst}
+use Rattle.std.proofs.Common.{Ok, Err}
+use Rattle.std.proofs.lemmas.Bool.{iff_false}
 use Rattle.std.proofs.lemmas.Result.{err_from_is_err_and}
 use Rattle.ash_plain_steps.specs.RequestViews.{request_seen, reply_seen}
-use Rattle.ash_meaning.specs.SourceFaults.{fault_of}
-use Rattle.ash_durable.proofs.HandledRequests.{seen_host}
+use Rattle.ash_sources.specs.SourceFaults.{fault_of}
 use Rattle.ash_durable.proofs.Handling.{handled_runs, handled_room, handled_other, handled_answer, handled_lost}
 use Rattle.ash_durable.proofs.Handling.{handles_no_room}
 use Rattle.ash_durable.proofs.host.Host.handle_running.Goals as goal
@@ -23,7 +23,8 @@ pub returns-then-not-is_answer : goal.returns-then-not-is_answer
 returns-then-not-is_answer g c =
     handled_other g.D.Disk c.args.budget (request_seen c.args.request.now) c.self.inside.stopped c.self.inside.state
     c.handle.new.self c.self.inside.journal c.args.self.now c.make_room.new.self c.requires c.in_ok-make_room.ensures
-    c.self.view_is (reply_seen fault_of c.in-Ok.reply) (search rules) c.in-Ok.ensures.handled
+    c.self.view_is (reply_seen fault_of c.in-Ok.reply) (iff_false c.is_answer.ensures c.if-not-is_answer.true)
+    c.in-Ok.ensures.handled
 
 pub commit-requires-clause-running : goal.commit-requires-clause-running
 commit-requires-clause-running g c =
@@ -35,7 +36,8 @@ pub commit-requires-clause-room : goal.commit-requires-clause-room
 commit-requires-clause-room g c =
     handled_room g.D.Disk c.args.budget (request_seen c.args.request.now) c.self.inside.stopped c.self.inside.state
     c.handle.new.self c.self.inside.journal c.args.self.now c.make_room.new.self c.requires c.in_ok-make_room.ensures
-    c.self.view_is (reply_seen fault_of c.in-Ok.reply) (search rules) c.in-Ok.ensures.handled
+    c.self.view_is (reply_seen fault_of c.in-Ok.reply) (c.is_answer.ensures.0 c.if-not-is_answer.false)
+    c.in-Ok.ensures.handled
 
 pub returns-in_err-commit : goal.returns-in_err-commit
 returns-in_err-commit g c =
@@ -43,12 +45,13 @@ returns-in_err-commit g c =
     rw (p.1, p.2) (handled_answer g.D.Disk c.args.budget (request_seen c.args.request.now) c.self.inside.stopped
     c.self.inside.state c.handle.new.self c.self.inside.journal c.args.self.now c.make_room.new.self c.requires
     c.in_ok-make_room.ensures c.self.view_is c.seq-seq.result (reply_seen fault_of c.in-Ok.reply)
-    (Err c.in_err-commit.field-0.0) c.commit.new.self (search rules) c.in-Ok.ensures.handled c.seq-seq.ensures.number
-    c.in_err-commit.ensures)
+    (Err c.in_err-commit.field-0.0) c.commit.new.self (c.is_answer.ensures.0 c.if-not-is_answer.false)
+    c.in-Ok.ensures.handled c.seq-seq.ensures.number c.in_err-commit.ensures)
 
 pub returns : goal.returns
 returns g c =
     handled_answer g.D.Disk c.args.budget (request_seen c.args.request.now) c.self.inside.stopped
     c.self.inside.state c.handle.new.self c.self.inside.journal c.args.self.now c.make_room.new.self c.requires
     c.in_ok-make_room.ensures c.self.view_is c.seq-seq.result (reply_seen fault_of c.in-Ok.reply) (Ok tt)
-    c.commit.new.self (search rules) c.in-Ok.ensures.handled c.seq-seq.ensures.number c.in_ok-commit.ensures
+    c.commit.new.self (c.is_answer.ensures.0 c.if-not-is_answer.false) c.in-Ok.ensures.handled c.seq-seq.ensures.number
+    c.in_ok-commit.ensures

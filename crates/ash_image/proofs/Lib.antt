@@ -1,9 +1,0 @@
-pub mod Appended
-pub mod BodyLaws
-pub mod FieldLaws
-pub mod ImageLaws
-pub mod ItemLoop
-pub mod Limits
-pub mod Names
-pub mod Numbers
-pub mod Texts

@@ -1,4 +1,0 @@
-use Rattle.ash_meaning.proofs.checking.registered_names_are_taken.Goals as goal
-
-pub returns : goal.returns
-returns c = record { free = λ registered items typed is. is.free }

@@ -1,0 +1,122 @@
+//! Sources as bytes, and how checking and reading them end: `ok`, or the fault as `Debug` prints it, with offsets
+//! counted by hand.
+
+use crate::compare::check_text;
+use ash_registry::Registry;
+use ash_sources::checking::check_source;
+use ash_sources::fault::{SourceError, SourceFault};
+use ash_sources::sources::{AdmittedScripts, Sources};
+use std::alloc::{AllocError, Global};
+use std::process::Abort;
+use std::test::Fail;
+
+/// A fault as `Debug` prints it, without the layer that finds it.
+fn printed_fault(alloc: Global, fault: &SourceFault) -> Result<String, AllocError> {
+    match fault {
+        SourceFault::Lexical(fault) => format!(in alloc; "{fault:?}"),
+        SourceFault::Syntactic(fault) => format!(in alloc; "{fault:?}"),
+        SourceFault::Broken(fault) => format!(in alloc; "{:?} {{ at: {} }}", fault.rule, fault.at),
+        SourceFault::Cyclic(names) => format!(in alloc; "{names:?}"),
+        SourceFault::NotYet => String::from_str(alloc, "NotYet"),
+    }
+}
+
+fn printed<T: Drop>(alloc: Global, ended: Result<T, SourceError>) -> Result<String, AllocError> {
+    match ended {
+        Ok(_) => String::from_str(alloc, "ok"),
+        Err(SourceError::Fault(fault)) => printed_fault(alloc, &fault),
+        Err(SourceError::NoMemory) => String::from_str(alloc, "no memory"),
+    }
+}
+
+/// How checking a source ends.
+pub(crate) fn checked(
+    alloc: Global,
+    registry: &Registry,
+    source: &[u8],
+) -> Result<String, AllocError> {
+    printed(alloc, check_source(alloc, registry, source))
+}
+
+/// How reading a source ends, where these scripts are admitted.
+pub(crate) fn read(
+    alloc: Global,
+    registry: &Registry,
+    admitted: AdmittedScripts,
+    source: &[u8],
+) -> Result<String, AllocError> {
+    let sources = Sources { registry, admitted };
+    printed(alloc, sources.read_tree(alloc, source))
+}
+
+/// Compares how checking a source ends, and how reading it does, where nothing is registered: the same, whichever
+/// scripts are admitted.
+pub(crate) fn check_source_of(
+    rt: &impl Abort,
+    alloc: Global,
+    source: &[u8],
+    wanted: &str,
+) -> Result<(), Fail> {
+    let registry = Registry::new(alloc);
+    let text = String::from_utf8_lossy(alloc, source)?;
+    let found = checked(alloc, &registry, source)?;
+    check_text(rt, found.as_str(), wanted, text.as_str());
+    for admitted in [
+        AdmittedScripts::All,
+        AdmittedScripts::UsingNothingRegistered,
+    ] {
+        let found = read(alloc, &registry, admitted, source)?;
+        check_text(rt, found.as_str(), wanted, text.as_str());
+    }
+    Ok(())
+}
+
+/// The parts of a row: how its source ends, and the source.
+pub(crate) fn parts_of(row: &str) -> (&str, &str) {
+    row.trim()
+        .split_once(" | ")
+        .unwrap_or((row, "no bar in this row"))
+}
+
+/// Each row has how checking and reading end, a bar, and the source.
+pub(crate) fn check_rows(rt: &impl Abort, alloc: Global, rows: &str) -> Result<(), Fail> {
+    for row in rows.trim().lines() {
+        let (wanted, source) = parts_of(row);
+        check_source_of(rt, alloc, source.as_bytes(), wanted)?;
+    }
+    Ok(())
+}
+
+/// Each row has a source, and how checking and reading it end.
+pub(crate) fn check_sources(
+    rt: &impl Abort,
+    alloc: Global,
+    rows: &[(&[u8], &str)],
+) -> Result<(), Fail> {
+    for (source, wanted) in rows {
+        check_source_of(rt, alloc, source, wanted)?;
+    }
+    Ok(())
+}
+
+/// `text`, and so many blanks after it.
+pub(crate) fn with_blanks(alloc: Global, text: &[u8], count: usize) -> Result<Vec<u8>, AllocError> {
+    let mut source = Vec::from_slice(alloc, text)?;
+    source.extend_from_slice(&vec![in alloc; b' '; count]?)?;
+    Ok(source)
+}
+
+/// `prefix`, a 1 in so many brackets, and `suffix`.
+pub(crate) fn bracketed(
+    alloc: Global,
+    prefix: &[u8],
+    count: usize,
+    suffix: &[u8],
+) -> Result<Vec<u8>, AllocError> {
+    let mut source = Vec::from_slice(alloc, prefix)?;
+    source.extend_from_slice(&vec![in alloc; b'('; count]?)?;
+    source.extend_from_slice(b"1")?;
+    source.extend_from_slice(&vec![in alloc; b')'; count]?)?;
+    source.extend_from_slice(suffix)?;
+    Ok(source)
+}

@@ -1,0 +1,145 @@
+-- What a source is typed as is what the rules say, and what the code answers.
+use Rattle.std.proofs.Common.{◌≡◌, ◌↔◌, ℕ, List, Result, Ok, Err, refl, sym, ◌∙◌, ap, subst}
+use Rattle.ash_tree.specs.Tree.{Item}
+use Rattle.ash_registry.specs.Registrations.{Registration}
+use Rattle.ash_typed.specs.Modules.{Module as Typed}
+use Rattle.ash_typed.specs.SoundModules.{IsSound}
+use Rattle.ash_typing.specs.Offered.{offered}
+use Rattle.ash_typing.proofs.SoundnessModules.{module_sound}
+use Rattle.ash_typing.proofs.SoundnessNesting.{derived_proper}
+use Rattle.ash_check.specs.declared.faults.CheckFault.{CheckFault}
+use Rattle.ash_check.specs.declared.faults.CheckFault.TheVariants as check_faults
+use Rattle.ash_check.specs.Checks.{ScriptFault, checked, Reports}
+use Rattle.ash_check.proofs.ExactLaws.{accepted_is}
+use Rattle.ash_sources.specs.Lexing.{IsText}
+use Rattle.ash_sources.specs.CheckedSource.{CheckResult, Checks, no_tokens, has_tokens, unless_fault, checked_source}
+use Rattle.ash_sources.specs.Scripts.{SpellsScript, HasNoScript}
+use Rattle.ash_sources.specs.TypedSource.{IsTypedSource, typed_or_fault, items_typed}
+use Rattle.ash_sources.specs.TypedSource.{typed_if_checked, typed_source}
+use Rattle.ash_sources.specs.declared.fault.SourceError.{SourceError}
+use Rattle.ash_sources.specs.SourceFaults.{SourceFault, typing_error, TakesMemoryFor, RefusesAs}
+use Rattle.ash_sources.proofs.CheckedSourceLaws.{checked_source-is, takes_text}
+use Rattle.ash_sources.proofs.CheckedAnswers.{spelled_checked, unspelled_checked}
+
+-- what the check of types answers
+
+takes_items : (answer : Result Typed ScriptFault) → TakesMemoryFor (typed_or_fault answer)
+takes_items (Ok typed) = tt
+takes_items (Err fault) = tt
+
+reports_as : (answer : Result Typed ScriptFault) (fault : CheckFault) → Reports answer fault
+    → RefusesAs (typed_or_fault answer) (typing_error fault)
+reports_as answer (check_faults.Broken fault) h = ap typed_or_fault h
+reports_as answer (check_faults.Cyclic names) h = ap typed_or_fault h
+reports_as answer check_faults.NoMemory h = takes_items answer
+
+pub items_untyped : (registered : List Registration) (items : List Item) (fault : CheckFault)
+    → Reports (checked registered items) fault → (error : SourceError) → error ≡ typing_error fault
+    → RefusesAs (items_typed registered items) error
+items_untyped registered items fault h error is =
+    subst (RefusesAs (items_typed registered items)) (sym is) (reports_as (checked registered items) fault h)
+
+-- a source that spells a script is typed as the script is
+
+typed_by : (registered : List Registration) (items : List Item) (r : Result Typed ScriptFault) → checked registered items ≡ r
+    → typed_if_checked registered (unless_fault items r) ≡ items_typed registered items
+typed_by registered items (Ok typed) e = refl
+typed_by registered items (Err fault) e = sym (ap typed_or_fault e)
+
+pub spelled_typed : (registered : List Registration) (source : List ℕ) (items : List Item) → SpellsScript source items
+    → typed_source registered source ≡ items_typed registered items
+unfolding typed_source
+spelled_typed registered source items h = ap (typed_if_checked registered) (spelled_checked registered source items h)
+    ∙ typed_by registered items (checked registered items) refl
+
+-- and one that spells none has the fault of that
+pub unspelled_typed : (registered : List Registration) (source : List ℕ) (fault : SourceFault)
+    → HasNoScript source fault → typed_source registered source ≡ Err fault
+unfolding typed_source
+unspelled_typed registered source fault h =
+    ap (typed_if_checked registered) (unspelled_checked registered source fault h)
+
+-- what a source is typed as, by the rules
+
+pub rules_typed : (registered : List Registration) (source : List ℕ) (typed : Typed) → IsTypedSource registered source typed
+    → typed_source registered source ≡ Ok typed
+rules_typed registered source typed h =
+    let spelled : SpellsScript source h.items = record { tokens = h.tokens; lexed = h.lexed; derived = h.derived } in
+    spelled_typed registered source h.items spelled
+    ∙ ap typed_or_fault ((accepted_is registered h.items typed).1 (h.by_rules, h.acyclic))
+
+ok_of : (r : Result Typed ScriptFault) (typed : Typed) → typed_or_fault r ≡ Ok typed → r ≡ Ok typed
+ok_of (Ok other) typed e = cc
+ok_of (Err fault) typed e = absurd (cc)
+
+by_outcome : (registered : List Registration) (source : List ℕ) (typed : Typed) (outcome : CheckResult)
+    → Checks registered source outcome → typed_if_checked registered outcome ≡ Ok typed
+    → IsTypedSource registered source typed
+by_outcome registered source typed (Err fault) h e = absurd (cc)
+by_outcome registered source typed (Ok items) (no_tokens fault other h) e = absurd (cc)
+by_outcome registered source typed (Ok items) (has_tokens tokens h script) e =
+    let is = (accepted_is registered items typed).0 (ok_of (checked registered items) typed e) in
+    record {
+      tokens = tokens;
+      lexed = h;
+      items = items;
+      derived = script.derived;
+      by_rules = is.0;
+      acyclic = is.1;
+    }
+
+pub typed_rules : (registered : List Registration) (source : List ℕ) (typed : Typed)
+    → typed_source registered source ≡ Ok typed → IsTypedSource registered source typed
+unfolding typed_source
+typed_rules registered source typed e = by_outcome registered source typed (checked_source registered source)
+    (checked_source-is registered source) e
+
+pub typed_exact : (registered : List Registration) (source : List ℕ) (typed : Typed)
+    → (typed_source registered source ≡ Ok typed) ↔ IsTypedSource registered source typed
+typed_exact registered source typed = (typed_rules registered source typed, rules_typed registered source typed)
+
+pub typed_sound : (registered : List Registration) (source : List ℕ) (typed : Typed)
+    → typed_source registered source ≡ Ok typed → IsSound (offered registered) typed
+typed_sound registered source typed e =
+    let h = typed_rules registered source typed e in
+    module_sound registered h.items typed (derived_proper h.derived) h.by_rules
+
+-- which fault a source has
+
+refused_by : (registered : List Registration) (source : List ℕ) (fault : SourceFault) (outcome : CheckResult)
+    → Checks registered source outcome → typed_if_checked registered outcome ≡ Err fault → outcome ≡ Err fault
+refused_by registered source fault (Err other) h e = cc
+refused_by registered source fault (Ok items) (no_tokens other is h) e = absurd (cc)
+refused_by registered source fault (Ok items) (has_tokens tokens h script) e =
+    let is : checked registered items ≡ Ok script.typed =
+    (accepted_is registered items script.typed).1 (script.by_rules, script.acyclic) in
+    absurd (let typed : items_typed registered items ≡ Ok script.typed = ap typed_or_fault is in cc)
+
+typed_refused : (registered : List Registration) (source : List ℕ) (fault : SourceFault)
+    → typed_source registered source ≡ Err fault → checked_source registered source ≡ Err fault
+unfolding typed_source
+typed_refused registered source fault e = refused_by registered source fault (checked_source registered source)
+    (checked_source-is registered source) e
+
+checked_refused : (registered : List Registration) (source : List ℕ) (fault : SourceFault)
+    → checked_source registered source ≡ Err fault → typed_source registered source ≡ Err fault
+unfolding typed_source
+checked_refused registered source fault e = ap (typed_if_checked registered) e
+
+pub refused_exact : (registered : List Registration) (source : List ℕ) (fault : SourceFault)
+    → (typed_source registered source ≡ Err fault) ↔ (checked_source registered source ≡ Err fault)
+refused_exact registered source fault =
+    (typed_refused registered source fault, checked_refused registered source fault)
+
+-- a text takes memory to type
+
+takes_checked : (registered : List Registration) (outcome : CheckResult) → TakesMemoryFor outcome
+    → TakesMemoryFor (typed_if_checked registered outcome)
+takes_checked registered (Ok items) h = takes_items (checked registered items)
+takes_checked registered (Err fault) h = h
+
+pub takes_typed : (registered : List Registration) (source : List ℕ) → IsText source
+    → TakesMemoryFor (typed_source registered source)
+unfolding typed_source
+takes_typed registered source text =
+    takes_checked registered (checked_source registered source) (takes_text registered source text)

@@ -1,0 +1,11 @@
+use Rattle.std.proofs.lemmas.Result.{err_from_is_err_and}
+use Rattle.ash_registry.specs.Registered.{registered}
+use Rattle.ash_tree.specs.Views.{module_of as items_of}
+use Rattle.ash_sources.proofs.CheckedAnswers.{items_unchecked}
+use Rattle.ash_sources.proofs.checking.check_module.Goals as goal
+
+pub returns-in_err-check-clause-refused : goal.returns-in_err-check-clause-refused
+returns-in_err-check-clause-refused c =
+    let p = err_from_is_err_and c.from_residual.result c.from_residual.ensures.1 in
+    rw (p.1, p.2) (items_unchecked (registered c.args.registry.now) (items_of c.args.script) _
+    c.in_err-check.ensures.answer)

@@ -1,0 +1,83 @@
+-- Why a source has no typed tree, without where names lie in memory; the code by which that is reported; and how reading
+-- a source fails.
+use Rattle.std.specs.Prelude.{◌≡◌, ℕ, List, map, string_bytes, Result, Ok, Err, codes}
+use Rattle.ash_lex.specs.FaultCodes as lexical
+use Rattle.ash_lex.specs.declared.faults.LexFault.{LexFault}
+use Rattle.ash_lex.specs.declared.faults.LexFault.TheVariants as lex_faults
+use Rattle.ash_parse.specs.Faults as syntactic
+use Rattle.ash_parse.specs.declared.faults.ParseFault.{ParseFault}
+use Rattle.ash_parse.specs.declared.faults.ParseFault.TheVariants as parse_faults
+use Rattle.ash_check.specs.declared.faults.CheckFault.{CheckFault}
+use Rattle.ash_check.specs.declared.faults.CheckFault.TheVariants as check_faults
+use Rattle.ash_typing.specs.RuleCodes as typing
+use Rattle.ash_check.specs.Checks.{ScriptFault, Broken, Cyclic}
+use Rattle.ash_check.specs.Faults.{cycle_code}
+use Rattle.ash_sources.specs.declared.fault.SourceFault as code
+use Rattle.ash_sources.specs.declared.fault.SourceFault.TheVariants as the
+use Rattle.ash_sources.specs.declared.fault.SourceError.{SourceError}
+use Rattle.ash_sources.specs.declared.fault.SourceError.TheVariants as errors
+
+-- why a source has no typed tree: the fault of the layer that finds it, or that its script can't be run so far
+pub data SourceFault : Type 0 where
+  Lexical : (fault : LexFault) → SourceFault
+  Syntactic : (fault : ParseFault) → SourceFault
+  Typing : (fault : ScriptFault) → SourceFault
+  NotYet : SourceFault
+
+-- the number and the name of a fault
+abbrev pub code_of : SourceFault → List ℕ
+code_of (Lexical fault) = lexical.code_of fault
+code_of (Syntactic fault) = syntactic.code_of fault
+code_of (Typing (Broken fault)) = typing.code_of fault.rule
+code_of (Typing (Cyclic names)) = cycle_code
+code_of NotYet = codes "199 NotYet"
+
+-- what the code's faults represent
+
+abbrev pub fault_of : code.SourceFault → SourceFault
+fault_of (the.Lexical fault) = Lexical fault
+fault_of (the.Syntactic fault) = Syntactic fault
+fault_of (the.Broken fault) = Typing (Broken fault)
+fault_of (the.Cyclic names) = Typing (Cyclic (map string_bytes names.0.items))
+fault_of the.NotYet = NotYet
+
+-- A layer's fault makes this error: it is the source's, unless it says that memory was refused.
+
+abbrev pub lexical_error : LexFault → SourceError
+lexical_error lex_faults.NoMemory = errors.NoMemory
+lexical_error fault = errors.Fault (the.Lexical fault)
+
+abbrev pub syntactic_error : ParseFault → SourceError
+syntactic_error parse_faults.NoMemory = errors.NoMemory
+syntactic_error fault = errors.Fault (the.Syntactic fault)
+
+abbrev pub typing_error : CheckFault → SourceError
+typing_error (check_faults.Broken fault) = errors.Fault (the.Broken fault)
+typing_error (check_faults.Cyclic names) = errors.Fault (the.Cyclic names)
+typing_error check_faults.NoMemory = errors.NoMemory
+
+-- how reading a source fails
+
+-- Memory is taken to find each fault but that of a source which its length alone refuses.
+abbrev pub TakesMemoryToFind : SourceFault → Type 0
+TakesMemoryToFind (Lexical lex_faults.SourceTooLong) = ⊥
+TakesMemoryToFind fault = Unit {0}
+
+-- What a source comes to takes memory to find, unless it is such a fault.
+abbrev pub TakesMemoryFor : {A : Type 0} → Result A SourceFault → Type 0
+TakesMemoryFor (Ok found) = Unit {0}
+TakesMemoryFor (Err fault) = TakesMemoryToFind fault
+
+-- The error is the fault that a source comes to, or that memory was refused, where finding what it comes to takes some.
+abbrev pub RefusesAs : {A : Type 0} → Result A SourceFault → SourceError → Type 0
+RefusesAs outcome (errors.Fault fault) = outcome ≡ Err (fault_of fault)
+RefusesAs outcome errors.NoMemory = TakesMemoryFor outcome
+
+-- The error is a fault of which this holds, or that memory was refused, where some may be taken.
+abbrev pub RefusesWhere : (SourceFault → Type 0) → Type 0 → SourceError → Type 0
+RefusesWhere HasFault TakesMemory (errors.Fault fault) = HasFault (fault_of fault)
+RefusesWhere HasFault TakesMemory errors.NoMemory = TakesMemory
+
+-- This holds of the fault, if the error is one.
+abbrev pub IfFault : (SourceFault → Type 0) → SourceError → Type 0
+IfFault Holds error = RefusesWhere Holds (Unit {0}) error

@@ -1,0 +1,27 @@
+//! Tests of the images of whole states: bytes that were written by hand, what they are read as, which changes of them
+//! are images of other states, and the states of hosts whose images they are. They are apart from the crates with the
+//! code, which need not wait for them.
+//!
+//! In reading order: `images`, the bytes in their parts; `compare`; `encoding`, which writes what was read by the
+//! layout alone; `reading`, `refused` and `limits`, of images and the bodies of records; `changes`, with each byte
+//! changed and each cut; `hosts`, the states of hosts, and `restoring`, the changes that a host may be in.
+#![tactic(auto)]
+
+#[cfg(test)]
+mod changes;
+#[cfg(test)]
+mod compare;
+#[cfg(test)]
+mod encoding;
+#[cfg(test)]
+mod hosts;
+#[cfg(test)]
+mod images;
+#[cfg(test)]
+mod limits;
+#[cfg(test)]
+mod reading;
+#[cfg(test)]
+mod refused;
+#[cfg(test)]
+mod restoring;
