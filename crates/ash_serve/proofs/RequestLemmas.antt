@@ -37,7 +37,7 @@ pub line_long : {S H : Type 0} (feed : Feed S) (handles : RequestRelation H) (bu
 line_long feed handles budget s t h w = (LineTooLong, record { bytes = w.0 ++ 10 ∷ []; spells = spells-long w.0 w.1.line w.2; took = w.1.took; handled = refl })
 
 -- a request that is all in its line
-pub line_replied : {S H : Type 0} (feed : Feed S) (handles : RequestRelation H) (budget : ℕ) (s t : S) (h k : H) (line : List ℕ) (request : Line) (reply : code.LineReply) → ReadsWholeLine feed s line t → length line ≤ max_line_bytes → Complete request ≡ parse_line line → RepliesTo handles budget h request (line_reply_seen fault_of reply) k → HandlesRequest feed handles budget s h (Ok reply) t k
+pub line_replied : {S H : Type 0} (feed : Feed S) (handles : RequestRelation H) (budget : ℕ) (s t : S) (h k : H) (line : List ℕ) (request : Line) (reply : code.LineReply) → ReadsWholeLine feed s line t → length line ≤ max_line_bytes → Complete request ≡ parse_line line → RepliesTo handles budget h request (line_reply_of reply) k → HandlesRequest feed handles budget s h (Ok reply) t k
 line_replied feed handles budget s t h k line request reply w l e a = (request, record { bytes = line ++ 10 ∷ []; spells = spells-line line request w.line l (sym e); took = w.took; handled = a })
 
 -- a source after its line

@@ -1,6 +1,6 @@
 use Rattle.std.proofs.Common.{rules, ap}
 use Rattle.ash_serve.proofs.RunningLemmas.{run_writes, run_keeps}
-use Rattle.ash_serve.proofs.DefinedLemmas.{replies_run}
+use Rattle.ash_serve.proofs.DefinedLemmas.{replies_run, replies_live}
 use Rattle.ash_serve.proofs.run.run.Goals as goal
 
 pub returns-clause-ends : goal.returns-clause-ends
@@ -13,3 +13,6 @@ returns-clause-saved g c h = run_keeps _ _ (λ budget request old new reply hand
 
 pub returns-clause-defined : goal.returns-clause-defined
 returns-clause-defined g c = λ lines replies answered. replies_run g.D.Disk _ _ lines replies _ answered
+
+pub returns-clause-lives : goal.returns-clause-lives
+returns-clause-lives g c = λ lines replies answered. replies_live g.D.Disk c.args.budget c.args.host.now lines replies c.serve-result.new.host answered

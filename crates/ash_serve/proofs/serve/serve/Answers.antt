@@ -1,4 +1,4 @@
-use Rattle.std.proofs.Common.{◌∙◌, sym, inl, inr}
+use Rattle.std.proofs.Common.{◌∙◌, sym, inl, inr, Ok}
 use Rattle.std.proofs.lemmas.Result.{err_from_is_err_and}
 use Rattle.ash_lines.specs.Replies.{line_reply_of}
 use Rattle.ash_serve.specs.declared.fault.RunFault.TheVariants as faults
@@ -18,17 +18,19 @@ returns-in_err-reply g c =
     let p = err_from_is_err_and c.from_residual-in_err-reply.result c.from_residual-in_err-reply.ensures.1 in
     record {
       serves = rw (p.1, p.2) (serves_fault g.S.Source.feed g.K.Sink.outlet g.H.RequestHandler.handles _ _ _ _ _ _ _ _ _ _ _ c.requests.invariant.log
-          (fault_ends g.S.Source.feed g.K.Sink.outlet g.H.RequestHandler.handles _ _ _ _ _ _ _ (by_budget g.S.Source.feed g.H.RequestHandler.handles _ _ _ _ _ _ _ c.requests.invariant.budget c.in_err-reply.ensures.handled)));
+          (fault_ends g.S.Source.feed g.K.Sink.outlet g.H.RequestHandler.handles c.args.budget _ _ _ _ _ _ c.in_err-reply.ensures.handled));
     }
 
 pub returns-in_default : goal.returns-in_default
 returns-in_default g c =
-    let w = rw c.in_default.is at (by_budget g.S.Source.feed g.H.RequestHandler.handles _ _ _ _ _ _ _ c.requests.invariant.budget c.in_ok-reply.ensures.handled) in
+    let w = rw c.in_default.is at (by_budget g.S.Source.feed g.H.RequestHandler.handles c.requests.session.budget c.args.budget c.requests.input c.handle_next.new.input c.requests.host c.handle_next.new.host
+    (Ok c.in_ok-reply.field-0) c.requests.invariant.budget c.in_ok-reply.ensures.handled) in
     record { serves = (_, _, _, c.requests.invariant.log, inl (input_ends g.S.Source.feed g.H.RequestHandler.handles c.args.budget c.requests.input c.handle_next.new.input c.requests.output c.requests.host c.handle_next.new.host w)) }
 
 pub returns-in_err-write_line_reply : goal.returns-in_err-write_line_reply
 returns-in_err-write_line_reply g c =
-    let w = rw c.in-Some.is at (by_budget g.S.Source.feed g.H.RequestHandler.handles _ _ _ _ _ _ _ c.requests.invariant.budget c.in_ok-reply.ensures.handled) in
+    let w = rw c.in-Some.is at (by_budget g.S.Source.feed g.H.RequestHandler.handles c.requests.session.budget c.args.budget c.requests.input c.handle_next.new.input c.requests.host c.handle_next.new.host
+    (Ok c.in_ok-reply.field-0) c.requests.invariant.budget c.in_ok-reply.ensures.handled) in
     let p = err_from_is_err_and c.from_residual-in_err-write_line_reply.result c.from_residual-in_err-write_line_reply.ensures.1 in
     record {
       serves = rw (p.1, p.2) (serves_fault g.S.Source.feed g.K.Sink.outlet g.H.RequestHandler.handles c.args.budget c.args.input.now c.requests.input c.handle_next.new.input c.args.output.now c.requests.output c.write_line_reply.new.output c.args.host.now c.requests.host c.handle_next.new.host faults.Write c.requests.invariant.log
@@ -37,14 +39,16 @@ returns-in_err-write_line_reply g c =
 
 pub returns-then-ends : goal.returns-then-ends
 returns-then-ends g c =
-    let w = rw c.in-Some.is at (by_budget g.S.Source.feed g.H.RequestHandler.handles _ _ _ _ _ _ _ c.requests.invariant.budget c.in_ok-reply.ensures.handled) in
+    let w = rw c.in-Some.is at (by_budget g.S.Source.feed g.H.RequestHandler.handles c.requests.session.budget c.args.budget c.requests.input c.handle_next.new.input c.requests.host c.handle_next.new.host
+    (Ok c.in_ok-reply.field-0) c.requests.invariant.budget c.in_ok-reply.ensures.handled) in
     record {
       serves = (_, _, _, c.requests.invariant.log, inr (quit_ends g.S.Source.feed g.K.Sink.outlet g.H.RequestHandler.handles c.args.budget c.requests.input c.handle_next.new.input c.requests.output c.write_line_reply.new.output c.requests.host c.handle_next.new.host c.in-Some.reply (sym c.ends_run-ends.ensures.quit ∙ c.if-ends.true) w c.in_ok-write_line_reply.ensures.line));
     }
 
 pub requests-preserved : goal.requests-preserved
 requests-preserved g c =
-    let w = rw c.in-Some.is at (by_budget g.S.Source.feed g.H.RequestHandler.handles _ _ _ _ _ _ _ c.requests.invariant.budget c.in_ok-reply.ensures.handled) in
+    let w = rw c.in-Some.is at (by_budget g.S.Source.feed g.H.RequestHandler.handles c.requests.session.budget c.args.budget c.requests.input c.handle_next.new.input c.requests.host c.handle_next.new.host
+    (Ok c.in_ok-reply.field-0) c.requests.invariant.budget c.in_ok-reply.ensures.handled) in
     record {
       log = ongoing-more g.S.Source.feed g.K.Sink.outlet g.met.S.Source.is_feed g.met.K.Sink.is_outlet g.H.RequestHandler.handles _ _ _ _ _ _ _ _ _ _ w.0 (line_reply_of c.in-Some.reply) c.requests.invariant.log w.1 c.in_ok-write_line_reply.ensures.line
           (goes_on g.H.RequestHandler.handles _ _ _ w.0 (line_reply_of c.in-Some.reply) (sym c.ends_run-ends.ensures.quit ∙ c.if-ends.false) w.1.handled);
@@ -54,5 +58,6 @@ requests-preserved g c =
 
 pub requests-smaller : goal.requests-smaller
 requests-smaller g c =
-    let w = rw c.in-Some.is at (by_budget g.S.Source.feed g.H.RequestHandler.handles _ _ _ _ _ _ _ c.requests.invariant.budget c.in_ok-reply.ensures.handled) in
+    let w = rw c.in-Some.is at (by_budget g.S.Source.feed g.H.RequestHandler.handles c.requests.session.budget c.args.budget c.requests.input c.handle_next.new.input c.requests.host c.handle_next.new.host
+    (Ok c.in_ok-reply.field-0) c.requests.invariant.budget c.in_ok-reply.ensures.handled) in
     served-falls g.S.Source.feed g.met.S.Source.is_feed g.H.RequestHandler.handles _ _ _ _ _ w.0 (line_reply_of c.in-Some.reply) w.1
