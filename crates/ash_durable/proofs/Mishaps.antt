@@ -3,7 +3,6 @@
 use Rattle.std.proofs.Common.{◌≡◌, inl, inr, ℕ, List, Err, subst}
 use Rattle.ash_journal.specs.Current.{Contents, Represent}
 use Rattle.ash_journal.proofs.SettleLaws.{represent_once}
-use Rattle.ash_state_image.specs.declared.version.Version.{Version}
 use Rattle.ash_state_image.specs.declared.version.Version.TheVariants.{One, Two}
 use Rattle.ash_states.specs.States.{HostState}
 use Rattle.ash_registry.specs.Registrations.{Registration}

@@ -16,11 +16,10 @@ use Rattle.ash_state_image.specs.Rules.{IsImage, IsBody, IsShaped}
 use Rattle.ash_state_image.specs.Views.{image_read}
 use Rattle.ash_states.specs.States.{HostState}
 use Rattle.ash_states.specs.Images.{IsDepicted, IsImageOf, IsRestored, state_of}
-use Rattle.ash_durable.specs.States.{IsBodyAs, AreIn, IsBodyOf, Leads, LeadAll, IsStateOf}
+use Rattle.ash_durable.specs.States.{IsBodyAs, AreIn, Leads, LeadAll, IsStateOf}
 use Rattle.ash_durable.specs.Contents.{IsImageWith, IsBodyWith, AreShaped, IsAdmittedImage, IsAdmittedBody}
 use Rattle.ash_durable.specs.Contents.{IsNoImage, FirstWithout, after_image, IsMisshapen, IsNotAdmitted, ReadsAs}
 use Rattle.ash_durable.specs.Contents.{ReportsDamage, FirstRecordWithout, Restores, LeadsOn, LeadsThrough}
-use Rattle.ash_durable.specs.declared.contents.StateRead.{StateRead}
 use Rattle.ash_durable.proofs.ContentsStates.{image_once, version_once, body_once, body_version_once, lead_all_registered}
 use Rattle.ash_durable.specs.declared.fault.StoreFault.{StoreFault}
 use Rattle.ash_durable.specs.declared.fault.StoreFault.TheVariants as faults

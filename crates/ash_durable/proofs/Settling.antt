@@ -11,7 +11,7 @@ use Rattle.ash_journal.proofs.SettleLaws.{Property, Implies, settle_more, furthe
 use Rattle.ash_states.specs.States.{HostState}
 use Rattle.ash_state_image.specs.declared.version.Version.TheVariants.{Two}
 use Rattle.ash_states.specs.Images.{IsImageIn, IsBodyIn}
-use Rattle.ash_durable.specs.States.{AreIn, Leads, IsStateOf, HaveState, IsOne, IsEither, SettleSince, SettleNow}
+use Rattle.ash_durable.specs.States.{AreIn, IsStateOf, HaveState, IsOne, IsEither, SettleSince, SettleNow}
 use Rattle.ash_durable.specs.States.{HoldsState, GoesOn, BeginsAnew}
 use Rattle.ash_durable.proofs.ContentsStates.{state_of_one, state_of_alone, state_of_push}
 

@@ -36,8 +36,7 @@ const FULL_RECORD_BYTES: u64 = 16_777_216;
 /// memory for the record, the answer is lost: a crash leaves the state before the request or the one after it, and the
 /// host must be reopened. So it must where memory is refused while a request changes the state: the state is lost, and
 /// the disks have the one before the request. Every call but `seq`, `close` and `reopen` is from then on refused with
-/// `Refusal::Reopen`. Any other refusal changes nothing, but for a
-/// new generation that was installed before it.
+/// `Refusal::Reopen`. Any other refusal changes nothing, but for a new generation that was installed before it.
 ///
 /// A `load`, a `call` or a `discard` that finds 16,777,216 bytes of records or more in the current generation first
 /// installs the state as a new one, without records, in the file that isn't current.
