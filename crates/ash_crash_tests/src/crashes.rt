@@ -339,9 +339,15 @@ fn check_moments(
     Ok(())
 }
 
-/// Stops a plan that makes a store at each call of one disk, and looks at what crashes leave. Gives how many stops there
-/// were until it ran to its end.
-fn count_stops(rt: &impl Abort, alloc: Global, plan: &Plan, failing: Failing) -> Result<u64, Fail> {
+/// Stops a plan over disks with these files at each call of one disk, and looks at what crashes leave. Gives how many
+/// stops there were until it ran to its end.
+fn count_stops(
+    rt: &impl Abort,
+    alloc: Global,
+    plan: &Plan,
+    files: Files,
+    failing: Failing,
+) -> Result<u64, Fail> {
     for calls in 0..200 {
         let stopped = handle_plan(
             alloc,
