@@ -48,7 +48,7 @@ static FROM_NOTHING: Plan = Plan {
     source: SOURCE,
     steps: STEPS,
     steps_again: &[Step::Call(-9)],
-    reached: REACHED,
+    reached: REACHED_FROM_NOTHING,
 };
 
 const STEPS: &[Step] = &[
@@ -60,7 +60,7 @@ const STEPS: &[Step] = &[
     Step::Call(1),
 ];
 
-const REACHED: &[Reached] = &[
+const REACHED_FROM_NOTHING: &[Reached] = &[
     ((0, None), 0, 0),
     ((0, None), 6, 2),
     ((1, Some(2)), 10, 2),
@@ -83,7 +83,7 @@ static WITH_OBJECTS: Plan = Plan {
     source: OBJECTS,
     steps: STEPS,
     steps_again: &[Step::Call(-9)],
-    reached: REACHED,
+    reached: REACHED_FROM_NOTHING,
 };
 
 // A store of version 1. To open it is a sync of each disk, and an installation on the second one. Then come a request, the

@@ -108,7 +108,7 @@ const FRAMES: [Row; 14] = [
 ];
 
 #[test]
-fn frames(rt: HostRuntime) -> Result<(), Fail> {
+fn frames_of_images(rt: HostRuntime) -> Result<(), Fail> {
     check_rows(&rt, rt.alloc(), &FRAMES)
 }
 
@@ -227,7 +227,7 @@ const OBJECTS: [Row; 18] = [
 ];
 
 #[test]
-fn objects(rt: HostRuntime) -> Result<(), Fail> {
+fn objects_of_images(rt: HostRuntime) -> Result<(), Fail> {
     check_rows(&rt, rt.alloc(), &OBJECTS)
 }
 
