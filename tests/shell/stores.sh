@@ -131,6 +131,24 @@ asks 'get m n\nseq\n'
 ends "serve it again" 0 "" serve "$scratch/older" --budget 1000 --counters 0
 holds "what is found in it again" $'ok 8\nok 3'
 
+# A store of version 1 is moved to version 2 when it is opened: the first file stays, and the second gets the state.
+empty_store "$scratch/moved"
+put '\001' 21 "$scratch/moved/ash.a"
+keep "$scratch/moved" "$scratch/before"
+generation 2 220 0 '\0' > "$scratch/before/ash.b"
+asks 'seq\n'
+ends "serve a store of version 1" 0 "" serve "$scratch/moved" --budget 1000 --counters 0
+holds "what is found in a store of version 1" "ok 0"
+same "a store of version 1 is moved" "$scratch/moved" "$scratch/before"
+ends "serve it again" 0 "" serve "$scratch/moved" --budget 1000 --counters 0
+same "a store that was moved stays" "$scratch/moved" "$scratch/before"
+empty_store "$scratch/last"
+put '\377\377\377\377\377\377\377\377' 9 "$scratch/last/ash.a"
+put '\001' 21 "$scratch/last/ash.a"
+keep "$scratch/last" "$scratch/before"
+ends "serve the last generation of version 1" 1 "ashd: 511 GenerationSpent" serve "$scratch/last" --budget 1000 --counters 0
+same "the last generation of version 1 stays" "$scratch/last" "$scratch/before"
+
 # A generation of the last number: no other comes after it.
 empty_store "$scratch/last"
 put '\377\377\377\377\377\377\377\377' 9 "$scratch/last/ash.a"

@@ -7,6 +7,7 @@ pub enum Bench<'a> {
     Parse,
     Check,
     Objects,
+    Image,
     Journal { folder: &'a str },
 }
 
@@ -25,6 +26,7 @@ impl<'a> Task<'a> {
             [_, name, rest @ ..] if name.as_str() == "parse" => (Bench::Parse, rest),
             [_, name, rest @ ..] if name.as_str() == "check" => (Bench::Check, rest),
             [_, name, rest @ ..] if name.as_str() == "objects" => (Bench::Objects, rest),
+            [_, name, rest @ ..] if name.as_str() == "image" => (Bench::Image, rest),
             [_, name, folder, rest @ ..] if name.as_str() == "journal" => {
                 let folder = folder.as_str();
                 (Bench::Journal { folder }, rest)

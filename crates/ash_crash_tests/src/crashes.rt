@@ -9,6 +9,7 @@ use ash_store_fixtures::hosts::{
     SOURCE, State, add, closed, disk, found_state, image_after, inner, is_done, load, need, opened,
     snapshot, state,
 };
+use ash_store_fixtures::lives::{File, disks_of};
 use std::alloc::Global;
 use std::process::Abort;
 use std::test::Fail;
@@ -84,6 +85,32 @@ static WITH_OBJECTS: Plan = Plan {
     steps_again: &[Step::Call(-9)],
     reached: REACHED,
 };
+
+// A store of version 1. To open it is a sync of each disk, and an installation on the second one. Then come a request, the
+// opening again, and a request.
+static FROM_VERSION_ONE: Plan = Plan {
+    is_new: false,
+    source: SOURCE,
+    steps: &[Step::Call(1)],
+    steps_again: &[Step::Call(1)],
+    reached: &[
+        ((2, Some(7)), 0, 0),
+        ((2, Some(7)), 1, 1 + 4),
+        ((3, Some(8)), 1, 5 + 4),
+        ((3, Some(8)), 2, 10),
+        ((4, Some(9)), 2, 14),
+    ],
+};
+
+/// What is on two disks before a plan.
+type Files = (File, File);
+
+const NO_FILES: Files = (File::Bytes(&[]), File::Bytes(&[]));
+
+const VERSION_ONE: Files = (
+    File::Older(1, (0, None), &[(1, Some(2)), (2, Some(7))]),
+    File::Bytes(&[0]),
+);
 
 impl Plan {
     /// How many parts it has.
@@ -312,11 +339,6 @@ fn check_moments(
     Ok(())
 }
 
-/// Two empty disks.
-fn empty_disks(alloc: Global) -> (MemoryDisk, MemoryDisk) {
-    (MemoryDisk::new(alloc), MemoryDisk::new(alloc))
-}
-
 /// Stops a plan that makes a store at each call of one disk, and looks at what crashes leave. Gives how many stops there
 /// were until it ran to its end.
 fn count_stops(rt: &impl Abort, alloc: Global, plan: &Plan, failing: Failing) -> Result<u64, Fail> {
@@ -324,7 +346,7 @@ fn count_stops(rt: &impl Abort, alloc: Global, plan: &Plan, failing: Failing) ->
         let stopped = handle_plan(
             alloc,
             plan,
-            empty_disks(alloc),
+            disks_of(alloc, files.0, files.1)?,
             fuses(failing, calls, u64::MAX),
         )?;
         check_moments(rt, alloc, plan, &stopped, 20)?;
@@ -345,28 +367,28 @@ const STOPS_OF_SECOND: u64 = 5 + 4 + 4 + 1 + 2;
 
 #[test]
 fn the_first_disk_fails(rt: HostRuntime) -> Result<(), Fail> {
-    let stops = count_stops(&rt, rt.alloc(), &FROM_NOTHING, Failing::First)?;
+    let stops = count_stops(&rt, rt.alloc(), &FROM_NOTHING, NO_FILES, Failing::First)?;
     check(&rt, &stops, &STOPS_OF_FIRST, "stops");
     Ok(())
 }
 
 #[test]
 fn the_second_disk_fails(rt: HostRuntime) -> Result<(), Fail> {
-    let stops = count_stops(&rt, rt.alloc(), &FROM_NOTHING, Failing::Second)?;
+    let stops = count_stops(&rt, rt.alloc(), &FROM_NOTHING, NO_FILES, Failing::Second)?;
     check(&rt, &stops, &STOPS_OF_SECOND, "stops");
     Ok(())
 }
 
 #[test]
 fn a_disk_fails_with_objects(rt: HostRuntime) -> Result<(), Fail> {
-    let stops = count_stops(&rt, rt.alloc(), &WITH_OBJECTS, Failing::First)?;
+    let stops = count_stops(&rt, rt.alloc(), &WITH_OBJECTS, NO_FILES, Failing::First)?;
     check(
         &rt,
         &stops,
         &STOPS_OF_FIRST,
         "stops of the first disk, with objects",
     );
-    let stops = count_stops(&rt, rt.alloc(), &WITH_OBJECTS, Failing::Second)?;
+    let stops = count_stops(&rt, rt.alloc(), &WITH_OBJECTS, NO_FILES, Failing::Second)?;
     check(
         &rt,
         &stops,
@@ -417,9 +439,15 @@ fn check_part(
     Ok(())
 }
 
-/// Looks at each moment of each part of a plan.
-fn check_each_moment(rt: &impl Abort, alloc: Global, plan: &Plan) -> Result<(), Fail> {
-    let mut ended = handle_plan(alloc, plan, empty_disks(alloc), (u64::MAX, u64::MAX))?;
+/// Looks at each moment of each part of a plan over disks with these files.
+fn check_each_moment(
+    rt: &impl Abort,
+    alloc: Global,
+    plan: &Plan,
+    files: Files,
+) -> Result<(), Fail> {
+    let disks = disks_of(alloc, files.0, files.1)?;
+    let mut ended = handle_plan(alloc, plan, disks, (u64::MAX, u64::MAX))?;
     check(rt, &ended.done, &plan.parts(), "parts");
     let (_, first, second) = plan.reached_after(plan.parts());
     let calls = (ended.first.calls(), ended.second.calls());
@@ -433,10 +461,38 @@ fn check_each_moment(rt: &impl Abort, alloc: Global, plan: &Plan) -> Result<(), 
 
 #[test]
 fn each_moment_of_a_life(rt: HostRuntime) -> Result<(), Fail> {
-    check_each_moment(&rt, rt.alloc(), &FROM_NOTHING)
+    check_each_moment(&rt, rt.alloc(), &FROM_NOTHING, NO_FILES)
 }
 
 #[test]
 fn each_moment_of_a_life_with_objects(rt: HostRuntime) -> Result<(), Fail> {
-    check_each_moment(&rt, rt.alloc(), &WITH_OBJECTS)
+    check_each_moment(&rt, rt.alloc(), &WITH_OBJECTS, NO_FILES)
+}
+
+#[test]
+fn each_moment_of_a_store_of_version_one(rt: HostRuntime) -> Result<(), Fail> {
+    check_each_moment(&rt, rt.alloc(), &FROM_VERSION_ONE, VERSION_ONE)
+}
+
+#[test]
+fn a_disk_of_a_store_of_version_one_fails(rt: HostRuntime) -> Result<(), Fail> {
+    let (plan, files) = (&FROM_VERSION_ONE, VERSION_ONE);
+    // An opening syncs, looks twice, and reads the lengths and the bytes of the image and two records. Opened again the
+    // first file is the older generation, and only looked at.
+    let stops = count_stops(&rt, rt.alloc(), plan, files, Failing::First)?;
+    check(
+        &rt,
+        &stops,
+        &(1 + 2 + 3 * 2 + 1 + 2),
+        "stops of the first disk",
+    );
+    // An opening looks at it, and installs; a record is added; then it is current, and read; and a record more.
+    let stops = count_stops(&rt, rt.alloc(), plan, files, Failing::Second)?;
+    check(
+        &rt,
+        &stops,
+        &(1 + 2 + 4 + 4 + (1 + 2 + 2 * 2) + 4),
+        "stops of the second disk",
+    );
+    Ok(())
 }

@@ -15,7 +15,7 @@ use Rattle.ash_steps.specs.Requests.{Request, Load, Call, Discard, Get, Object, 
 use Rattle.ash_steps.specs.Requests.{ShownAs}
 use Rattle.ash_steps.specs.Requests.{Number, Done, Refused, SequenceSpent, BadName, ModuleTaken, TooManyModules}
 use Rattle.ash_steps.specs.Requests.{NoModule}
-use Rattle.ash_steps.specs.Requests.{NoFunction, NotCallable, BadArguments, NoGlobal, NoObject, DeviceFailed, NoMemory}
+use Rattle.ash_steps.specs.Requests.{NoFunction, NotCallable, BadArguments, NoGlobal, NoObject, DeviceFailed}
 use Rattle.ash_steps.specs.Tasks.{Task, Initialize, Invoke, Remove, Read, Show, Count, Rewrite, TaskResult, require}
 use Rattle.ash_steps.specs.Tasks.{require_some, initialize, call_in, tree_of, word_named, described, is_module_name}
 use Rattle.ash_steps.specs.Tasks.{is_callable, arguments_of, max_modules, max_seq}
@@ -23,7 +23,6 @@ use Rattle.ash_steps.specs.Tasks as tasks
 use Rattle.ash_steps.specs.Steps.{Step, perform, unless_refused, after_load, after_load_with, after_call, after_discard}
 use Rattle.ash_steps.specs.Steps as steps
 use Rattle.ash_plain_steps.specs.StepViews.{IsChange}
-use Rattle.ash_registry.specs.Registrations.{Registration}
 use Rattle.ash_sources.specs.SourceFaults.{SourceFault}
 use Rattle.ash_states.specs.States.{HostState, embedding_for}
 use Rattle.ash_states.specs.Steps.{Steps, task_of, step, outcome_of, no_hosts}

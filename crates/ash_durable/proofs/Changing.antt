@@ -1,5 +1,5 @@
 -- Which requests change the state, and which take no ticks.
-use Rattle.std.proofs.Common.{◌≡◌, inl, inr, ℕ, nat_lt, List, Option, Some, None, Ok, Err, refl, sym, ◌∙◌, ap, subst}
+use Rattle.std.proofs.Common.{◌≡◌, inl, inr, ℕ, nat_lt, List, Option, Some, None, Ok, Err, refl, ◌∙◌, ap, subst}
 use Rattle.std.proofs.Common.{option_map}
 use Rattle.std.specs.Option.{option_and_then}
 use Rattle.ash_disk.specs.Device.{Device}

@@ -1,5 +1,5 @@
 -- A state in a journal, by what the journal's calls say of bytes.
-use Rattle.std.proofs.Common.{◌≡◌, ℕ, ◌+◌, List, [], ◌∷◌, ◌++◌, length, Ok, Err, refl, sym}
+use Rattle.std.proofs.Common.{◌≡◌, ℕ, ◌+◌, List, [], ◌∷◌, ◌++◌, length, Ok, Err, sym}
 use Rattle.ash_disk.specs.Device.{Device}
 use Rattle.ash_journal.specs.declared.journal.Journal.{Journal}
 use Rattle.ash_journal.specs.Current.{IsContents, HoldsOneOf}
@@ -9,23 +9,11 @@ use Rattle.ash_journal.specs.Runs.{HoldsSince, Extends}
 use Rattle.ash_states.specs.States.{HostState}
 use Rattle.ash_plain_steps.specs.declared.request.Refusal.TheVariants as the
 use Rattle.ash_durable.specs.Saving.{Adds, Installs, last_generation}
-use Rattle.ash_states.specs.Images.{IsImageOf, IsBodyOf}
-use Rattle.ash_durable.specs.States.{HoldsState, GoesOn, BeginsAnew, Leads}
+use Rattle.ash_state_image.specs.declared.version.Version.TheVariants.{Two}
+use Rattle.ash_states.specs.Images.{IsImageIn, IsBodyIn}
+use Rattle.ash_durable.specs.States.{HoldsState, GoesOn, BeginsAnew}
 use Rattle.ash_durable.proofs.Settling.{record_goes_on, image_begins_anew}
-use Rattle.ash_durable.proofs.ContentsStates.{state_of_alone, state_of_push}
-
--- a body leads to its state from every state with the same registered
-pub leads_from : (body : List ℕ) (before state : HostState) → before.registered ≡ state.registered
-    → Leads body state state
-    → Leads body before state
-leads_from body before state same leads = record {
-  registered = sym same;
-  is_body = leads.is_body;
-}
-
--- a state leads to itself by its body
-pub leads_itself : (body : List ℕ) (state : HostState) → IsBodyOf body state → Leads body state state
-leads_itself body state is_body = record { registered = refl; is_body = is_body }
+use Rattle.ash_durable.proofs.ContentsStates.{alone_in, push_in, state_of_alone, state_of_push}
 
 module _ {D : Type 0} (device : Device D) (state : HostState) (old new : Journal D) where
   -- what is said of the disks, whatever came of a call
@@ -35,51 +23,52 @@ module _ {D : Type 0} (device : Device D) (state : HostState) (old new : Journal
     pub honesty_first : device.honest (first_disk new) ≡ device.honest (first_disk old)
     pub honesty_second : device.honest (second_disk new) ≡ device.honest (second_disk old)
 
-  added_moments : (body : List ℕ) → Leads body state state
+  added_moments : (body : List ℕ) → IsBodyIn Two body state
       → ((image : List ℕ) (bodies : List (List ℕ)) → Holds device old image bodies
       → Extends device (first_disk old) (second_disk old) (first_disk new) (second_disk new)
       (IsContents (image, bodies ++ body ∷ []))) → (before : HostState) → before.registered ≡ state.registered
       → HoldsState device before old → GoesOn device before state old new
-  added_moments body leads extends before same holds =
-      record_goes_on device before state holds.contents.0 body holds.contents.1 old new holds.is_state
-      (leads_from body before state same leads) (extends holds.contents.0 holds.contents.1 holds.holds)
+  added_moments body is_body extends before same holds =
+      record_goes_on device before state holds.contents.0 body holds.contents.1 old new holds.is_state holds.in_two
+      (sym same) is_body (extends holds.contents.0 holds.contents.1 holds.holds)
 
-  pub adds : (body : List ℕ) → Leads body state state
+  pub adds : (body : List ℕ) → IsBodyIn Two body state
       → ((image : List ℕ) (bodies : List (List ℕ)) → Holds device old image bodies
       → Extends device (first_disk old) (second_disk old) (first_disk new) (second_disk new)
       (IsContents (image, bodies ++ body ∷ [])))
       → ((image : List ℕ) (bodies : List (List ℕ)) → Holds device old image bodies
       → Holds device new image (bodies ++ body ∷ [])) → IsReady new → generation new ≡ generation old
       → record_bytes new ≡ record_bytes old + 5 + length body → Disks ⊥ → Adds device state old (Ok tt) new
-  adds body leads extends acknowledged ready number longer disks = record {
-    outcome = (ready, record { same = number; body = body; is_body = leads.is_body; longer = longer });
+  adds body is_body extends acknowledged ready number longer disks = record {
+    outcome = (ready, record { same = number; body = body; is_body = is_body; longer = longer });
     holds = λ before same holds. record {
       contents = (holds.contents.0, holds.contents.1 ++ body ∷ []);
       holds = acknowledged holds.contents.0 holds.contents.1 holds.holds;
-      is_state = state_of_push before state holds.contents.0 holds.contents.1 body holds.is_state
-          (leads_from body before state same leads);
+      is_state = state_of_push before state holds.contents.0 holds.contents.1 body holds.is_state holds.in_two (sym same)
+          is_body;
+      in_two = push_in Two holds.contents.0 holds.contents.1 body state holds.in_two is_body;
     };
-    moments = added_moments body leads extends;
+    moments = added_moments body is_body extends;
     failures = disks.failures;
     honesty_first = disks.honesty_first;
     honesty_second = disks.honesty_second;
   }
 
-  pub adds_not : (body : List ℕ) → Leads body state state
+  pub adds_not : (body : List ℕ) → IsBodyIn Two body state
       → ((image : List ℕ) (bodies : List (List ℕ)) → Holds device old image bodies
       → Extends device (first_disk old) (second_disk old) (first_disk new) (second_disk new)
       (IsContents (image, bodies ++ body ∷ []))) → HasFailed new → Disks (Unit {0})
       → Adds device state old (Err the.DeviceFailed) new
-  adds_not body leads extends failed disks = record {
+  adds_not body is_body extends failed disks = record {
     outcome = failed;
     holds = tt;
-    moments = added_moments body leads extends;
+    moments = added_moments body is_body extends;
     failures = disks.failures;
     honesty_first = disks.honesty_first;
     honesty_second = disks.honesty_second;
   }
 
-  installed_moments : (image : List ℕ) → IsImageOf image state
+  installed_moments : (image : List ℕ) → IsImageIn Two image state
       → ((was : List ℕ) (bodies : List (List ℕ)) → Holds device old was bodies
       → HoldsSince device (device.clock (first_disk old)) (device.clock (second_disk old)) (first_disk new)
       (second_disk new)
@@ -89,7 +78,7 @@ module _ {D : Type 0} (device : Device D) (state : HostState) (old new : Journal
       image_begins_anew device state image holds.contents.0 holds.contents.1 old new holds.is_state depicts
       (run holds.contents.0 holds.contents.1 holds.holds)
 
-  pub installs : (image : List ℕ) → IsImageOf image state
+  pub installs : (image : List ℕ) → IsImageIn Two image state
       → ((was : List ℕ) (bodies : List (List ℕ)) → Holds device old was bodies
       → HoldsSince device (device.clock (first_disk old)) (device.clock (second_disk old)) (first_disk new)
       (second_disk new)
@@ -102,7 +91,8 @@ module _ {D : Type 0} (device : Device D) (state : HostState) (old new : Journal
     holds = λ holds. record {
       contents = (image, []);
       holds = installed holds.contents.0 holds.contents.1 holds.holds;
-      is_state = state_of_alone state image depicts;
+      is_state = state_of_alone Two state image depicts;
+      in_two = alone_in Two state image depicts;
     };
     moments = installed_moments image depicts run;
     failures = disks.failures;
@@ -110,7 +100,7 @@ module _ {D : Type 0} (device : Device D) (state : HostState) (old new : Journal
     honesty_second = disks.honesty_second;
   }
 
-  pub installs_not : (image : List ℕ) → IsImageOf image state
+  pub installs_not : (image : List ℕ) → IsImageIn Two image state
       → ((was : List ℕ) (bodies : List (List ℕ)) → Holds device old was bodies
       → HoldsSince device (device.clock (first_disk old)) (device.clock (second_disk old)) (first_disk new)
       (second_disk new)

@@ -14,7 +14,7 @@ use Rattle.ash_states.specs.Steps.{Steps, task_of}
 use Rattle.ash_durable.specs.States.{HoldsState}
 use Rattle.ash_durable.specs.Saving.{HostRefusal, IsFailure}
 use Rattle.ash_durable.specs.Hosting.{Hosted, first, second, state_unless, IsRunning, IsSaved, IsHonest, Settles}
-use Rattle.ash_durable.specs.Hosting.{IsAnswer, IsDeviceFailed, HasStopped, Replies, Handles, reply_stopped}
+use Rattle.ash_durable.specs.Hosting.{IsAnswer, IsDeviceFailed, Replies, Handles, reply_stopped}
 use Rattle.ash_durable.specs.Replies.{refused_by}
 use Rattle.ash_durable.specs.Requests.{Commits}
 use Rattle.ash_durable.proofs.Answering.{leaves, steps-fine, steps-registered, answer_changes}

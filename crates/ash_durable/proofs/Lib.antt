@@ -15,6 +15,7 @@ pub mod LivesOn
 pub mod LongSources
 pub mod Making
 pub mod Mishaps
+pub mod Moving
 pub mod Opened
 pub mod Outcomes
 pub mod Reading

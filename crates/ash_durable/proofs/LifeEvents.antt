@@ -14,13 +14,15 @@ use Rattle.ash_registry.specs.Registrations.{Registration}
 use Rattle.ash_durable.specs.Hosting.{Hosted, first, second, IsRunning, IsSaved, IsHonest, IsAnswer, Handles}
 use Rattle.ash_durable.specs.States.{AreHonest, SettleNow, IsOne, IsEither, HaveState}
 use Rattle.ash_durable.specs.Store.{WereOnlyRead, IsClosedOrHasState, MakesOrNot, WasCreated}
-use Rattle.ash_durable.specs.Store.{Creates, AddNothing, WasOpened, WasNotFound, Opens}
+use Rattle.ash_durable.specs.Store.{Creates, AddNothing, WasOpened, WasNotFound, Opens, first_found, second_found}
+use Rattle.ash_durable.specs.Store.{NotFound, LeftThere}
 use Rattle.ash_durable.specs.Lives.{Event, Acknowledged, InDoubt, Found, Takes, LeadTo}
 use Rattle.ash_durable.specs.Lives.{Crashed, AreFresh, IsOneOpen, first_of, second_of, Place, UnderHost}
 use Rattle.ash_durable.specs.Lives.{OnDisks, first_at, second_at, IsWhole, Outlives}
 use Rattle.ash_durable.specs.declared.fault.OpenRefused.{OpenRefused}
 use Rattle.ash_durable.proofs.Settling.{settle_on_more, settle_now, settle_still}
 use Rattle.ash_durable.proofs.Answering.{leaves}
+use Rattle.ash_durable.proofs.Opened.{kept_back}
 use Rattle.ash_durable.proofs.RequestOutcomes.{lead_registered, handled_or_stopped, stopped_answer}
 use Rattle.ash_durable.proofs.CrashedDisks.{runs_once, same_honesty, settle_crashed, settle_read, settle_swapped, held}
 
@@ -234,14 +236,15 @@ module _ {D : Type 0} (device : Device D) (registered : List Registration) where
         | inl s_is ↦ subst (LeadTo events (empty registered)) (sym s_is) before.whole.s_led
         | inr t_is ↦ subst (LeadTo events (empty registered)) (sym t_is) before.whole.t_led
       ] in
-      runs_in (Found was.state ∷ events) host was.state (was.running.registered_is ∙ was.found.registered_is)
-      (same_honesty device a b (first host) (second host)
-      before.honest was.found.disks.honesty_first was.found.disks.honesty_second)
+      let back = kept_back device registered a b was.state host.journal was.kept.old was.kept.version was.kept.found
+      was.kept.keeps in
+      runs_in (Found was.state ∷ events) host was.state (was.running.registered_is ∙ was.kept.found.registered_is)
+      (same_honesty device a b (first host) (second host) before.honest back.honesty_first back.honesty_second)
       (was.saved before.honest) was.running (was.state, led, (refl, refl))
 
-  pub refused : (events : List Event) (others : List Registration) (a b : D) (r : OpenRefused D) → Rested events a b
+  pub not_found : (events : List Event) (others : List Registration) (a b : D) (r : OpenRefused D) → Rested events a b
       → WasNotFound device others a b r → Rested events r.a r.b
-  refused events others a b r before was =
+  not_found events others a b r before was =
       rests_on events r.a r.b (same_honesty device a b r.a r.b before.honest was.disks.honesty_first
       was.disks.honesty_second)
       (still_whole events a b r.a r.b before.whole
@@ -250,21 +253,25 @@ module _ {D : Type 0} (device : Device D) (registered : List Registration) where
       (was.moments before.honest) before.whole.settled)))
 
   opening_adds_nothing : (others : List Registration) (a b : D) (result : Result (Hosted D) (OpenRefused D))
-      → Opens device others a b result → AddNothing device a b (first_of result) (second_of result)
-  opening_adds_nothing others a b (Ok host) was = was.found.moments
-  opening_adds_nothing others a b (Err r) was = was.moments
+      (opens : Opens device others a b result)
+      → AddNothing device a b (first_found device others a b result opens)
+      (second_found device others a b result opens)
+  opening_adds_nothing others a b (Ok host) was = was.kept.found.moments
+  opening_adds_nothing others a b (Err r) (NotFound was) = was.moments
+  opening_adds_nothing others a b (Err r) (LeftThere was) = was.found.moments
 
   pub crashed_opening : (events : List Event) (others : List Registration) (a b : D)
-      (result : Result (Hosted D) (OpenRefused D)) (a' b' : D) → Rested events a b → Opens device others a b result
-      → Crashed device (device.clock a) (device.clock b) (first_of result) (second_of result) a' b'
-      → Rested events a' b'
+      (result : Result (Hosted D) (OpenRefused D)) (a' b' : D) → Rested events a b
+      → (opens : Opens device others a b result)
+      → Crashed device (device.clock a) (device.clock b) (first_found device others a b result opens)
+      (second_found device others a b result opens) a' b' → Rested events a' b'
   crashed_opening events others a b result a' b' before opens crash =
+      let x = first_found device others a b result opens in
+      let y = second_found device others a b result opens in
       rests_on events a' b' crash.honest (still_whole events a b a' b' before.whole
-      (settle_crashed device (device.clock a) (device.clock b) (first_of result) (second_of result) a' b'
-      (IsEither before.whole.s before.whole.t)
-      (settle_still device (device.clock a) (device.clock b) a b (first_of result) (second_of result)
-      (IsEither before.whole.s before.whole.t) (opening_adds_nothing others a b result opens before.honest)
-      before.whole.settled) crash))
+      (settle_crashed device (device.clock a) (device.clock b) x y a' b' (IsEither before.whole.s before.whole.t)
+      (settle_still device (device.clock a) (device.clock b) a b x y (IsEither before.whole.s before.whole.t)
+      (opening_adds_nothing others a b result opens before.honest) before.whole.settled) crash))
 
   pub looked : (events : List Event) (a b a' b' : D) → Rested events a b → WereOnlyRead device a b a' b'
       → Rested events a' b'

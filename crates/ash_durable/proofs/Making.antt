@@ -19,13 +19,14 @@ use Rattle.ash_journal.proofs.ReadLaws.{rested_read}
 use Rattle.ash_journal.proofs.SettleLaws.{settle_more}
 use Rattle.ash_states.specs.States.{HostState}
 use Rattle.ash_durable.specs.Faults.{creating_fault}
-use Rattle.ash_states.specs.Images.{IsImageOf}
+use Rattle.ash_state_image.specs.declared.version.Version.TheVariants.{Two}
+use Rattle.ash_states.specs.Images.{IsImageIn}
 use Rattle.ash_durable.specs.States.{AreHonest, IsOne, IsStateOf, HaveState}
 use Rattle.ash_durable.specs.Store.{IsFailed, HandsBack, WereOnlyRead, AreClosed, MakesOrNot, WasMade, NotMadeFor}
 use Rattle.ash_durable.specs.Store.{WasNotMade}
 use Rattle.ash_durable.specs.declared.fault.StoreFault.{StoreFault}
 use Rattle.ash_durable.proofs.Finding.{handed_on}
-use Rattle.ash_durable.proofs.ContentsStates.{state_of_alone}
+use Rattle.ash_durable.proofs.ContentsStates.{alone_in, state_of_alone}
 
 -- ---- files that are closed
 
@@ -99,7 +100,7 @@ module _ {D : Type 0} (device : Device D) where
       )
 
   -- and then a journal was created, or it was not
-  module _ (state : HostState) (image : List ℕ) (depicts : IsImageOf image state) (a b one two : D)
+  module _ (state : HostState) (image : List ℕ) (depicts : IsImageIn Two image state) (a b one two : D)
       (read : WereOnlyRead device a b one two) (back : HandsBack device ⊥ a b one two)
       (closed : AreHonest device a b → AreClosed device a b) where
     creates : (a' b' : D) → ((p q : ℕ) → IsTrue (device.honest one) → IsTrue (device.honest two)
@@ -114,7 +115,7 @@ module _ {D : Type 0} (device : Device D) where
         elim made [
           | inl none ↦ inl none
           | inr settle ↦ inr (settle_more (IsContents (image, [])) (HaveState (IsOne state))
-              (λ contents same. (state, refl, subst (IsStateOf state) (sym same) (state_of_alone state image depicts)))
+              (λ contents same. (state, refl, subst (IsStateOf state) (sym same) (state_of_alone Two state image depicts)))
               x y settle)
         ]
 
@@ -136,7 +137,8 @@ module _ {D : Type 0} (device : Device D) where
           record {
             contents = (image, []);
             holds = holds is.honest_first is.honest_second;
-            is_state = state_of_alone state image depicts;
+            is_state = state_of_alone Two state image depicts;
+            in_two = alone_in Two state image depicts;
           };
       moments = creates (first_disk journal) (second_disk journal) moments;
       disks = handed_on device ⊥ a b one two (first_disk journal) (second_disk journal) back disks;

@@ -1,12 +1,15 @@
--- Files that represent contents of a state are refused because memory ran out or a device failed, and for nothing else.
+-- Files that represent contents of a state are refused because memory ran out, a device failed or their version 1 has no
+-- further generation, and for nothing else.
 use Rattle.std.proofs.Common.{◌≡◌, inl, inr, ℕ, List, Err, subst}
 use Rattle.ash_journal.specs.Current.{Contents, Represent}
 use Rattle.ash_journal.proofs.SettleLaws.{represent_once}
+use Rattle.ash_state_image.specs.declared.version.Version.TheVariants.{One, Two}
 use Rattle.ash_states.specs.States.{HostState}
 use Rattle.ash_registry.specs.Registrations.{Registration}
 use Rattle.ash_durable.specs.Contents.{ReadsAs}
-use Rattle.ash_durable.specs.States.{IsStateOf}
-use Rattle.ash_durable.specs.Store.{StoreFaultIs, IsMishap}
+use Rattle.ash_durable.specs.States.{AreIn, IsStateOf}
+use Rattle.ash_durable.specs.Store.{StoreFaultIs, IsSpent, IsMishap, MayRefuse}
+use Rattle.ash_durable.proofs.ContentsStates.{version_once}
 use Rattle.ash_durable.specs.declared.fault.StoreFault.{StoreFault}
 use Rattle.ash_durable.specs.declared.fault.StoreFault.TheVariants as faults
 use Rattle.ash_durable.proofs.Faultless.{represent_open, represent_sound, represent_whole}
@@ -24,9 +27,10 @@ misread registered state contents other fault x y with_it is is_state other_is r
 pub only_mishaps : (registered : List Registration) (state : HostState) (contents : Contents) (fault : StoreFault)
     (x y : List ℕ)
     → state.registered ≡ registered → Represent contents x y → IsStateOf state contents
-    → StoreFaultIs registered fault x y → IsMishap fault
+    → StoreFaultIs registered fault x y → MayRefuse fault
 only_mishaps registered state contents faults.NoMemory x y with_it is is_state cause = tt
 only_mishaps registered state contents faults.DeviceFailed x y with_it is is_state cause = tt
+only_mishaps registered state contents faults.GenerationSpent x y with_it is is_state cause = tt
 only_mishaps registered state contents faults.NoGeneration x y with_it is is_state cause =
     absurd (represent_open contents x y is cause)
 only_mishaps registered state contents (faults.Damaged at) x y with_it is is_state (inl unsound) =
@@ -43,3 +47,25 @@ only_mishaps registered state contents faults.OtherInterface x y with_it is is_s
     misread registered state contents other faults.OtherInterface x y with_it is is_state other_is others in
     absurd (cc)
 only_mishaps registered state contents faults.AlreadyThere x y with_it is is_state cause = absurd cause
+
+-- what is in version 2 is not in version 1
+two_one : (contents other : Contents) → other ≡ contents → AreIn Two contents → AreIn One other → ⊥
+two_one contents other same two one =
+    let here = subst (AreIn One) same one in
+    let is : Two ≡ One = version_once contents.0 Two One two.image.0 here.image.0 two.image.1 here.image.1 in
+    absurd (cc)
+
+-- files that are in version 2 are not refused for want of a generation
+pub never_spent : (registered : List Registration) (contents : Contents) (x y : List ℕ) → Represent contents x y
+    → AreIn Two contents → IsSpent registered x y → ⊥
+never_spent registered contents x y is two spent =
+    two_one contents spent.contents (represent_once spent.contents contents x y spent.represented is) two spent.in_one
+
+-- so they are refused for a mishap
+pub mishap : (registered : List Registration) (fault : StoreFault) (contents : Contents) (x y : List ℕ)
+    → Represent contents x y → AreIn Two contents → StoreFaultIs registered fault x y → MayRefuse fault → IsMishap fault
+mishap registered faults.GenerationSpent contents x y is two cause may =
+    absurd (never_spent registered contents x y is two cause)
+mishap registered faults.NoMemory contents x y is two cause may = may
+mishap registered faults.DeviceFailed contents x y is two cause may = may
+mishap registered _ contents x y is two cause may = absurd may

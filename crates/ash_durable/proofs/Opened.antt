@@ -1,18 +1,30 @@
 -- What a host has that was made or opened.
-use Rattle.std.proofs.Common.{◌≡◌, inl, inr, zero, List, Some, Result, Ok, Err, refl, sym, ◌∙◌, ap, subst, arith}
+use Rattle.std.proofs.Common.{◌≡◌, inl, inr, zero, List, [], Some, Result, Ok, Err, refl, sym, ◌∙◌, ap, subst, arith}
 use Rattle.std.specs.Bool.{IsTrue}
 use Rattle.ash_disk.specs.Device.{Device}
 use Rattle.ash_journal.specs.declared.journal.Journal.{Journal}
 use Rattle.ash_journal.specs.Current.{Contents, Represent}
-use Rattle.ash_journal.specs.Journal.{first_disk, second_disk}
+use Rattle.ash_journal.specs.Journal.{first_disk, second_disk, IsReady}
+use Rattle.ash_state_image.specs.declared.version.Version.{Version}
+use Rattle.ash_state_image.specs.declared.version.Version.TheVariants.{One, Two}
 use Rattle.ash_states.specs.States.{HostState, empty}
 use Rattle.ash_registry.specs.Registrations.{Registration}
 use Rattle.ash_durable.specs.Hosting.{Hosted, first, second, IsRunning}
-use Rattle.ash_durable.specs.States.{AreHonest, HoldsState, IsOne, IsEither}
-use Rattle.ash_durable.specs.Store.{HandsBack, WasMade, WasCreated, WasFound, WasOpened, Opens, OpensAgain}
+use Rattle.ash_durable.specs.States.{AreHonest, HoldsState, SettleNow, IsOne, IsEither}
+use Rattle.ash_durable.specs.Store.{IsFailed, HandsBack, WasMade, WasCreated, WasFound, Keeps, WasKept, WasOpened, Opens}
+use Rattle.ash_durable.specs.Store.{IsMishap, OpensAgain, NotFound, LeftThere}
 use Rattle.ash_durable.specs.declared.fault.OpenRefused.{OpenRefused}
-use Rattle.ash_durable.proofs.Mishaps.{only_mishaps}
+use Rattle.ash_durable.specs.declared.fault.StoreFault.{StoreFault}
+use Rattle.ash_durable.specs.declared.fault.StoreFault.TheVariants as faults
+use Rattle.ash_durable.proofs.ContentsStates.{alone_in, state_of_alone}
+use Rattle.ash_durable.proofs.Finding.{handed_on}
+use Rattle.ash_durable.proofs.Mishaps.{only_mishaps, mishap}
 use Rattle.ash_durable.proofs.Settling.{settle_on_more, settled_state, holds_now}
+
+-- the failure of a device is a mishap
+pub failed_mishap : (fault : StoreFault) → IsFailed fault → IsMishap fault
+failed_mishap faults.DeviceFailed failed = tt
+failed_mishap _ failed = absurd failed
 
 -- a host runs in one state
 pub runs_once : {D : Type 0} (host : Hosted D) (s t : HostState) → IsRunning s host → IsRunning t host → s ≡ t
@@ -37,27 +49,73 @@ created device registered a b host running made = record {
       (made.holds (honest_before device ⊥ a b (first host) (second host) made.disks honest));
 }
 
+-- the disks of a state that was found and is kept
+pub kept_back : {D : Type 0} (device : Device D) (registered : List Registration) (a b : D) (state : HostState)
+    (journal old : Journal D) (version : Version) → WasFound device registered a b version state old
+    → Keeps device version state old journal
+    → HandsBack device ⊥ a b (first_disk journal) (second_disk journal)
+kept_back device registered a b state journal old One found moved =
+    handed_on device ⊥ a b (first_disk old) (second_disk old) (first_disk journal) (second_disk journal) found.disks
+    moved.disks
+kept_back {D} device registered a b state journal old Two found same =
+    subst (λ (j : Journal D). HandsBack device ⊥ a b (first_disk j) (second_disk j)) (sym same) found.disks
+
+-- it is ready
+pub kept_ready : {D : Type 0} (device : Device D) (registered : List Registration) (a b : D) (state : HostState)
+    (journal old : Journal D) (version : Version) → WasFound device registered a b version state old
+    → Keeps device version state old journal → IsReady journal
+kept_ready device registered a b state journal old One found moved = moved.ready
+kept_ready device registered a b state journal old Two found same = subst IsReady (sym same) found.ready
+
+-- its files hold it in version 2
+kept_holds : {D : Type 0} (device : Device D) (registered : List Registration) (a b : D) (state : HostState)
+    (journal old : Journal D) (version : Version) → WasFound device registered a b version state old
+    → Keeps device version state old journal → AreHonest device a b → HoldsState device state journal
+kept_holds device registered a b state journal old One found moved honest =
+    let holds = found.holds honest in
+    record {
+      contents = (moved.image, []);
+      holds = moved.holds holds.contents holds.holds;
+      is_state = state_of_alone Two state moved.image moved.is_image;
+      in_two = alone_in Two state moved.image moved.is_image;
+    }
+kept_holds {D} device registered a b state journal old Two found same honest =
+    let holds = found.holds honest in
+    subst (λ (j : Journal D). HoldsState device state j) (sym same)
+    (record {
+      contents = holds.contents;
+      holds = holds.holds;
+      is_state = holds.is_state;
+      in_two = holds.in_version;
+    })
+
 module _ {D : Type 0} (device : Device D) (stays : (disk : D) → IsTrue (device.honest disk)
     → device.leaves disk (device.clock disk) (device.seen disk)) where
+  -- what is found is one of two states that the files settled on
+  found_either : (registered : List Registration) (a b : D) (version : Version) (state : HostState) (journal : Journal D)
+      → WasFound device registered a b version state journal → (s t : HostState) → AreHonest device a b
+      → s.registered ≡ registered → t.registered ≡ registered → SettleNow device a b (IsEither s t)
+      → IsEither s t state
+  found_either registered a b version state journal found s t honest s_with t_with settle =
+      let holds = found.holds honest in
+      settled_state device (device.clock a) (device.clock b) a b (IsEither s t) holds.contents state (device.seen a)
+      (device.seen b) (stays a honest.honest_first) (stays b honest.honest_second)
+      settle holds.represented holds.is_state
+      (λ u either. elim either [
+        | inl is ↦ ap (λ (q : HostState). q.registered) is ∙ s_with ∙ sym found.registered_is
+        | inr is ↦ ap (λ (q : HostState). q.registered) is ∙ t_with ∙ sym found.registered_is
+      ])
+
   pub opened : (registered : List Registration) (a b : D) (state : HostState) (host : Hosted D) → IsRunning state host
-      → WasFound device registered a b state host.journal → WasOpened device registered a b host
-  opened registered a b state host running found = record {
+      → WasKept device registered a b state host.journal → WasOpened device registered a b host
+  opened registered a b state host running kept = record {
     state = state;
     running = running;
-    found = found;
-    same = λ s t honest s_with t_with settle.
-        let holds = found.holds honest in
-        settled_state device (device.clock a) (device.clock b) a b (IsEither s t) holds.contents state (device.seen a)
-        (device.seen b) (stays a honest.honest_first) (stays b honest.honest_second)
-        settle holds.represented holds.is_state
-        (λ u either. elim either [
-          | inl is ↦ ap (λ (q : HostState). q.registered) is ∙ s_with ∙ sym found.registered_is
-          | inr is ↦ ap (λ (q : HostState). q.registered) is ∙ t_with ∙ sym found.registered_is
-        ]);
+    kept = kept;
+    same = found_either registered a b kept.version state kept.old kept.found;
     saved = λ honest still other runs.
-        let holds = found.holds honest in
         subst (λ (s : HostState). HoldsState device s host.journal) (runs_once host state other running runs)
-        (record { contents = holds.contents; holds = holds.holds; is_state = holds.is_state });
+        (kept_holds device registered a b state host.journal kept.old kept.version kept.found kept.keeps honest);
   }
 
   -- the files of a journal that holds contents represent them as they read
@@ -77,7 +135,7 @@ module _ {D : Type 0} (device : Device D) (stays : (disk : D) → IsTrue (device
   pub opens_again : (host : Hosted D) (result : Result (Hosted D) (OpenRefused D))
       → Opens device host.registered (first host) (second host) result → OpensAgain device host result
   opens_again host (Ok new) opens = (
-    opens.running.registered_is ∙ opens.found.registered_is,
+    opens.running.registered_is ∙ opens.kept.found.registered_is,
     λ state honest runs saved.
         let with_it = sym runs.registered_is in
         let now = settle_on_more device (device.clock (first host)) (device.clock (second host)) (first host)
@@ -87,8 +145,12 @@ module _ {D : Type 0} (device : Device D) (stays : (disk : D) → IsTrue (device
         [ inl is ↦ is | inr is ↦ is ] in
         (subst (λ (s : HostState). IsRunning s new) same opens.running, opens.saved honest),
   )
-  opens_again host (Err refused) opens = λ state honest runs saved.
+  opens_again host (Err refused) (NotFound none) = λ state honest runs saved.
       let holds = saved honest state runs in
-      only_mishaps host.registered state holds.contents refused.fault (device.seen (first host))
-      (device.seen (second host)) (sym runs.registered_is) (held state host.journal honest holds) holds.is_state
-      (opens.cause honest)
+      let read = held state host.journal honest holds in
+      let x = device.seen (first host) in
+      let y = device.seen (second host) in
+      mishap host.registered refused.fault holds.contents x y read holds.in_two (none.cause honest)
+      (only_mishaps host.registered state holds.contents refused.fault x y (sym runs.registered_is) read holds.is_state
+      (none.cause honest))
+  opens_again host (Err refused) (LeftThere left) = λ state honest runs saved. failed_mishap refused.fault left.left.is_failed

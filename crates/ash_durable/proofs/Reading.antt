@@ -15,12 +15,12 @@ use Rattle.ash_state_image.specs.Snapshots.{Snapshot}
 use Rattle.ash_state_image.specs.Rules.{IsImage, IsBody, IsShaped}
 use Rattle.ash_state_image.specs.Views.{image_read}
 use Rattle.ash_states.specs.States.{HostState}
-use Rattle.ash_states.specs.Images.{IsDepicted, IsImageOf, IsBodyOf, IsRestored, state_of}
-use Rattle.ash_durable.specs.States.{Leads, LeadAll, IsStateOf}
+use Rattle.ash_states.specs.Images.{IsDepicted, IsImageOf, IsRestored, state_of}
+use Rattle.ash_durable.specs.States.{IsBodyAs, AreIn, Leads, LeadAll, IsStateOf}
 use Rattle.ash_durable.specs.Contents.{IsImageWith, IsBodyWith, AreShaped, IsAdmittedImage, IsAdmittedBody}
 use Rattle.ash_durable.specs.Contents.{IsNoImage, FirstWithout, after_image, IsMisshapen, IsNotAdmitted, ReadsAs}
 use Rattle.ash_durable.specs.Contents.{ReportsDamage, FirstRecordWithout, Restores, LeadsOn, LeadsThrough}
-use Rattle.ash_durable.proofs.ContentsStates.{image_once, body_once, lead_all_registered}
+use Rattle.ash_durable.proofs.ContentsStates.{image_once, version_once, body_once, body_version_once, lead_all_registered}
 use Rattle.ash_durable.specs.declared.fault.StoreFault.{StoreFault}
 use Rattle.ash_durable.specs.declared.fault.StoreFault.TheVariants as faults
 
@@ -71,21 +71,26 @@ reads_nothing image None is only = λ version s image_is.
     none_is_some {A = Version × Snapshot} (version, s) (only version s image_is)
 
 -- bytes have a text of what was registered by the body that is read of them
-pub has_body : (text body : List ℕ) (version : Version) (s : Snapshot) (has_it : Bool) → IsBody body version s
-    → IsTrue has_it ↔ (s.registered ≡ text) → IsTrue has_it ↔ IsBodyWith text body
-has_body text body version s has_it is same = (
-  λ yes. (version, s, is, same.0 yes),
-  λ with. same.1 (ap (λ (t : Snapshot). t.registered) (body_once body version with.0 s with.1 is with.2) ∙ with.3),
+pub has_body : (wanted : Version) (text body : List ℕ) (version : Version) (s : Snapshot) (has_it : Bool)
+    → IsBody body version s → IsTrue has_it ↔ ((version ≡ wanted) × (s.registered ≡ text))
+    → IsTrue has_it ↔ IsBodyWith wanted text body
+has_body wanted text body version s has_it is same = (
+  λ yes. let both = same.0 yes in
+      subst (λ (v : Version). IsBodyWith v text body) both.0 (s, is, both.1),
+  λ with. same.1 (
+    body_version_once body version wanted s with.0 is with.1,
+    ap (λ (t : Snapshot). t.registered) (body_once body version wanted s with.0 is with.1) ∙ with.2,
+  ),
 )
 
 -- bytes of which no body is read have none
-pub no_body_with : (text body : List ℕ) (found : Option StoredImage) → found ≡ None
+pub no_body_with : (wanted : Version) (text body : List ℕ) (found : Option StoredImage) → found ≡ None
     → ((version : Version) (s : Snapshot) → IsBody body version s → option_map image_read found ≡ Some (version, s))
-    → IsTrue false ↔ IsBodyWith text body
-no_body_with text body (Some stored) is only = absurd (cc)
-no_body_with text body None is only = (
+    → IsTrue false ↔ IsBodyWith wanted text body
+no_body_with wanted text body (Some stored) is only = absurd (cc)
+no_body_with wanted text body None is only = (
   λ no. absurd (cc),
-  λ with. absurd (none_is_some {A = Version × Snapshot} (with.0, with.1) (only with.0 with.1 with.2)),
+  λ with. absurd (none_is_some {A = Version × Snapshot} (wanted, with.0) (only wanted with.0 with.1)),
 )
 
 -- what was restored of a snapshot is the state that the snapshot is of
@@ -112,7 +117,7 @@ no_image registered image version s is none (state, with_it, (other, (t, is_too,
 
 no_body : (registered : List Registration) (body : List ℕ) (version : Version) (s : Snapshot)
     → IsBody body version s → IsRestored registered s None → IsAdmittedBody registered body → ⊥
-no_body registered body version s is none (state, with_it, (image, body_is, (other, (t, is_too, depicts)))) =
+no_body registered body version s is none (state, with_it, (other, (image, body_is, (t, is_too, depicts)))) =
     undepicted registered s t state none
     (body_once body other version t s (image, body_is, is_too) is) with_it depicts
 
@@ -129,7 +134,7 @@ pub leads_on : (registered : List Registration) (body : List ℕ) (version : Ver
     → Restores registered s gate result → LeadsOn registered body gate result
 leads_on registered body version s gate (Ok state) is text restore = (
   restore.0,
-  (is.0, is.1, (version, (s, is.2, depicted registered s state text restore))),
+  (version, (is.0, is.1, (s, is.2, depicted registered s state text restore))),
 )
 leads_on registered body version s gate (Err fault) is text restore =
     damage_is _ (λ at. (IsAdmittedBody registered body → ⊥) × (at ≡ gate))
@@ -173,14 +178,19 @@ through_registered registered before records (Err fault) same through = tt
 -- ---- all of it
 
 -- the image has this text of what was registered, and a record is none with that text
-pub reads_misshapen : (registered : List Registration) (text image : List ℕ) (records : List Record)
-    (fault : StoreFault)
-    → IsImageWith text image → AreAt (after_image image) records
-    → ReportsDamage (FirstRecordWithout (IsBodyWith text) records) fault
+pub reads_misshapen : (registered : List Registration) (version : Version) (text image : List ℕ)
+    (records : List Record) (fault : StoreFault)
+    → IsImageWith version text image → AreAt (after_image image) records
+    → ReportsDamage (FirstRecordWithout (IsBodyWith version text) records) fault
     → ReadsAs registered (image, bodies_of records) (Err fault)
-reads_misshapen registered text image records fault is_image placed reported =
-    reads_damage (FirstRecordWithout (IsBodyWith text) records) registered (image, bodies_of records) fault
-    (λ at without. inl (inr (text, is_image, first_at (IsBodyWith text) (after_image image) at records placed without)))
+reads_misshapen registered version text image records fault is_image placed reported =
+    reads_damage (FirstRecordWithout (IsBodyWith version text) records) registered (image, bodies_of records) fault
+    (λ at without. inl (inr (
+      version,
+      text,
+      is_image,
+      first_at (IsBodyWith version text) (after_image image) at records placed without,
+    )))
     reported
 
 -- a host with this registered may not be in the state of the image
@@ -193,15 +203,40 @@ reads_unadmitted registered image version s bodies fault is shaped reported =
     (λ at not. inr (shaped, inl (no_image registered image version s is not.0, not.1)))
     reported
 
--- the state to which records lead from that of the image
-pub reads_through : (registered : List Registration) (image : List ℕ) (records : List Record) (first : HostState)
-    (result : Result HostState StoreFault) → AreShaped (text_of registered) (image, bodies_of records)
-    → first.registered ≡ registered → IsImageOf image first → AreAt (after_image image) records
-    → LeadsThrough first records result → ReadsAs registered (image, bodies_of records) result
-reads_through registered image records first (Ok after) shaped same is_image placed through =
+-- bodies with a text of what was registered are bodies
+all_as : (version : Version) (text : List ℕ) (bodies : List (List ℕ))
+    → AllByRecursion (IsBodyWith version text) bodies → AllByRecursion (IsBodyAs version) bodies
+all_as version text [] all = tt
+all_as version text (body ∷ bodies) all = ((all.0.0, all.0.1), all_as version text bodies all.1)
+
+-- the state to which records lead from that of the image, in its version
+pub reads_through : (registered : List Registration) (version : Version) (text image : List ℕ) (records : List Record)
+    (first after : HostState) → IsImageWith version text image
+    → AllByRecursion (IsBodyWith version text) (bodies_of records)
+    → first.registered ≡ registered → IsImageOf image first → LeadsThrough first records (Ok after)
+    → ReadsAs registered (image, bodies_of records) (Ok (record { version = version; state = after }))
+reads_through registered version text image records first after with all same is_image through =
     let stored = lead_all_registered (bodies_of records) first after through in
-    (stored ∙ same, record { first = first; registered = sym stored; image = is_image; records = through })
-reads_through registered image records first (Err fault) shaped same is_image placed through =
+    let in_version : AreIn version (image, bodies_of records) =
+    record { image = (with.0, with.1); records = all_as version text (bodies_of records) all } in (
+      stored ∙ same,
+      record {
+        version = version;
+        in_version = in_version;
+        first = first;
+        registered = sym stored;
+        image = is_image;
+        records = through;
+      },
+      in_version,
+    )
+
+-- a record leads to no state that a host with this registered may be in
+pub reads_none : (registered : List Registration) (image : List ℕ) (records : List Record) (first : HostState)
+    (fault : StoreFault) → AreShaped (text_of registered) (image, bodies_of records)
+    → first.registered ≡ registered → IsImageOf image first → AreAt (after_image image) records
+    → LeadsThrough first records (Err fault) → ReadsAs registered (image, bodies_of records) (Err fault)
+reads_none registered image records first fault shaped same is_image placed through =
     reads_damage (FirstRecordWithout (IsAdmittedBody first.registered) records) registered (image, bodies_of records)
     fault
     (λ at without. inr (
@@ -226,20 +261,26 @@ none_without P offset at (body ∷ bodies) all without = elim without [
 ]
 
 -- a record that leads from a state has the text of what is registered in it
-body_with : (body : List ℕ) (before after : HostState) → Leads body before after
-    → IsBodyWith (text_of before.registered) body
-body_with body before after leads =
+body_with : (version : Version) (body : List ℕ) (before after : HostState) → IsBodyAs version body
+    → Leads body before after → IsBodyWith version (text_of before.registered) body
+body_with version body before after shape leads =
     let is = leads.is_body in
-    (is.2.0, is.2.1.0, (is.0, is.1, is.2.1.1), is.2.1.2.text_is ∙ ap text_of leads.registered)
+    let same : shape.0 ≡ is.1.2.0 = body_once body version is.0 shape.0 is.1.2.0 shape.1
+    (is.1.0, is.1.1, is.1.2.1) in (
+      shape.0,
+      shape.1,
+      ap (λ (s : Snapshot). s.registered) same ∙ is.1.2.2.text_is ∙ ap text_of leads.registered,
+    )
 
 -- and so have records, one after the other
-led_shaped : (bodies : List (List ℕ)) (before after : HostState) → LeadAll bodies before after
-    → AllByRecursion (IsBodyWith (text_of before.registered)) bodies
-led_shaped [] before after led = tt
-led_shaped (body ∷ bodies) before after led = (
-  body_with body before led.0 led.1,
-  subst (λ (of : List Registration). AllByRecursion (IsBodyWith (text_of of)) bodies) led.1.registered
-      (led_shaped bodies led.0 after led.2),
+led_shaped : (version : Version) (bodies : List (List ℕ)) (before after : HostState)
+    → AllByRecursion (IsBodyAs version) bodies → LeadAll bodies before after
+    → AllByRecursion (IsBodyWith version (text_of before.registered)) bodies
+led_shaped version [] before after shapes led = tt
+led_shaped version (body ∷ bodies) before after shapes led = (
+  body_with version body before led.0 shapes.0 led.1,
+  subst (λ (of : List Registration). AllByRecursion (IsBodyWith version (text_of of)) bodies) led.1.registered
+      (led_shaped version bodies led.0 after shapes.1 led.2),
 )
 
 -- they lead to states that a host with the same registered may be in
@@ -253,23 +294,27 @@ led_stored (body ∷ bodies) before after led = (
 )
 
 -- an image of a state has one text of what was registered
-text_once : (text image : List ℕ) (state : HostState) → IsImageOf image state → IsImageWith text image
-    → text ≡ text_of state.registered
-text_once text image state is with =
-    sym with.3 ∙ ap (λ (s : Snapshot). s.registered) (image_once image with.0 is.0 with.1 is.1.0 with.2 is.1.1)
+text_once : (version : Version) (text image : List ℕ) (state : HostState) → IsImageOf image state
+    → IsImageWith version text image → text ≡ text_of state.registered
+text_once version text image state is with =
+    sym with.2
+    ∙ ap (λ (s : Snapshot). s.registered) (image_once image version is.0 with.0 is.1.0 with.1 is.1.1)
     ∙ is.1.2.text_is
 
 -- contents of a state are not misshapen
 not_misshapen : (contents : Contents) (state : HostState) (at : ℕ) → IsStateOf state contents → IsMisshapen contents at
     → ⊥
-not_misshapen contents state at is_state misshapen = elim misshapen [
-  | inl none ↦ none.0 is_state.image.0 is_state.image.1.0 is_state.image.1.1
-  | inr some ↦
-      none_without (IsBodyWith (text_of is_state.first.registered)) (after_image contents.0) at contents.1
-      (led_shaped contents.1 is_state.first state is_state.records)
-      (subst (λ (text : List ℕ). FirstWithout (IsBodyWith text) (after_image contents.0) contents.1 at)
-      (text_once some.0 contents.0 is_state.first is_state.image some.1) some.2)
-]
+not_misshapen contents state at is_state (inl none) = none.0 is_state.image.0 is_state.image.1.0 is_state.image.1.1
+not_misshapen contents state at is_state (inr (version, text, with, without)) =
+    let shapes = is_state.in_version in
+    let same : is_state.version ≡ version =
+    version_once contents.0 is_state.version version shapes.image.0 with.0 shapes.image.1 with.1 in
+    none_without (IsBodyWith version text) (after_image contents.0) at contents.1
+    (subst (λ (t : List ℕ). AllByRecursion (IsBodyWith version t) contents.1)
+    (sym (text_once version text contents.0 is_state.first is_state.image with))
+    (led_shaped version contents.1 is_state.first state
+    (subst (λ (v : Version). AllByRecursion (IsBodyAs v) contents.1) same shapes.records) is_state.records))
+    without
 
 -- the host that has the state may be in each state on the way to it
 all_admitted : (contents : Contents) (state : HostState) (at : ℕ) → IsStateOf state contents
@@ -293,7 +338,7 @@ only_memory registered contents state (faults.Damaged at) same is_state reads = 
       (subst (λ (of : List Registration). IsNotAdmitted of contents at) (sym same) not_admitted))
 ]
 only_memory registered contents state faults.OtherInterface same is_state reads =
-    absurd (reads.2 (text_once reads.0 contents.0 is_state.first is_state.image reads.1.0
+    absurd (reads.2 (text_once reads.1.0 reads.0 contents.0 is_state.first is_state.image reads.1.1
     ∙ ap text_of (is_state.registered ∙ same)))
 only_memory registered contents state faults.NoMemory same is_state reads = refl
 only_memory registered contents state _ same is_state reads = absurd reads

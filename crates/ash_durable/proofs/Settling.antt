@@ -9,8 +9,9 @@ use Rattle.ash_journal.specs.Runs.{HoldsSince, Extends, NoContents}
 use Rattle.ash_journal.proofs.RunLaws.{run_extends, represented}
 use Rattle.ash_journal.proofs.SettleLaws.{Property, Implies, settle_more, further}
 use Rattle.ash_states.specs.States.{HostState}
-use Rattle.ash_states.specs.Images.{IsImageOf}
-use Rattle.ash_durable.specs.States.{Leads, IsStateOf, HaveState, IsOne, IsEither, SettleSince, SettleNow}
+use Rattle.ash_state_image.specs.declared.version.Version.TheVariants.{Two}
+use Rattle.ash_states.specs.Images.{IsImageIn, IsBodyIn}
+use Rattle.ash_durable.specs.States.{AreIn, IsStateOf, HaveState, IsOne, IsEither, SettleSince, SettleNow}
 use Rattle.ash_durable.specs.States.{HoldsState, GoesOn, BeginsAnew}
 use Rattle.ash_durable.proofs.ContentsStates.{state_of_one, state_of_alone, state_of_push}
 
@@ -115,10 +116,10 @@ module _ {D : Type 0} (device : Device D) where
 
   -- a record more, that leads from one state to the next, takes a journal from the one to the other
   pub record_goes_on : (before after : HostState) (image body : List ℕ) (bodies : List (List ℕ)) (old new : Journal D)
-      → IsStateOf before (image, bodies) → Leads body before after
-      → Extends device (first_disk old) (second_disk old) (first_disk new) (second_disk new)
+      → IsStateOf before (image, bodies) → AreIn Two (image, bodies) → after.registered ≡ before.registered
+      → IsBodyIn Two body after → Extends device (first_disk old) (second_disk old) (first_disk new) (second_disk new)
       (IsContents (image, bodies ++ body ∷ [])) → GoesOn device before after old new
-  record_goes_on before after image body bodies old new is_state leads call a b run =
+  record_goes_on before after image body bodies old new is_state in_two same is_body call a b run =
       run_more a b (first_disk new) (second_disk new)
       (HoldsOneOf (IsContents (image, bodies ++ body ∷ [])) (HaveState (IsOne before)))
       (HaveState (IsEither before after))
@@ -129,7 +130,7 @@ module _ {D : Type 0} (device : Device D) where
           after,
           inr refl,
           subst (IsStateOf after) (sym is)
-              (state_of_push before after image bodies body is_state leads),
+              (state_of_push before after image bodies body is_state in_two same is_body),
         )
         | inr was ↦ (was.0, inl was.1, was.2)
       ])
@@ -148,7 +149,7 @@ module _ {D : Type 0} (device : Device D) where
 
   -- an image of the state that the journal holds, in place of what it holds
   pub image_begins_anew : (state : HostState) (image was : List ℕ) (bodies : List (List ℕ)) (old new : Journal D)
-      → IsStateOf state (was, bodies) → IsImageOf image state
+      → IsStateOf state (was, bodies) → IsImageIn Two image state
       → HoldsSince device (device.clock (first_disk old)) (device.clock (second_disk old)) (first_disk new)
       (second_disk new)
       (HoldsOneOf (IsContents (image, [])) (IsContents (was, bodies))) → BeginsAnew device state state old new
@@ -156,7 +157,7 @@ module _ {D : Type 0} (device : Device D) where
       run_more (device.clock (first_disk old)) (device.clock (second_disk old)) (first_disk new) (second_disk new)
       (HoldsOneOf (IsContents (image, [])) (IsContents (was, bodies))) (HaveState (IsEither state state)) run
       (λ contents one. elim one [
-        | inl is ↦ (state, inl refl, subst (IsStateOf state) (sym is) (state_of_alone state image depicts))
+        | inl is ↦ (state, inl refl, subst (IsStateOf state) (sym is) (state_of_alone Two state image depicts))
         | inr is ↦ (state, inl refl, subst (IsStateOf state) (sym is) is_state)
       ])
 

@@ -6,32 +6,34 @@ use Rattle.ash_journal.specs.Current.{Contents}
 use Rattle.ash_journal.specs.Reading.{bodies_of}
 use Rattle.ash_registry.specs.Registrations.{Registration}
 use Rattle.ash_registry.specs.Text.{text_of}
-use Rattle.ash_state_image.specs.declared.stored.StoredState.{StoredState}
+use Rattle.ash_state_image.specs.declared.stored.StoredImage.{StoredImage}
 use Rattle.ash_state_image.specs.declared.version.Version.{Version}
 use Rattle.ash_state_image.specs.Snapshots.{Snapshot}
 use Rattle.ash_state_image.specs.Rules.{IsImage, IsBody}
 use Rattle.ash_state_image.specs.Views.{snapshot_of}
 use Rattle.ash_states.specs.States.{HostState}
-use Rattle.ash_states.specs.Images.{IsImageOf, IsBodyOf, IsRestored}
-use Rattle.ash_durable.specs.States.{LeadAll, IsStateOf}
+use Rattle.ash_states.specs.Images.{IsImageOf, IsRestored}
+use Rattle.ash_durable.specs.States.{AreIn, IsBodyOf, LeadAll, IsStateOf}
+use Rattle.ash_durable.specs.declared.contents.StateRead.{StateRead}
 use Rattle.ash_durable.specs.declared.fault.StoreFault.{StoreFault}
 use Rattle.ash_durable.specs.declared.fault.StoreFault.TheVariants as faults
 
--- an image, in either version, with this text of what was registered
-abbrev pub IsImageWith : List ℕ → List ℕ → Type 0
-IsImageWith text image = (version : Version) × (s : Snapshot) × IsImage image version s × (s.registered ≡ text)
+-- an image in a version, with this text of what was registered
+abbrev pub IsImageWith : Version → List ℕ → List ℕ → Type 0
+IsImageWith version text image = (s : Snapshot) × IsImage image version s × (s.registered ≡ text)
 
--- the body of a record, with an image in either version, that has this text of what was registered
-abbrev pub IsBodyWith : List ℕ → List ℕ → Type 0
-IsBodyWith text body = (version : Version) × (s : Snapshot) × IsBody body version s × (s.registered ≡ text)
+-- the body of a record, with an image in a version, that has this text of what was registered
+abbrev pub IsBodyWith : Version → List ℕ → List ℕ → Type 0
+IsBodyWith version text body = (s : Snapshot) × IsBody body version s × (s.registered ≡ text)
 
 -- the image of nothing
 abbrev pub IsNoImage : List ℕ → Type 0
 IsNoImage image = (version : Version) (s : Snapshot) → IsImage image version s → ⊥
 
--- an image and records, all with one text of what was registered
+-- an image and records, all in one version and with one text of what was registered
 abbrev pub AreShaped : List ℕ → Contents → Type 0
-AreShaped text contents = IsImageWith text contents.0 × AllByRecursion (IsBodyWith text) contents.1
+AreShaped text contents = (version : Version) × IsImageWith version text contents.0
+    × AllByRecursion (IsBodyWith version text) contents.1
 
 -- the image of a state that a host with this registered may be in
 abbrev pub IsAdmittedImage : List Registration → List ℕ → Type 0
@@ -52,13 +54,13 @@ FirstWithout P offset (body ∷ bodies) at =
 abbrev pub after_image : List ℕ → ℕ
 after_image image = 21 + length image
 
--- The bytes at an offset have not the shape of an image, or of a record beside that image. The offset of a record is
--- that of the gate before it, and the image's is 0.
+-- The bytes at an offset have not the shape of an image, or of a record beside that image, whose version is another.
+-- The offset of a record is that of the gate before it, and the image's is 0.
 abbrev pub IsMisshapen : Contents → ℕ → Type 0
 IsMisshapen contents at =
     (IsNoImage contents.0 × (at ≡ 0))
-    ⊎ ((text : List ℕ) × IsImageWith text contents.0
-    × FirstWithout (IsBodyWith text) (after_image contents.0) contents.1 at)
+    ⊎ ((version : Version) × (text : List ℕ) × IsImageWith version text contents.0
+    × FirstWithout (IsBodyWith version text) (after_image contents.0) contents.1 at)
 
 -- All have their shape, and a host with this registered may not be in the state at an offset.
 abbrev pub IsNotAdmitted : List Registration → Contents → ℕ → Type 0
@@ -72,10 +74,11 @@ IsNotAdmitted registered contents at =
 abbrev pub AreOfOthers : List Registration → Contents → Type 0
 AreOfOthers registered contents = (text : List ℕ) × AreShaped text contents × (text ≡ text_of registered → ⊥)
 
--- What contents are read as, with this registered: a state; or the first fault, all shapes before the text of what was
--- registered, and this before sources and values.
-abbrev pub ReadsAs : List Registration → Contents → Result HostState StoreFault → Type 0
-ReadsAs registered contents (Ok state) = (state.registered ≡ registered) × IsStateOf state contents
+-- What contents are read as, with this registered: a state, and the version that they are in; or the first fault, all
+-- shapes before the text of what was registered, and this before sources and values.
+abbrev pub ReadsAs : List Registration → Contents → Result StateRead StoreFault → Type 0
+ReadsAs registered contents (Ok read) =
+    (read.state.registered ≡ registered) × IsStateOf read.state contents × AreIn read.version contents
 ReadsAs registered contents (Err (faults.Damaged at)) = IsMisshapen contents at ⊎ IsNotAdmitted registered contents at
 ReadsAs registered contents (Err faults.OtherInterface) = AreOfOthers registered contents
 ReadsAs registered contents (Err faults.NoMemory) = Unit {0}
@@ -90,9 +93,9 @@ ReportsDamage P faults.NoMemory = Unit {0}
 ReportsDamage P _ = ⊥
 
 -- an image is read as what it is the image of, or it is the image of nothing
-abbrev pub ReadsImage : List ℕ → Result StoredState StoreFault → Type 0
+abbrev pub ReadsImage : List ℕ → Result StoredImage StoreFault → Type 0
 ReadsImage image result =
-    MatchResult result (λ stored. (version : Version) × IsImage image version (snapshot_of stored))
+    MatchResult result (λ stored. IsImage image stored.version (snapshot_of stored.state))
     (ReportsDamage (λ at. IsNoImage image × (at ≡ 0)))
 
 -- the first of the records whose body is not P: the gate before it is at this offset
@@ -101,11 +104,11 @@ FirstRecordWithout P [] at = ⊥
 FirstRecordWithout P (r ∷ records) at =
     ((P r.body.items → ⊥) × (at ≡ r.gate)) ⊎ (P r.body.items × FirstRecordWithout P records at)
 
--- all records have this text of what was registered, or the first that has not is reported
-abbrev pub ChecksShapes : List ℕ → List Record → Result (Unit {0}) StoreFault → Type 0
-ChecksShapes text records result =
-    MatchResult result (λ u. AllByRecursion (IsBodyWith text) (bodies_of records))
-    (ReportsDamage (FirstRecordWithout (IsBodyWith text) records))
+-- all records have this version and this text of what was registered, or the first that has not is reported
+abbrev pub ChecksShapes : Version → List ℕ → List Record → Result (Unit {0}) StoreFault → Type 0
+ChecksShapes version text records result =
+    MatchResult result (λ u. AllByRecursion (IsBodyWith version text) (bodies_of records))
+    (ReportsDamage (FirstRecordWithout (IsBodyWith version text) records))
 
 -- The state that was stored is one that a host with this registered may be in, and is given; or it is none, and damage
 -- is reported at this offset.

@@ -15,6 +15,7 @@ code_of (faults.Damaged at) = codes "503 Damaged"
 code_of faults.OtherInterface = codes "504 OtherInterface"
 code_of faults.DeviceFailed = codes "507 DeviceFailed"
 code_of faults.NoMemory = codes "509 NoMemory"
+code_of faults.GenerationSpent = codes "511 GenerationSpent"
 
 -- why a journal is not opened, as the fault of a store
 abbrev pub opening_fault : OpenFault → StoreFault

@@ -15,7 +15,8 @@ use Rattle.ash_states.specs.Steps.{Steps}
 use Rattle.ash_durable.specs.Hosting.{Hosted, first, second, IsRunning, IsSaved, IsAnswer, Handles}
 use Rattle.ash_durable.specs.Running.{IsFailure}
 use Rattle.ash_durable.specs.States.{AreHonest, SettleNow, IsOne, IsEither}
-use Rattle.ash_durable.specs.Store.{WereOnlyRead, WasCreated, WasNotMade, WasOpened, WasNotFound, Creates, Opens}
+use Rattle.ash_durable.specs.Store.{WereOnlyRead, WasCreated, WasNotMade, WasOpened, WasRefused, Creates, Opens}
+use Rattle.ash_durable.specs.Store.{first_found, second_found}
 use Rattle.ash_durable.specs.declared.fault.OpenRefused.{OpenRefused}
 
 -- ---- events
@@ -167,13 +168,21 @@ pub data Life {D : Type 0} (device : Device D) (registered : List Registration) 
       → Life device registered (Found opened.state ∷ events) (UnderHost host)
   -- that is refused, whatever is registered with the host
   Refused : (events : List Event) (others : List Registration) (a b : D) (refused : OpenRefused D)
-      → Life device registered events (OnDisks a b) → WasNotFound device others a b refused
+      → Life device registered events (OnDisks a b) → WasRefused device others a b refused
       → Life device registered events (OnDisks refused.a refused.b)
-  -- a crash while a host is opened, be it refused
+  -- a crash while a host is opened, be it refused, until the generation that is found is repaired
   CrashedOpening : (events : List Event) (others : List Registration) (a b : D)
       (result : Result (Hosted D) (OpenRefused D)) (a' b' : D) → Life device registered events (OnDisks a b)
-      → Opens device others a b result → Crashed device (device.clock a) (device.clock b) (first_of result)
-      (second_of result) a' b' → Life device registered events (OnDisks a' b')
+      → (opens : Opens device others a b result)
+      → Crashed device (device.clock a) (device.clock b) (first_found device others a b result opens)
+      (second_found device others a b result opens) a' b' → Life device registered events (OnDisks a' b')
+  -- a crash from then on, while that generation is moved to version 2
+  CrashedMoving : (events : List Event) (others : List Registration) (a b : D)
+      (result : Result (Hosted D) (OpenRefused D)) (a' b' : D) → Life device registered events (OnDisks a b)
+      → (opens : Opens device others a b result)
+      → Crashed device (device.clock (first_found device others a b result opens))
+      (device.clock (second_found device others a b result opens)) (first_of result) (second_of result) a' b'
+      → Life device registered events (OnDisks a' b')
   -- a host is to be created where the store is, and is refused
   NotCreated : (events : List Event) (others : List Registration) (a b : D) (refused : OpenRefused D)
       → Life device registered events (OnDisks a b) → WasNotMade device (empty others) a b refused

@@ -51,8 +51,9 @@ pub record RunsThrough {D : Type 0} (budget : ℕ) (state : HostState) (requests
   pub running : IsRunning last new
 
 -- The requests before one are a run of the definition. That one is not refused in the state that the run leads to, and
--- changes it, and its answer or the state was lost; or a device failed while a new generation was installed before it. From then on the host must be
--- reopened: its number is that of the run's last state, and each later reply is that of such a host.
+-- changes it, and its answer or the state was lost; or a device failed while a new generation was installed before it.
+-- From then on the host must be reopened: its number is that of the run's last state, and each later reply is that of
+-- such a host.
 pub record RunsUntilFailure {D : Type 0} (budget : ℕ) (state : HostState) (requests : List Request)
     (replies : List (Reply SourceFault))
     (new : Hosted D) : Type 0 where

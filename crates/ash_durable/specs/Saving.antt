@@ -7,8 +7,9 @@ use Rattle.ash_journal.specs.Journal.{first_disk, second_disk, generation, recor
 use Rattle.ash_sources.specs.declared.fault.SourceFault.{SourceFault as CodeFault}
 use Rattle.ash_plain_steps.specs.declared.request.Refusal.{Refusal}
 use Rattle.ash_plain_steps.specs.declared.request.Refusal.TheVariants as the
+use Rattle.ash_state_image.specs.declared.version.Version.TheVariants.{Two}
 use Rattle.ash_states.specs.States.{HostState}
-use Rattle.ash_states.specs.Images.{IsBodyOf}
+use Rattle.ash_states.specs.Images.{IsBodyIn}
 use Rattle.ash_durable.specs.States.{HoldsState, GoesOn, BeginsAnew}
 
 -- Why the code refuses a request.
@@ -25,11 +26,11 @@ abbrev pub HasFailedBy : {T : Type 0} → Result T HostRefusal → Type 0
 HasFailedBy (Ok done) = ⊥
 HasFailedBy (Err refusal) = IsFailure refusal
 
--- one record more, with the body of this state, in the same generation
+-- one record more, with the body of this state in version 2, in the same generation
 pub record HasOneMore {D : Type 0} (state : HostState) (old new : Journal D) : Type 0 where
   pub same : generation new ≡ generation old
   pub body : List ℕ
-  pub is_body : IsBodyOf body state
+  pub is_body : IsBodyIn Two body state
   pub longer : record_bytes new ≡ record_bytes old + 5 + length body
 
 -- What becomes of a journal that a state was to be added to as one record: that it has it, and one record more; that

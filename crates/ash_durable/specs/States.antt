@@ -1,13 +1,35 @@
 -- What a store's files hold, said of states.
 use Rattle.std.specs.Prelude.{◌≡◌, ◌⊎◌, ℕ, List, [], ◌∷◌}
 use Rattle.std.specs.Bool.{IsTrue}
+use Rattle.std.specs.List.{AllByRecursion}
 use Rattle.ash_disk.specs.Device.{Device}
 use Rattle.ash_journal.specs.declared.journal.Journal.{Journal}
 use Rattle.ash_journal.specs.Current.{Contents}
 use Rattle.ash_journal.specs.Journal.{first_disk, second_disk, Holds}
 use Rattle.ash_journal.specs.Runs.{HoldsSince}
 use Rattle.ash_states.specs.States.{HostState}
-use Rattle.ash_states.specs.Images.{IsImageOf, IsBodyOf}
+use Rattle.ash_state_image.specs.declared.version.Version.{Version}
+use Rattle.ash_state_image.specs.declared.version.Version.TheVariants.{Two}
+use Rattle.ash_state_image.specs.Snapshots.{Snapshot}
+use Rattle.ash_state_image.specs.Rules.{IsImage, IsBody}
+use Rattle.ash_states.specs.Images.{IsImageOf, IsBodyIn}
+
+-- the body of a record that has an image of a state, in either version
+abbrev pub IsBodyOf : List ℕ → HostState → Type 0
+IsBodyOf body state = (version : Version) × IsBodyIn version body state
+
+-- an image in a version
+abbrev pub IsImageAs : Version → List ℕ → Type 0
+IsImageAs version image = (s : Snapshot) × IsImage image version s
+
+-- the body of a record with an image in a version
+abbrev pub IsBodyAs : Version → List ℕ → Type 0
+IsBodyAs version body = (s : Snapshot) × IsBody body version s
+
+-- An image and the records after it are all in one version.
+pub record AreIn (version : Version) (contents : Contents) : Type 0 where
+  pub image : IsImageAs version contents.0
+  pub records : AllByRecursion (IsBodyAs version) contents.1
 
 -- A record leads from a state to the next, which has the same registered: its body is that of the next.
 pub record Leads (body : List ℕ) (before after : HostState) : Type 0 where
@@ -19,8 +41,10 @@ abbrev pub LeadAll : List (List ℕ) → HostState → HostState → Type 0
 LeadAll [] before after = after ≡ before
 LeadAll (body ∷ bodies) before after = (next : HostState) × Leads body before next × LeadAll bodies next after
 
--- a generation's image is that of a state, and its records lead from there to this one
+-- A generation's image is that of a state, and its records lead from there to this one. They have the image's version.
 pub record IsStateOf (state : HostState) (contents : Contents) : Type 0 where
+  pub version : Version
+  pub in_version : AreIn version contents
   pub first : HostState
   pub registered : first.registered ≡ state.registered
   pub image : IsImageOf contents.0 first
@@ -51,11 +75,13 @@ SettleSince device a b first second P = HoldsSince device a b first second (Have
 abbrev pub SettleNow : {D : Type 0} → Device D → D → D → (HostState → Type 0) → Type 0
 SettleNow device first second P = SettleSince device (device.clock first) (device.clock second) first second P
 
--- A journal's files hold a state: all of it is on the devices, and they settle on it alone, whatever a crash does.
+-- A journal's files hold a state, in version 2: all of it is on the devices, and they settle on it alone, whatever a
+-- crash does.
 pub record HoldsState {D : Type 0} (device : Device D) (state : HostState) (journal : Journal D) : Type 0 where
   pub contents : Contents
   pub holds : Holds device journal contents.0 contents.1
   pub is_state : IsStateOf state contents
+  pub in_two : AreIn Two contents
 
 -- Calls took a journal from old to new, and at every moment of them, since two earlier times, the files settle on one
 -- of two states, where they settled on the first of them until then.

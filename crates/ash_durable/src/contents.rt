@@ -7,6 +7,7 @@ ghost use Rattle.ash_registry.specs.Registered.{registered};
 ghost use Rattle.ash_registry.specs.Text.{text_of};
 ghost use Rattle.ash_state_image.specs.Rules.{IsShaped};
 ghost use Rattle.ash_state_image.specs.Views.{snapshot_of};
+ghost use Rattle.ash_state_image.specs.declared.version.Version.{Version};
 ghost use Rattle.ash_durable.specs.Contents.{after_image, IsBodyWith, ReadsAs};
 ghost use Rattle.ash_durable.specs.Contents.{ReadsImage, ChecksShapes, Restores, LeadsOn, LeadsThrough};
 
@@ -14,36 +15,65 @@ use crate::fault::StoreFault;
 use ash_journal::Record;
 use ash_registry::Registry;
 use ash_state_image::image::{read_body, read_image};
-use ash_state_image::stored::StoredState;
+use ash_state_image::stored::{StoredImage, StoredState};
+use ash_state_image::version::Version;
 use ash_states::state::HostState;
 use std::alloc::{AllocError, Global};
 
+/// A state that was read, and the version of the generation that has it.
+#[derive(Drop)]
+pub struct StateRead {
+    pub version: Version,
+    pub state: HostState,
+}
+
 /// The state of a generation's image, before it is known whether a host with the registry may be in it.
-fn stored_image(alloc: Global, image: &[u8]) -> Result<StoredState, StoreFault>
+fn stored_image(alloc: Global, image: &[u8]) -> Result<StoredImage, StoreFault>
     ensures { ReadsImage image.now result }
 {
     match read_image(alloc, image)? {
-        Some(stored) => Ok(stored.state),
+        Some(stored) => Ok(stored),
         None => Err(StoreFault::Damaged(0)),
     }
 }
 
-/// Whether bytes are the body of a record with this text of what was registered.
-fn has_shape(alloc: Global, registered: &str, body: &[u8]) -> Result<bool, AllocError>
-    ensures { IfOk result (λ has_it. IsTrue has_it ↔ IsBodyWith registered.now body.now) }
+/// Whether what was stored has this version, and this text of what was registered.
+fn is_with(stored: &StoredImage, version: Version, registered: &str) -> bool
+    ensures { IsTrue result ↔ ((stored.now.version ≡ version)
+        × ((snapshot_of stored.now.state).registered ≡ registered.now)) }
+{
+    if stored.version != version {
+        return false;
+    }
+    stored.state.registered.as_str() == registered
+}
+
+/// Whether bytes are the body of a record in this version, with this text of what was registered.
+fn has_shape(
+    alloc: Global,
+    version: Version,
+    registered: &str,
+    body: &[u8],
+) -> Result<bool, AllocError>
+    ensures { IfOk result (λ has_it. IsTrue has_it ↔ IsBodyWith version registered.now body.now) }
 {
     match read_body(alloc, body)? {
-        Some(stored) => Ok(stored.state.registered.as_str() == registered),
+        Some(stored) => Ok(is_with(&stored, version, registered)),
         None => Ok(false),
     }
 }
 
-/// Finds the first record that is none, or that has another text of what was registered than this one.
-fn check_shapes(alloc: Global, registered: &str, records: &[Record]) -> Result<(), StoreFault>
-    ensures { ChecksShapes registered.now records.now result }
+/// Finds the first record that is none, or that has another version or another text of what was registered than these.
+fn check_shapes(
+    alloc: Global,
+    version: Version,
+    registered: &str,
+    records: &[Record],
+) -> Result<(), StoreFault>
+    ensures { ChecksShapes version registered.now records.now result }
 {
     for record in records {
-        if !has_shape(alloc, registered, &record.body)? {
+        if !has_shape(alloc, version, registered, &record.body)? {
             return Err(StoreFault::Damaged(record.gate));
         }
     }
@@ -74,7 +104,7 @@ fn next_state(
     body: &[u8],
     gate: u64,
 ) -> Result<HostState, StoreFault>
-    requires { IsBodyWith (text_of (registered registry)) body.now }
+    requires { (version : Version) × IsBodyWith version (text_of (registered registry)) body.now }
     ensures { LeadsOn (registered registry) body.now gate result }
 {
     match read_body(alloc, body)? {
@@ -85,7 +115,8 @@ fn next_state(
 
 /// The state to which records lead from this one. A host with its registry has to be allowed each state on the way.
 fn last_state(alloc: Global, first: HostState, records: &[Record]) -> Result<HostState, StoreFault>
-    requires { AllByRecursion (IsBodyWith (text_of first.registered)) (bodies_of records.now) }
+    requires { (version : Version)
+        × AllByRecursion (IsBodyWith version (text_of first.registered)) (bodies_of records.now) }
     ensures { LeadsThrough first records.now result }
 {
     let mut state = first;
@@ -95,10 +126,10 @@ fn last_state(alloc: Global, first: HostState, records: &[Record]) -> Result<Hos
     Ok(state)
 }
 
-/// The state of an image and the records after it, with this registry.
+/// The state of an image and the records after it, with this registry, and their version.
 ///
-/// Faults, the first that holds: `Damaged` where the image or a record has not its shape, or a record has another text
-/// of what was registered than the image; `OtherInterface` where that text is not this registry's; `Damaged` where no
+/// Faults, the first that holds: `Damaged` where the image or a record has not its shape, or a record has another version
+/// or another text of what was registered than the image; `OtherInterface` where that text is not this registry's; `Damaged` where no
 /// host with this registry may be in the state of the image, and then of a record. An offset is that of the gate before
 /// the record, or 0 for the image. `NoMemory` may come at any time.
 pub fn state_in(
@@ -106,17 +137,21 @@ pub fn state_in(
     registry: Registry,
     image: &[u8],
     records: &[Record],
-) -> Result<HostState, StoreFault>
-    ensures registered { IfOk result (λ state. state.registered ≡ registered registry) }
+) -> Result<StateRead, StoreFault>
+    ensures registered { IfOk result (λ read. read.state.registered ≡ registered registry) }
     ensures cause { IfErr result (λ fault. fault ≡ StoreFault.DeviceFailed → ⊥) }
     ensures reads { AreAt (after_image image.now) records.now
         → ReadsAs (registered registry) (image.now, bodies_of records.now) result }
 {
-    let first = stored_image(alloc, image)?;
-    check_shapes(alloc, &first.registered, records)?;
-    if first.registered.as_str() != registry.text() {
+    let stored = stored_image(alloc, image)?;
+    check_shapes(alloc, stored.version, &stored.state.registered, records)?;
+    if stored.state.registered.as_str() != registry.text() {
         return Err(StoreFault::OtherInterface);
     }
-    let state = restore(alloc, registry, first, 0)?;
-    last_state(alloc, state, records)
+    let first = restore(alloc, registry, stored.state, 0)?;
+    let state = last_state(alloc, first, records)?;
+    Ok(StateRead {
+        version: stored.version,
+        state,
+    })
 }

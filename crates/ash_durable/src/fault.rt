@@ -27,6 +27,10 @@ pub enum StoreFault {
     /// Memory was refused.
     #[error("memory was refused")]
     NoMemory,
+    /// The store is of version 1, and its generation is the last that a number can have: there is none for a generation
+    /// of version 2.
+    #[error("the store is of version 1, and no generation is left for one of version 2")]
+    GenerationSpent,
 }
 
 impl StoreFault {
@@ -44,6 +48,7 @@ impl StoreFault {
             StoreFault::OtherInterface => "504 OtherInterface",
             StoreFault::DeviceFailed => "507 DeviceFailed",
             StoreFault::NoMemory => "509 NoMemory",
+            StoreFault::GenerationSpent => "511 GenerationSpent",
         }
     }
 }

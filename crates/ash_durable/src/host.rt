@@ -36,7 +36,7 @@ const FULL_RECORD_BYTES: u64 = 16_777_216;
 /// memory for the record, the answer is lost: a crash leaves the state before the request or the one after it, and the
 /// host must be reopened. So it must where memory is refused while a request changes the state: the state is lost, and
 /// the disks have the one before the request. Every call but `seq`, `close` and `reopen` is from then on refused with
-/// `Refusal::Reopen`. Any other refusal changes nothing.
+/// `Refusal::Reopen`. Any other refusal changes nothing, but for a new generation that was installed before it.
 ///
 /// A `load`, a `call` or a `discard` that finds 16,777,216 bytes of records or more in the current generation first
 /// installs the state as a new one, without records, in the file that isn't current.
@@ -88,12 +88,16 @@ impl<D: Disk> Host<D> {
 
     /// Opens the store on two disks, and gives a host with this registry in the state of which the files are. It
     /// reads the current generation once, and last of all writes 0 over gates that a crash has left half written, with
-    /// a sync for each. That is all it writes: the files hold the same image and the same records as before.
+    /// a sync for each. That is all it writes where the generation is of version 2: the files hold the same image and
+    /// the same records as before. A generation of version 1 is then moved: one of version 2 with the same state,
+    /// without records, is installed in the other file, and a crash on the way leaves the one or the other.
     ///
     /// Faults, the first that holds: `DeviceFailed`; `NoGeneration` where no file is open; `Damaged` where bytes have
-    /// not the shape of a generation, an image or a record; `OtherInterface` where the store was made with a registry
-    /// of another text; `Damaged` where no host with the registry may be in a state. `NoMemory` where there is none to
-    /// read into. But for `DeviceFailed` in the last step, both disks read as before.
+    /// not the shape of a generation, an image or a record, or a record has not its image's version; `OtherInterface`
+    /// where the store was made with a registry of another text; `Damaged` where no host with the registry may be in a
+    /// state; `GenerationSpent` where the generation is of version 1, and its number is 2^64 - 1. `NoMemory` where there
+    /// is none to read into, or none for the generation of version 2. But for `DeviceFailed` in the last steps, both
+    /// disks read as before.
     pub fn open(alloc: Global, a: D, b: D, registry: Registry) -> Result<Host<D>, OpenRefused<D>>
         ensures opened { Opens D.Disk (registered registry) a b result }
     {
@@ -235,8 +239,9 @@ impl<D: Disk> Host<D> {
         Ok(reply)
     }
 
-    /// Handles one request, with a budget in ticks. A host that runs refuses each request for which there is a
-    /// cause, with the first cause or out of memory on the way to it, and is as it was.
+    /// Handles one request, with a budget in ticks. A host that runs, and needs no new generation before it, refuses
+    /// each request for which there is a cause, with the first cause or out of memory on the way to it, and is as it
+    /// was.
     ///
     /// Refusals, the first that holds. Each request but `seq`: `Reopen`. A `load`, a `call` and a `discard`:
     /// `GenerationSpent`, `NoMemory` and `DeviceFailed` where a new generation is installed first; `SequenceSpent`; of a

@@ -4,7 +4,7 @@ ghost use Rattle.std.specs.Prelude.{ℕ, List, ◌∷◌, ◌++◌};
 ghost use Rattle.ash_durable.specs.Lives.{AreLeft, BeginWith, Crashed, Event, LeadBy, Life, OnDisks, Outlives, Place};
 ghost use Rattle.ash_durable.specs.Lives.{first_at, second_at};
 ghost use Rattle.ash_durable.specs.States.{AreHonest, SettleNow};
-ghost use Rattle.ash_durable.specs.Store.{IsMishap, WasNotFound};
+ghost use Rattle.ash_durable.specs.Store.{MayRefuse, WasRefused};
 ghost use Rattle.ash_durable.specs.declared.fault.OpenRefused.{OpenRefused};
 ghost use Rattle.ash_registry.specs.Registrations.{Registration};
 ghost use Rattle.ash_states.specs.States.{empty};
@@ -21,8 +21,8 @@ use ash_disk::Disk;
 ///
 /// `each`: so each event that ever came is in every such state, at its place among the others.
 ///
-/// `opens`: a store is never refused to a host with the same registry, but because memory ran out or because a disk
-/// failed.
+/// `opens`: a store is never refused to a host with the same registry, but because memory ran out, because a disk
+/// failed, or because the store is of version 1 and the number of its generation is the last.
 ///
 /// It does nothing: the clauses are the theorem. Each step of a life is what the contract of a public call says.
 pub fn nothing_acknowledged_is_lost<D: Disk>()
@@ -35,8 +35,8 @@ pub fn nothing_acknowledged_is_lost<D: Disk>()
         (LeadBy later event earlier (empty registered)) }
     ensures opens { (registered : List Registration) (events : List Event) (a b : D)
         (refused : OpenRefused D)
-        → Life D.Disk registered events (OnDisks a b) → WasNotFound D.Disk registered a b refused
-        → IsMishap refused.fault }
+        → Life D.Disk registered events (OnDisks a b) → WasRefused D.Disk registered a b refused
+        → MayRefuse refused.fault }
 {}
 
 /// Of which kinds a crash may be. `power`: a power failure leaves an image of each disk, and the next host is opened on

@@ -1,16 +1,17 @@
 // Making a store on two disks, and finding its state there.
 
 ghost use Rattle.std.specs.Prelude.{◌≡◌};
-ghost use Rattle.ash_journal.specs.Journal.{first_disk, second_disk};
-ghost use Rattle.ash_durable.specs.Store.{Finds, LooksFor, Makes, Settled};
+ghost use Rattle.ash_journal.specs.Journal.{first_disk, second_disk, HasFailed};
+ghost use Rattle.ash_durable.specs.Store.{Finds, LooksFor, Makes, Moves, Prepares, Repairs, Settled};
 ghost use Rattle.ash_registry.specs.Registered.{registered};
 
 use crate::contents::state_in;
 use crate::fault::{OpenRefused, StoreFault};
 use crate::header::read_header;
 use ash_disk::Disk;
-use ash_journal::{Journal, OpenedJournal};
+use ash_journal::{Journal, NextGeneration, OpenedJournal};
 use ash_registry::Registry;
+use ash_state_image::version::Version;
 use ash_states::state::HostState;
 use std::alloc::Global;
 
@@ -70,33 +71,82 @@ fn refused<D: Disk>(journal: Journal<D>, fault: StoreFault) -> OpenRefused<D>
     OpenRefused { fault, a, b }
 }
 
-/// The state that an opened journal holds, and the journal once its gates are written over that a crash left.
-fn settled<D: Disk>(
-    alloc: Global,
-    registry: Registry,
-    opened: OpenedJournal<D>,
-) -> Result<Found<D>, OpenRefused<D>>
-    ensures { Settled D.Disk (registered registry) opened result }
+/// A state that was read of a journal, and the journal once its gates are written over that a crash left.
+fn repaired<D: Disk>(state: HostState, journal: Journal<D>) -> Result<Found<D>, OpenRefused<D>>
+    ensures { Repairs D.Disk state journal result }
 {
-    let OpenedJournal {
-        mut journal,
-        image,
-        records,
-    } = opened;
-    let state = match state_in(alloc, registry, &image, &records) {
-        Ok(state) => state,
-        Err(fault) => return Err(refused(journal, fault)),
-    };
+    let mut journal = journal;
     match journal.settle() {
         Ok(()) => Ok(Found { state, journal }),
         Err(_) => Err(refused(journal, StoreFault::DeviceFailed)),
     }
 }
 
-/// Finds the state of a store under this registry. Nothing is written before the whole state is read.
+/// The generation that is to follow a journal's, with the image of a state in version 2.
+fn next_generation<D: Disk>(
+    state: &HostState,
+    journal: &Journal<D>,
+) -> Result<NextGeneration, StoreFault>
+    ensures { Prepares state.now journal.now result }
+{
+    if journal.generation() == u64::MAX {
+        return Err(StoreFault::GenerationSpent);
+    }
+    let image = state.image()?;
+    match journal.next_generation(&image) {
+        Ok(next) => Ok(next),
+        Err(_) => Err(StoreFault::NoMemory),
+    }
+}
+
+/// A state that was read of a journal in version 1, and the journal once it is repaired, and holds the state in a new
+/// generation of version 2. All memory is taken before anything is written.
+fn moved<D: Disk>(state: HostState, journal: Journal<D>) -> Result<Found<D>, OpenRefused<D>>
+    requires { HasFailed journal → ⊥ }
+    ensures { Moves D.Disk state journal result }
+{
+    let next = match next_generation(&state, &journal) {
+        Ok(next) => next,
+        Err(cause) => return Err(refused(journal, cause)),
+    };
+    let mut found = repaired(state, journal)?;
+    match found.journal.install_next(next) {
+        Ok(()) => Ok(found),
+        Err(_) => Err(refused(found.journal, StoreFault::DeviceFailed)),
+    }
+}
+
+/// The state that an opened journal holds, and the journal once its gates are written over that a crash left, and once
+/// it is moved where it is of version 1.
+fn settled<D: Disk>(
+    alloc: Global,
+    registry: Registry,
+    opened: OpenedJournal<D>,
+) -> Result<Found<D>, OpenRefused<D>>
+    requires { HasFailed opened.journal → ⊥ }
+    ensures { Settled D.Disk (registered registry) opened result }
+{
+    let OpenedJournal {
+        journal,
+        image,
+        records,
+    } = opened;
+    let read = match state_in(alloc, registry, &image, &records) {
+        Ok(read) => read,
+        Err(fault) => return Err(refused(journal, fault)),
+    };
+    match read.version {
+        Version::One => moved(read.state, journal),
+        Version::Two => repaired(read.state, journal),
+    }
+}
+
+/// Finds the state of a store under this registry, and keeps it in version 2. Nothing is written before the whole state
+/// is read.
 ///
-/// Faults, the first that holds: those of `Journal::open`, those of `state_in`, and `DeviceFailed` where the gates that
-/// a crash left are written over.
+/// Faults, the first that holds: those of `Journal::open`; those of `state_in`; of a store of version 1
+/// `GenerationSpent` and `NoMemory`; and `DeviceFailed` where the gates that a crash left are written over, or a new
+/// generation is installed.
 pub fn find<D: Disk>(
     alloc: Global,
     registry: Registry,

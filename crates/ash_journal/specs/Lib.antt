@@ -1,5 +1,6 @@
 pub mod Current
 pub mod Failures
+pub mod Installing
 pub mod Journal
 pub mod Layout
 pub mod Opening

@@ -66,9 +66,9 @@ IsImageIn version bytes s = (snapshot : Snapshot) × IsImage bytes version snaps
 abbrev pub IsImageOf : List ℕ → HostState → Type 0
 IsImageOf bytes s = (version : Version) × IsImageIn version bytes s
 
--- The bytes are the body of a record that has an image of the state.
-abbrev pub IsBodyOf : List ℕ → HostState → Type 0
-IsBodyOf body s = (image : List ℕ) × (body ≡ 1 ∷ image) × IsImageOf image s
+-- The bytes are the body of a record that has an image of the state in a version.
+abbrev pub IsBodyIn : Version → List ℕ → HostState → Type 0
+IsBodyIn version body s = (image : List ℕ) × (body ≡ 1 ∷ image) × IsImageIn version image s
 
 -- No host with these registrations may be in the state of the snapshot.
 abbrev pub IsRefused : List Registration → Snapshot → Type 0

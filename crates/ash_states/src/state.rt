@@ -8,7 +8,7 @@ ghost use Rattle.ash_state_image.specs.Views.{snapshot_of};
 ghost use Rattle.ash_state_image.specs.declared.version.Version.TheVariants.{Two};
 ghost use Rattle.ash_states.specs.States.{empty};
 ghost use Rattle.ash_states.specs.Steps.{Handled};
-ghost use Rattle.ash_states.specs.Images.{IsImageIn, IsBodyOf, IsRestored};
+ghost use Rattle.ash_states.specs.Images.{IsImageIn, IsBodyIn, IsRestored};
 
 use crate::restoring::restore_state;
 use crate::steps::{first_state, step_of};
@@ -106,9 +106,9 @@ impl HostState {
         image_of(&self.registry, &self.state)
     }
 
-    /// The body of a record that has the image of the state. An `Err` means that memory was refused.
+    /// The body of a record that has the image of the state, in version 2. An `Err` means that memory was refused.
     pub fn body(&self) -> Result<Vec<u8>, AllocError>
-        ensures body { IfOk result (λ body. IsBodyOf body.items self.now) }
+        ensures body { IfOk result (λ body. IsBodyIn Two body.items self.now) }
         // It fits into a record.
         ensures short { IfOk result (λ body. length body.items < 2 ^ 32) }
     {

@@ -5,7 +5,7 @@ ghost use Rattle.ash_registry.specs.Registered.{registered};
 ghost use Rattle.ash_state_image.specs.Image.{Fits};
 ghost use Rattle.ash_state_image.specs.Views.{snapshot_in};
 ghost use Rattle.ash_state_image.specs.declared.version.Version.TheVariants.{Two};
-ghost use Rattle.ash_states.specs.Images.{IsImageIn, IsBodyOf};
+ghost use Rattle.ash_states.specs.Images.{IsImageIn, IsBodyIn};
 ghost use Rattle.ash_states.specs.Holding.{IsHeld, held_with};
 ghost use Rattle.ash_states.specs.Indexes.{snapshot_for};
 ghost use Rattle.ash_states.specs.Writing.{AreListed};
@@ -57,7 +57,7 @@ fn image_by(
     write_image(state.alloc, state_parts(registry, state, modules, objects))
 }
 
-/// The body of a record that has the image of a state, by the parts of its modules and its objects.
+/// The body of a record that has the image of a state, in version 2, by the parts of its modules and its objects.
 fn body_by(
     registry: &Registry,
     state: &PlainState,
@@ -67,7 +67,7 @@ fn body_by(
     requires held { IsHeld (registered registry.now) state.now }
     requires listed { AreListed (held_with (registered registry.now) state.now)
         modules.now objects.now }
-    ensures body { IfOk result (λ body. IsBodyOf body.items
+    ensures body { IfOk result (λ body. IsBodyIn Two body.items
         (held_with (registered registry.now) state.now)) }
     ensures short { IfOk result (λ body. length body.items < 2 ^ 32) }
 {
@@ -86,10 +86,10 @@ pub(crate) fn image_of(registry: &Registry, state: &PlainState) -> Result<Vec<u8
     image_by(registry, state, &modules, &objects)
 }
 
-/// The body of a record that has the image of a state.
+/// The body of a record that has the image of a state, in version 2.
 pub(crate) fn body_of(registry: &Registry, state: &PlainState) -> Result<Vec<u8>, AllocError>
     requires held { IsHeld (registered registry.now) state.now }
-    ensures body { IfOk result (λ body. IsBodyOf body.items
+    ensures body { IfOk result (λ body. IsBodyIn Two body.items
         (held_with (registered registry.now) state.now)) }
     ensures short { IfOk result (λ body. length body.items < 2 ^ 32) }
 {

@@ -145,9 +145,10 @@ fn wanted_of_loaded(place: usize, byte: u8) -> Found {
         // The gate of the file.
         0 => Err(StoreFault::NoGeneration),
         // The generation, which no other file is open beside, and what is in the image before the state in the record:
-        // the version, the number, and the last number of an object.
+        // the number, and the last number of an object.
         9..=16 | 27..=42 => Ok(1),
-        21 if byte == 1 => Ok(1),
+        // An image of version 1, beside a record of version 2.
+        21 if byte == 1 => Err(StoreFault::Damaged(50)),
         // The length of the image. Two lengths lead to a byte 1 of the record, at 80 and 81, as the gate of a record
         // that is cut; from the others none is found, or a whole one after an image of another length.
         17 if byte == 59 => Err(StoreFault::Damaged(80)),
@@ -159,8 +160,7 @@ fn wanted_of_loaded(place: usize, byte: u8) -> Found {
         // The length of the body, of which the same is to be said.
         51 if byte == 25 => Err(StoreFault::Damaged(80)),
         51 if byte == 26 => Err(StoreFault::Damaged(81)),
-        // In the record the version, the number, and the last number of an object.
-        56 if byte == 1 => Ok(1),
+        // In the record the number, and the last number of an object.
         62..=69 => Ok(number_with(place.wrapping_sub(62), byte)),
         70..=77 => Ok(1),
         // The module's name, of one byte.

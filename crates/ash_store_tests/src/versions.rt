@@ -1,10 +1,13 @@
-//! Stores of version 1, as they were written before there were arrays. They are by hand.
+//! Stores of version 1, as they were written before there were arrays. They are by hand. An opening moves them to
+//! version 2.
 
 use crate::checks::{Life, check, check_lives};
 use crate::damage::changed;
-use ash_durable::StoreFault;
+use ash_durable::{Host, StoreFault};
 use ash_registry::Registry;
-use ash_store_fixtures::hosts::{EMPTY, State, add, closed, disk, found_state, need, opened};
+use ash_store_fixtures::hosts::{
+    EMPTY, State, add, closed, disk, found, found_state, need, opened,
+};
 use ash_store_fixtures::lives::{File, Run, Start, Step, bytes_of};
 use std::alloc::Global;
 use std::process::Abort;
@@ -76,33 +79,115 @@ fn requests_to_a_store_of_version_one(rt: HostRuntime) -> Result<(), Fail> {
     Ok(())
 }
 
-// An opening writes nothing. The next generation is in version 2.
-static LIVES: [Life; 1] = [(
-    File::Older(1, (0, None), &[(1, Some(2)), (2, Some(7))]),
-    File::Bytes(&[0]),
-    &[
-        Run {
-            what: "an opening of version 1",
+/// What opening a store of version 1 gives whose file has another byte at a place.
+fn found_with(
+    alloc: Global,
+    file: File,
+    place: usize,
+    byte: u8,
+) -> Result<Result<u64, StoreFault>, Fail> {
+    let file = changed(alloc, &bytes_of(alloc, file)?, place, byte)?;
+    found(alloc, &file, &[0])
+}
+
+#[test]
+fn records_of_another_version(rt: HostRuntime) -> Result<(), Fail> {
+    // The record comes after the gate at 50, and its version is at 56.
+    let file = File::Older(1, (0, None), &[(1, Some(2))]);
+    let as_it_was = found_with(rt.alloc(), file, 56, 1)?;
+    check(&rt, &as_it_was, &Ok(1), "a record of version 1");
+    let other = found_with(rt.alloc(), file, 56, 2)?;
+    check(
+        &rt,
+        &other,
+        &Err(StoreFault::Damaged(50)),
+        "a record of version 2",
+    );
+    Ok(())
+}
+
+/// Why a store of version 1 isn't opened whose generation has this number, and whether its disks read as before.
+fn refused(alloc: Global, number: u64) -> Result<Option<(StoreFault, bool)>, Fail> {
+    let file = bytes_of(alloc, File::Older(number, (2, Some(7)), &[]))?;
+    let (a, b) = (disk(alloc, &file)?, disk(alloc, &[0])?);
+    match Host::open(alloc, a, b, Registry::new(alloc)) {
+        Ok(_) => Ok(None),
+        Err(refused) => {
+            let is_same = refused.a.bytes() == file.as_slice()
+                && refused.b.bytes() == [0].as_slice();
+            Ok(Some((refused.fault, is_same)))
+        }
+    }
+}
+
+#[test]
+fn the_last_generation_of_version_one(rt: HostRuntime) -> Result<(), Fail> {
+    let found = refused(rt.alloc(), u64::MAX)?;
+    let wanted = Some((StoreFault::GenerationSpent, true));
+    check(&rt, &found, &wanted, "the last generation");
+    let found = refused(rt.alloc(), u64::MAX - 1)?;
+    check(&rt, &found, &None, "the last but one");
+    Ok(())
+}
+
+// An opening installs a generation of version 2 with the same state in the other file, by two writes and two syncs. The
+// file of version 1 stays as it is, and so does a store of version 2.
+static LIVES: [Life; 3] = [
+    (
+        File::Older(1, (0, None), &[]),
+        File::Bytes(&[0]),
+        &[Run {
+            what: "an empty store of version 1",
             start: Start::Open,
             steps: &[Step::State],
-            answers: "(2, Some(7))\n",
+            answers: "(0, None)\n",
             is_reopened: false,
-            first: File::Older(1, (0, None), &[(1, Some(2)), (2, Some(7))]),
-            second: File::Bytes(&[0]),
-            calls: (1, 1),
-        },
-        Run {
-            what: "the next generation",
+            first: File::Older(1, (0, None), &[]),
+            second: File::Written(2, (0, None), &[], &[]),
+            calls: (1, 1 + 4),
+        }],
+    ),
+    (
+        File::Older(1, (0, None), &[(1, Some(2)), (2, Some(7))]),
+        File::Bytes(&[0]),
+        &[
+            Run {
+                what: "a store of version 1 with records",
+                start: Start::Open,
+                steps: &[Step::State],
+                answers: "(2, Some(7))\n",
+                is_reopened: false,
+                first: File::Older(1, (0, None), &[(1, Some(2)), (2, Some(7))]),
+                second: File::Written(2, (2, Some(7)), &[], &[]),
+                calls: (1, 1 + 4),
+            },
+            Run {
+                what: "a request after that",
+                start: Start::Open,
+                steps: &[Step::Call(1)],
+                answers: "ok 8 seq 3\n",
+                is_reopened: true,
+                first: File::Older(1, (0, None), &[(1, Some(2)), (2, Some(7))]),
+                second: File::Written(2, (2, Some(7)), &[(3, Some(8))], &[]),
+                calls: (1 + 1 + 1, 5 + 1 + 4 + 1),
+            },
+        ],
+    ),
+    (
+        File::Bytes(&[0]),
+        File::Older(3, (2, Some(7)), &[(3, None)]),
+        &[Run {
+            what: "a store of version 1 in the second file",
             start: Start::Open,
-            steps: &[Step::Snapshot, Step::Call(1)],
-            answers: "ok\nok 8 seq 3\n",
+            steps: &[Step::State],
+            answers: "(3, None)\n",
             is_reopened: false,
-            first: File::Older(1, (0, None), &[(1, Some(2)), (2, Some(7))]),
-            second: File::Written(2, (2, Some(7)), &[(3, Some(8))], &[]),
-            calls: (1 + 1, 1 + 1 + 4 + 4),
-        },
-    ],
-)];
+            first: File::Written(4, (3, None), &[], &[]),
+            second: File::Older(3, (2, Some(7)), &[(3, None)]),
+            calls: (1 + 4, 1),
+        }],
+    ),
+];
 
 #[test]
 fn the_files_of_a_store_of_version_one(rt: HostRuntime) -> Result<(), Fail> {

@@ -6,4 +6,5 @@ use Rattle.ash_durable.proofs.contents.check_shapes.Given as goal
 -- what is found of the records that are left is found of all
 abbrev pub invariant-loop-record : goal.invariant-loop-record
 invariant-loop-record l = (result : Result (Unit {0}) StoreFault)
-    → ChecksShapes l.registered (drop l.record-index l.records) result → ChecksShapes l.registered l.records result
+    → ChecksShapes l.version l.registered (drop l.record-index l.records) result
+    → ChecksShapes l.version l.registered l.records result

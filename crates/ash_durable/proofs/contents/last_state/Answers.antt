@@ -5,7 +5,7 @@ use Rattle.ash_journal.specs.Reading.{bodies_of}
 use Rattle.ash_registry.specs.Registrations.{Registration}
 use Rattle.ash_registry.specs.Registered.{registered}
 use Rattle.ash_registry.specs.Text.{text_of}
-use Rattle.ash_states.specs.Images.{IsBodyOf}
+use Rattle.ash_durable.specs.States.{IsBodyOf}
 use Rattle.ash_durable.specs.Contents.{IsBodyWith, LeadsOn, LeadsThrough}
 use Rattle.ash_durable.proofs.Reading.{left_from, through_more, through_none}
 use Rattle.ash_durable.proofs.contents.last_state.Goals as goal
@@ -17,15 +17,20 @@ loop-record-preserved c =
     let next = c.in_ok-state.state in
     let later = drop (c.loop-record.record-index + 1) c.args.records.now in
     let left = left_from c.args.records.now c.loop-record.record-index r c.loop-record-test.true c.record-item.is in
-    let shaped = subst (λ (l : List Record). AllByRecursion (IsBodyWith (text_of before.registered)) (bodies_of l))
-    left c.loop-record.invariant.shaped in
+    let version = c.loop-record.invariant.shaped.0 in
+    let shaped = subst (λ (l : List Record).
+    AllByRecursion (IsBodyWith version (text_of before.registered)) (bodies_of l))
+    left c.loop-record.invariant.shaped.1 in
     let on : LeadsOn before.registered r.body.items r.gate (Ok next) = (
       c.in_ok-state.ensures.0 ∙ c.into_registry.ensures.same,
       subst (λ (body : List ℕ). IsBodyOf body next) c.deref.ensures.value c.in_ok-state.ensures.1,
     ) in
     record {
-      shaped = subst (λ (of : List Registration). AllByRecursion (IsBodyWith (text_of of)) (bodies_of later)) (sym on.0)
-          shaped.1;
+      shaped = (
+        version,
+        subst (λ (of : List Registration). AllByRecursion (IsBodyWith version (text_of of)) (bodies_of later))
+            (sym on.0) shaped.1,
+      );
       leads = λ result through.
           c.loop-record.invariant.leads result (subst (λ (l : List Record). LeadsThrough before l result) (sym left)
           (through_more before next r later result on through));

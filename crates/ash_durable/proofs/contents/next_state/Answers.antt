@@ -20,12 +20,12 @@ returns-in-Some c =
     let is_body = rw c.in-Some.is at c.in_ok-stored.ensures.found in
     let text : s.registered ≡ text_of (registered c.args.registry) =
     ap (λ (t : Snapshot). t.registered)
-    (body_once c.args.body.now stored.version c.requires.0 s c.requires.1 is_body c.requires.2) ∙ c.requires.3 in
+    (body_once c.args.body.now stored.version c.requires.0 s c.requires.1.0 is_body c.requires.1.1) ∙ c.requires.1.2 in
     leads_on (registered c.args.registry) c.args.body.now stored.version s c.args.gate c.restore.result is_body text
     c.restore.ensures
 
 pub returns-in-None : goal.returns-in-None
 returns-in-None c =
-    let no : false ≡ true = (no_body_with (text_of (registered c.args.registry)) c.args.body.now
-    c.in_ok-stored.field-0 c.in-None.is c.in_ok-stored.ensures.only).1 c.requires in
+    let no : false ≡ true = (no_body_with c.requires.0 (text_of (registered c.args.registry)) c.args.body.now
+    c.in_ok-stored.field-0 c.in-None.is c.in_ok-stored.ensures.only).1 c.requires.1 in
     absurd (cc)

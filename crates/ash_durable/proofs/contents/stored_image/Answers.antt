@@ -1,4 +1,4 @@
-use Rattle.std.proofs.Common.{◌≡◌, None, Some, refl}
+use Rattle.std.proofs.Common.{refl}
 use Rattle.ash_durable.proofs.Reading.{reads_nothing}
 use Rattle.ash_durable.proofs.contents.stored_image.Goals as goal
 

@@ -1,7 +1,7 @@
 use Rattle.std.proofs.Common.{List, ℕ, Err, ap, sym, subst}
 use Rattle.ash_journal.specs.declared.error.InstallError.{InstallError}
 use Rattle.ash_state_image.specs.declared.version.Version.TheVariants.{Two}
-use Rattle.ash_states.specs.Images.{IsImageOf}
+use Rattle.ash_states.specs.Images.{IsImageIn}
 use Rattle.ash_durable.proofs.Committing.{installs, installs_not}
 use Rattle.ash_durable.proofs.Outcomes.{counts_as}
 use Rattle.ash_durable.proofs.saving.install_state.Goals as goal
@@ -10,8 +10,8 @@ pub returns-in-Ok : goal.returns-in-Ok
 returns-in-Ok g c =
     let state = c.args.state.now in
     let image = c.deref.result.now in
-    let depicts : IsImageOf image state = subst (λ (bytes : List ℕ). IsImageOf bytes state) (sym c.deref.ensures.value)
-    (Two, c.in_ok-image.ensures.image) in
+    let depicts : IsImageIn Two image state = subst (λ (bytes : List ℕ). IsImageIn Two bytes state)
+    (sym c.deref.ensures.value) c.in_ok-image.ensures.image in
     let said = c.in-Ok.ensures in
     installs g.D.Disk state c.args.journal.now c.install.new.self image depicts said.run said.installed
     (said.ready (λ is. cc)) said.higher said.emptied
@@ -25,8 +25,8 @@ pub returns : goal.returns
 returns g c =
     let state = c.args.state.now in
     let image = c.deref.result.now in
-    let depicts : IsImageOf image state = subst (λ (bytes : List ℕ). IsImageOf bytes state) (sym c.deref.ensures.value)
-    (Two, c.in_ok-image.ensures.image) in
+    let depicts : IsImageIn Two image state = subst (λ (bytes : List ℕ). IsImageIn Two bytes state)
+    (sym c.deref.ensures.value) c.in_ok-image.ensures.image in
     let said = c.in-Err-DeviceFailed.ensures in
     let failed_by = c.in-Err-DeviceFailed.field-0-is in
     let is_failed = ap (λ (e : InstallError). Err e) failed_by in

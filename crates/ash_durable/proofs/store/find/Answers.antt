@@ -1,4 +1,5 @@
 use Rattle.ash_registry.specs.Registered.{registered}
+use Rattle.ash_durable.specs.Store.{NotFound}
 use Rattle.ash_durable.proofs.Finding.{finds, not_opened}
 use Rattle.ash_durable.proofs.store.find.Goals as goal
 
@@ -20,9 +21,12 @@ returns-in-Ok g c =
 pub returns-in-Err : goal.returns-in-Err
 returns-in-Err g c =
     let e = c.in-Err.ensures in
-    not_opened g.D.Disk (registered c.args.registry)
+    NotFound (not_opened g.D.Disk (registered c.args.registry)
     c.args.a c.args.b c.in-Err.refused.first c.in-Err.refused.second c.in-Err.refused.fault c.into.result
     c.into.ensures
     (λ honest. e.fault honest.honest_first honest.honest_second)
     (λ honest. e.extends honest.honest_first honest.honest_second)
-    e.first_read e.second_read e.cause
+    e.first_read e.second_read e.cause)
+
+pub settled-requires : goal.settled-requires
+settled-requires g c = c.in-Ok.ensures.sound

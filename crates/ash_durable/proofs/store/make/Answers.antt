@@ -1,5 +1,6 @@
 use Rattle.std.proofs.Common.{List, ℕ, sym, subst}
-use Rattle.ash_states.specs.Images.{IsImageOf}
+use Rattle.ash_state_image.specs.declared.version.Version.TheVariants.{Two}
+use Rattle.ash_states.specs.Images.{IsImageIn}
 use Rattle.ash_durable.proofs.Making.{read_makes, made, not_made}
 use Rattle.ash_durable.proofs.store.make.Goals as goal
 
@@ -17,7 +18,7 @@ pub returns-in-Ok-create : goal.returns-in-Ok-create
 returns-in-Ok-create g c =
     let looked = c.in-Ok.ensures in
     let e = c.in-Ok-create.ensures in
-    let depicts = subst (λ (image : List ℕ). IsImageOf image c.args.state.now) (sym c.deref.ensures.value)
+    let depicts = subst (λ (image : List ℕ). IsImageIn Two image c.args.state.now) (sym c.deref.ensures.value)
     looked.looks.0 in
     made g.D.Disk c.args.state.now c.deref.result.now depicts c.args.a c.args.b c.first_image.new.a c.first_image.new.b
     looked.read looked.disks looked.looks.2
@@ -29,7 +30,7 @@ returns g c =
     let looked = c.in-Ok.ensures in
     let e = c.in-Err-create.ensures in
     let refused = c.in-Err-create.refused in
-    let depicts = subst (λ (image : List ℕ). IsImageOf image c.args.state.now) (sym c.deref.ensures.value)
+    let depicts = subst (λ (image : List ℕ). IsImageIn Two image c.args.state.now) (sym c.deref.ensures.value)
     looked.looks.0 in
     not_made g.D.Disk c.args.state.now c.deref.result.now depicts c.args.a c.args.b c.first_image.new.a
     c.first_image.new.b looked.read looked.disks looked.looks.2

@@ -1,7 +1,6 @@
 use Rattle.std.proofs.Common.{refl}
 use Rattle.std.proofs.lemmas.Result.{IfOk-weaker}
 use Rattle.ash_registry.specs.Registered.{registered}
-use Rattle.ash_state_image.specs.declared.version.Version.TheVariants.{Two}
 use Rattle.ash_state_image.specs.Image.{image_of}
 use Rattle.ash_state_image.specs.Views.{snapshot_in}
 use Rattle.ash_states.specs.States.{HostState}
@@ -16,5 +15,5 @@ returns-clause-body c =
     (λ body written. (
       image_of (snapshot_in c.state_parts.result),
       written,
-      (Two, image_by_parts s c.requires.held.admitted _ c.state_parts.ensures.same c.state_parts.ensures.fits (image_of (snapshot_in c.state_parts.result)) refl),
+      image_by_parts s c.requires.held.admitted _ c.state_parts.ensures.same c.state_parts.ensures.fits (image_of (snapshot_in c.state_parts.result)) refl,
     )) c.write_body.ensures.written

@@ -1,0 +1,176 @@
+//! How fast the image of a whole state is read, restored and written: `ash_bench image`.
+//!
+//! The state has as much as a host may have: 16 modules, and 4,096 objects of 32 fields. In each module a global has the
+//! first of 256 objects, and each of these has the next.
+
+use crate::rates::Timing;
+use anyhow::{Result, bail, ensure};
+use ash_registry::Registry;
+use ash_state_image::image::read_image;
+use ash_states::state::HostState;
+use std::alloc::Global;
+use std::io;
+
+/// The name of each module, by ascending name.
+const NAMES: &[u8; 16] = b"abcdefghijklmnop";
+
+/// How many objects there are.
+const OBJECTS: u32 = 4096;
+
+/// How many objects each module has.
+const OBJECTS_OF_A_MODULE: u64 = 256;
+
+/// How many fields of an object are integers; one more is a handle.
+const INTEGERS: u8 = 31;
+
+/// The class of all objects of a module, and the global that has the first.
+const SOURCE: &str =
+    "class C { int a, b, c, d, e, f, g, h, i, j, k, l, m, n, o, p, q, r, s, t, u, v, w, x, y, z; \
+int a1, a2, a3, a4, a5; C@ next; } C@ first;";
+
+fn write_u8(out: &mut Vec<u8>, value: u8) -> Result<()> {
+    out.push(value)?;
+    Ok(())
+}
+
+fn write_u16(out: &mut Vec<u8>, value: u16) -> Result<()> {
+    out.extend_from_slice(&value.to_le_bytes())?;
+    Ok(())
+}
+
+fn write_u32(out: &mut Vec<u8>, value: u32) -> Result<()> {
+    out.extend_from_slice(&value.to_le_bytes())?;
+    Ok(())
+}
+
+fn write_u64(out: &mut Vec<u8>, value: u64) -> Result<()> {
+    out.extend_from_slice(&value.to_le_bytes())?;
+    Ok(())
+}
+
+/// Writes the handle of an object.
+fn write_handle(out: &mut Vec<u8>, number: u64) -> Result<()> {
+    write_u8(out, 6)?;
+    write_u64(out, number)?;
+    Ok(())
+}
+
+/// Writes a module whose global has the object of this number.
+fn write_module(out: &mut Vec<u8>, name: u8, first: u64) -> Result<()> {
+    write_u8(out, 1)?;
+    write_u8(out, name)?;
+    write_u32(out, SOURCE.len() as u32)?;
+    out.extend_from_slice(SOURCE.as_bytes())?;
+    write_u16(out, 1)?;
+    write_handle(out, first)
+}
+
+/// Writes an object of the module at this place, which has the next one but where it is the last.
+fn write_object(out: &mut Vec<u8>, place: u8, number: u64, is_last: bool) -> Result<()> {
+    write_u64(out, number)?;
+    write_u8(out, 1)?;
+    write_u8(out, place)?;
+    write_u16(out, 0)?;
+    write_u8(out, INTEGERS + 1)?;
+    for value in 0..INTEGERS {
+        write_u8(out, 1)?;
+        write_u32(out, u32::from(value))?;
+    }
+    if is_last {
+        write_u8(out, 5)?;
+        return Ok(());
+    }
+    write_handle(out, number.wrapping_add(1))
+}
+
+/// The number of the first object of the module at a place.
+fn first_of(place: u8) -> u64 {
+    u64::from(place)
+        .wrapping_mul(OBJECTS_OF_A_MODULE)
+        .wrapping_add(1)
+}
+
+/// Writes the objects of the module at a place.
+fn write_objects(out: &mut Vec<u8>, place: u8) -> Result<()> {
+    let first = first_of(place);
+    let next_module = first.wrapping_add(OBJECTS_OF_A_MODULE);
+    for number in first..next_module {
+        write_object(out, place, number, number.wrapping_add(1) == next_module)?;
+    }
+    Ok(())
+}
+
+/// The image of the state: version 2, nothing registered, no request, so many objects, no service.
+fn image(alloc: Global) -> Result<Vec<u8>> {
+    let mut out = Vec::new(alloc);
+    write_u16(&mut out, 2)?;
+    write_u32(&mut out, 0)?;
+    write_u64(&mut out, 0)?;
+    write_u64(&mut out, u64::from(OBJECTS))?;
+    write_u16(&mut out, 0)?;
+    write_u8(&mut out, NAMES.len() as u8)?;
+    for (place, name) in NAMES.iter().enumerate() {
+        write_module(&mut out, *name, first_of(place as u8))?;
+    }
+    write_u32(&mut out, OBJECTS)?;
+    for place in 0..NAMES.len() as u8 {
+        write_objects(&mut out, place)?;
+    }
+    Ok(out)
+}
+
+/// The host that has this image, with nothing registered.
+fn restored(alloc: Global, image: &[u8]) -> Result<HostState> {
+    let stored = match read_image(alloc, image)? {
+        Some(stored) => HostState::restore(alloc, Registry::new(alloc), stored.state)?,
+        None => None,
+    };
+    match stored {
+        Some(host) => Ok(host),
+        None => bail!("no host has this image"),
+    }
+}
+
+/// Does a piece of work so many times, and prints how long it took once.
+fn measure<F: FnMut() -> Result<()>>(
+    rt: &HostRuntime,
+    work: &str,
+    rounds: u64,
+    run: F,
+) -> Result<()>
+    requires { F.IsAlwaysCallable run }
+{
+    let mut timing = Timing::zero();
+    timing.measure(rt, rounds, run)?;
+    println!(rt; "  {work}: {} microseconds each", timing.microseconds())?;
+    Ok(())
+}
+
+/// Reads, restores and writes the image.
+pub fn run(rt: &HostRuntime, rounds: Option<u64>) -> Result<()> {
+    let image = image(rt.alloc())?;
+    let host = restored(rt.alloc(), &image)?;
+    ensure!(
+        host.image()?.as_slice() == image.as_slice(),
+        "another image is written"
+    );
+    println!(rt;
+        "16 modules, 4096 objects of 32 fields: {} bytes",
+        image.len()
+    )?;
+    let Some(rounds) = rounds else {
+        return Ok(());
+    };
+    measure(rt, "read by its shape", rounds, || {
+        read_image(rt.alloc(), &image)?;
+        Ok(())
+    })?;
+    measure(rt, "read and restored", rounds, || {
+        restored(rt.alloc(), &image)?;
+        Ok(())
+    })?;
+    measure(rt, "written", rounds, || {
+        host.image()?;
+        Ok(())
+    })
+}

@@ -1,0 +1,106 @@
+use Rattle.std.proofs.Common.{◌≡◌, ◌∙◌, ◌+◌, ◌^◌, ◌<◌, ◌∷◌, ◌++◌, [], List, ℕ, length, drop, not, false, refl}
+use Rattle.std.proofs.Common.{sym, ap, subst, arith, length-append}
+use Rattle.ash_disk.specs.Device.{HoldsThroughout}
+use Rattle.ash_journal.specs.declared.other_state.OtherState.TheVariants.{Older}
+use Rattle.ash_journal.specs.Layout.{mark, block}
+use Rattle.ash_journal.specs.Writes.{IsOn, WhileReplaced}
+use Rattle.ash_journal.specs.OtherState.{is_older, first_of, second_of}
+use Rattle.ash_journal.specs.Current.{IsContents, HoldsOneOf}
+use Rattle.ash_journal.specs.Journal.{FilesAre}
+use Rattle.ash_journal.specs.Runs.{HoldsSince}
+use Rattle.ash_journal.proofs.LayoutLaws.{length-mark, length-block}
+use Rattle.ash_journal.proofs.RunLaws.{run_swapped}
+use Rattle.ash_journal.proofs.FilesLaws.{shut_other, install_files, install_run, ready_run}
+use Rattle.ash_journal.proofs.journal.Journal.install_next.Goals as goal
+
+-- as many bytes as those of an image and 21
+length_next : (generation : ℕ) (image bytes : List ℕ) → bytes ≡ mark generation ++ (block image ++ 0 ∷ [])
+    → length bytes ≡ 21 + length image
+length_next generation image bytes is =
+    ap length is ∙ omega (
+      arith,
+      length-append (mark generation) (block image ++ 0 ∷ []),
+      length-mark generation,
+      length-append (block image) (0 ∷ []),
+      length-block image,
+    )
+
+pub invariant_of-self-2 : goal.invariant_of-self-2
+invariant_of-self-2 g c =
+    let next = c.requires.next.1 in
+    let long = length_next (c.args.self.now.generation + 1) c.requires.next.0 c.args.next.bytes.items next.bytes_are in
+    omega (arith, long, next.short)
+
+pub returns-in-Err-clause-run : goal.returns-in-Err-clause-run
+returns-in-Err-clause-run g c image was bodies next holds =
+    let d = g.D.Disk in
+    let j = c.args.self.now in
+    let f = holds.files in
+    let bytes_are : c.deref.result.now ≡ mark (j.generation + 1) ++ (block image ++ 0 ∷ []) =
+    c.deref.ensures.value ∙ next.bytes_are in
+    let shut = shut_other j.stray j.other_state j.generation (d.seen j.other) holds.repaired f.other_is in
+    let call = c.replace.ensures.moments f.other_honest f.other_durable shut in
+    let call' =
+    subst (λ (l : List ℕ).
+    HoldsThroughout d j.other c.replace.new.disk (WhileReplaced (is_older j.other_state) l (d.seen j.other))) bytes_are
+    call in
+    install_run d j.generation j.end j.record_bytes j.stray j.other_state j.current j.other c.replace.new.disk
+    was bodies image f holds.repaired next.numbered next.short j.swapped call'
+
+pub returns-clause-installed : goal.returns-clause-installed
+returns-clause-installed g c image was bodies next holds =
+    let d = g.D.Disk in
+    let j = c.args.self.now in
+    let f = holds.files in
+    let bytes_are : c.deref.result.now ≡ mark (j.generation + 1) ++ (block image ++ 0 ∷ []) =
+    c.deref.ensures.value ∙ next.bytes_are in
+    let shut = shut_other j.stray j.other_state j.generation (d.seen j.other) holds.repaired f.other_is in
+    let on = c.in-Ok.ensures.replaced f.other_honest f.other_durable shut in
+    let on' = subst
+    (λ (l : List ℕ). IsOn d c.replace.new.disk (1 ∷ (l ++ drop (length l) (drop 1 (d.seen j.other))))) bytes_are
+    on in
+    let long = length_next (j.generation + 1) image c.args.next.bytes.items next.bytes_are in
+    let end : c.len.result ≡ 21 + length image = omega (arith, long, c.args.next.bytes.ok.0) in
+    let files = install_files d j.generation j.end j.record_bytes j.stray j.other_state j.current j.other
+    c.replace.new.disk was bodies image f holds.repaired next.numbered next.short c.len.result end
+    c.replace.ensures.honesty on' in
+    let files' =
+    subst (λ x. FilesAre d (j.generation + 1) c.len.result 0 false Older x j.current image [])
+    (sym c.swap.ensures.x_after) files in
+    let files'' =
+    subst (λ y. FilesAre d (j.generation + 1) c.len.result 0 false Older c.swap.new.x y image [])
+    (sym c.swap.ensures.y_after) files' in
+    let all = subst (λ (n : ℕ). FilesAre d n c.len.result 0 false Older c.swap.new.x c.swap.new.y image [])
+    (sym next.number_is) files'' in
+    record {
+      files = all;
+      repaired = tt;
+      run = ready_run d c.args.next.number c.len.result 0 false Older (not j.swapped) c.swap.new.x c.swap.new.y
+          image [] all tt;
+    }
+
+pub returns-clause-run : goal.returns-clause-run
+returns-clause-run g c image was bodies next holds =
+    let d = g.D.Disk in
+    let j = c.args.self.now in
+    let f = holds.files in
+    let bytes_are : c.deref.result.now ≡ mark (j.generation + 1) ++ (block image ++ 0 ∷ []) =
+    c.deref.ensures.value ∙ next.bytes_are in
+    let shut = shut_other j.stray j.other_state j.generation (d.seen j.other) holds.repaired f.other_is in
+    let call = c.replace.ensures.moments f.other_honest f.other_durable shut in
+    let call' =
+    subst (λ (l : List ℕ).
+    HoldsThroughout d j.other c.replace.new.disk (WhileReplaced (is_older j.other_state) l (d.seen j.other))) bytes_are
+    call in
+    let run = install_run d j.generation j.end j.record_bytes j.stray j.other_state j.current j.other c.replace.new.disk
+    was bodies image f holds.repaired next.numbered next.short j.swapped call' in
+    let swapped =
+    run_swapped d j.swapped _ _ j.current c.replace.new.disk (HoldsOneOf (IsContents (image, [])) (IsContents (was, bodies))) run in
+    let swapped' =
+    subst (λ x. HoldsSince d (d.clock (first_of j.swapped j.current j.other))
+    (d.clock (second_of j.swapped j.current j.other)) (first_of (not j.swapped) x j.current)
+    (second_of (not j.swapped) x j.current) (HoldsOneOf (IsContents (image, [])) (IsContents (was, bodies))))
+    (sym c.swap.ensures.x_after) swapped in
+    subst (λ y. HoldsSince d (d.clock (first_of j.swapped j.current j.other)) (d.clock (second_of j.swapped j.current j.other))
+    (first_of (not j.swapped) c.swap.new.x y) (second_of (not j.swapped) c.swap.new.x y)
+    (HoldsOneOf (IsContents (image, [])) (IsContents (was, bodies)))) (sym c.swap.ensures.y_after) swapped'
