@@ -142,7 +142,7 @@ static LENGTHS: [Filled; 6] = [
 ];
 
 /// The bytes of a row, a line feed, and a request more.
-fn filled(alloc: Global, row: &Filled) -> Result<Vec<u8>, AllocError> {
+fn with_filling(alloc: Global, row: &Filled) -> Result<Vec<u8>, AllocError> {
     let mut requests = Vec::from_slice(alloc, row.first.as_bytes())?;
     requests.extend_from_slice(&vec![in alloc; row.byte; row.count]?)?;
     requests.extend_from_slice(b"\nseq\n")?;
@@ -150,7 +150,7 @@ fn filled(alloc: Global, row: &Filled) -> Result<Vec<u8>, AllocError> {
 }
 
 fn check_filled(rt: &impl Abort, alloc: Global, row: &Filled) -> Result<(), Fail> {
-    let requests = filled(alloc, row)?;
+    let requests = with_filling(alloc, row)?;
     let mut host = new_host(alloc, Registry::new(alloc))?;
     let found = replies(alloc, &mut host, &requests)?;
     check_text(rt, &found, row.replies, row.what);
