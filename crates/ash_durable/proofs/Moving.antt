@@ -39,7 +39,7 @@ not_prepared state was fault refused fault_is a_is b_is why = record {
   where
     may : (f : StoreFault) → Prepares state was (Err f) → MayNotMove was f
     may faults.GenerationSpent last = last
-    may faults.NoMemory any = tt
+    may faults.NoMemory other = other
     may _ never = absurd never
 
 module _ {D : Type 0} (device : Device D) (state : HostState) (old new : Journal D) (image : List ℕ)

@@ -327,13 +327,13 @@ Repairs device state was (Err refused) = FailedToSettle device was refused
 abbrev pub Prepares : {D : Type 0} → HostState → Journal D → Result NextGeneration StoreFault → Type 0
 Prepares state journal (Ok next) = (image : List ℕ) × IsImageIn Two image state × IsNext journal image next
 Prepares state journal (Err faults.GenerationSpent) = generation journal ≡ last_generation
-Prepares state journal (Err faults.NoMemory) = Unit {0}
+Prepares state journal (Err faults.NoMemory) = generation journal ≡ last_generation → ⊥
 Prepares state journal (Err _) = ⊥
 
--- Why a state is not moved of which nothing was written: its generation has the last number, or memory was refused.
+-- Why a state is not moved of which nothing was written: its generation has the last number, or else memory was refused.
 abbrev pub MayNotMove : {D : Type 0} → Journal D → StoreFault → Type 0
 MayNotMove was faults.GenerationSpent = generation was ≡ last_generation
-MayNotMove was faults.NoMemory = Unit {0}
+MayNotMove was faults.NoMemory = generation was ≡ last_generation → ⊥
 MayNotMove was _ = ⊥
 
 -- No state is moved, and nothing was written.
