@@ -1,7 +1,7 @@
 //! How fast the image of a whole state is read, restored and written: `ash_bench image`.
 //!
-//! The state has as much as a host may have: 16 modules, and 4,096 objects of 32 fields. In each module a global has the
-//! first of 256 objects, and each of these has the next.
+//! The state has as much as a host may have: 16 modules and 4,096 objects. In each module a global has an array, which
+//! has 255 objects of 32 fields.
 
 use crate::rates::Timing;
 use anyhow::{Result, bail, ensure};
@@ -20,13 +20,13 @@ const OBJECTS: u32 = 4096;
 /// How many objects each module has.
 const OBJECTS_OF_A_MODULE: u64 = 256;
 
-/// How many fields of an object are integers; one more is a handle.
-const INTEGERS: u8 = 31;
+/// How many fields an object of the class has.
+const FIELDS: u8 = 32;
 
-/// The class of all objects of a module, and the global that has the first.
+/// The class of the objects of a module, and the global that has the array of them.
 const SOURCE: &str =
     "class C { int a, b, c, d, e, f, g, h, i, j, k, l, m, n, o, p, q, r, s, t, u, v, w, x, y, z; \
-int a1, a2, a3, a4, a5; C@ next; } C@ first;";
+int a1, a2, a3, a4, a5, a6; } array<C@>@ all;";
 
 fn write_u8(out: &mut Vec<u8>, value: u8) -> Result<()> {
     out.push(value)?;
@@ -55,7 +55,7 @@ fn write_handle(out: &mut Vec<u8>, number: u64) -> Result<()> {
     Ok(())
 }
 
-/// Writes a module whose global has the object of this number.
+/// Writes a module whose global has the array of this number.
 fn write_module(out: &mut Vec<u8>, name: u8, first: u64) -> Result<()> {
     write_u8(out, 1)?;
     write_u8(out, name)?;
@@ -65,22 +65,32 @@ fn write_module(out: &mut Vec<u8>, name: u8, first: u64) -> Result<()> {
     write_handle(out, first)
 }
 
-/// Writes an object of the module at this place, which has the next one but where it is the last.
-fn write_object(out: &mut Vec<u8>, place: u8, number: u64, is_last: bool) -> Result<()> {
+/// Writes the array of the module at this place, which has all objects up to those of the next module.
+fn write_array(out: &mut Vec<u8>, place: u8, first: u64, next_module: u64) -> Result<()> {
+    write_u64(out, first)?;
+    write_u8(out, 3)?;
+    write_u8(out, 5)?;
+    write_u8(out, place)?;
+    write_u16(out, 0)?;
+    write_u16(out, 255)?;
+    for number in first.wrapping_add(1)..next_module {
+        write_handle(out, number)?;
+    }
+    Ok(())
+}
+
+/// Writes an object of the class of the module at this place.
+fn write_object(out: &mut Vec<u8>, place: u8, number: u64) -> Result<()> {
     write_u64(out, number)?;
     write_u8(out, 1)?;
     write_u8(out, place)?;
     write_u16(out, 0)?;
-    write_u8(out, INTEGERS + 1)?;
-    for value in 0..INTEGERS {
+    write_u8(out, FIELDS)?;
+    for value in 0..FIELDS {
         write_u8(out, 1)?;
         write_u32(out, u32::from(value))?;
     }
-    if is_last {
-        write_u8(out, 5)?;
-        return Ok(());
-    }
-    write_handle(out, number.wrapping_add(1))
+    Ok(())
 }
 
 /// The number of the first object of the module at a place.
@@ -94,8 +104,9 @@ fn first_of(place: u8) -> u64 {
 fn write_objects(out: &mut Vec<u8>, place: u8) -> Result<()> {
     let first = first_of(place);
     let next_module = first.wrapping_add(OBJECTS_OF_A_MODULE);
-    for number in first..next_module {
-        write_object(out, place, number, number.wrapping_add(1) == next_module)?;
+    write_array(out, place, first, next_module)?;
+    for number in first.wrapping_add(1)..next_module {
+        write_object(out, place, number)?;
     }
     Ok(())
 }
@@ -154,10 +165,7 @@ pub fn run(rt: &HostRuntime, rounds: Option<u64>) -> Result<()> {
         host.image()?.as_slice() == image.as_slice(),
         "another image is written"
     );
-    println!(rt;
-        "16 modules, 4096 objects of 32 fields: {} bytes",
-        image.len()
-    )?;
+    println!(rt; "16 modules, 4096 objects: {} bytes", image.len())?;
     let Some(rounds) = rounds else {
         return Ok(());
     };
