@@ -18,6 +18,14 @@ refused() {
     end="$?/$(cat "$scratch/error")/$(tr '\n' ';' < "$scratch/output")"
 }
 
+# finds COUNTERS REQUESTS WANTED WHEN: by these requests this is found in the other store, after an allocation was refused
+finds() {
+    local found
+    found=$(printf "$2" | "$ashd" serve "$scratch/other" --budget 1000 --counters "$1" | tr '\n' ';')
+    [ "$found" = "$3" ]
+    verdict $? "what is found after allocation $number was refused$4: $found"
+}
+
 # Over disks in memory a disk that finds none is a disk that fails. A refusal before the commit changes nothing; after
 # one in the commit the host must be opened again.
 cp examples/first.requests "$scratch/input"
@@ -77,9 +85,7 @@ for number in $(seq 1 1000); do
         "0//ok seq 1;ok 7 seq 2;ok 7;ok;") untouched=0; break ;;
         *) verdict 1 "allocation $number refused in serve: $end"; continue ;;
     esac
-    found=$(printf 'seq\n' | "$ashd" serve "$scratch/other" --budget 1000 --counters 2)
-    [ "$found" = "ok $answered" ]
-    verdict $? "what is found after allocation $number was refused: $found"
+    finds 2 'seq\n' "ok $answered;" ""
 done
 verdict $untouched "a run over a store that no refusal meets"
 
@@ -143,9 +149,7 @@ for number in $(seq 1 1000); do
         "0//ok 11;ok;ok 12 seq 7;ok;ok 12;ok 7;") untouched=0; break ;;
         *) verdict 1 "allocation $number refused over several records: $end"; continue ;;
     esac
-    found=$(printf 'get m n\nseq\n' | "$ashd" serve "$scratch/other" --budget 1000 --counters 2 | tr '\n' ';')
-    [ "$found" = "$wanted" ]
-    verdict $? "what is found after allocation $number was refused over several records: $found"
+    finds 2 'get m n\nseq\n' "$wanted" " over several records"
 done
 verdict $untouched "a run over several records that no refusal meets"
 
@@ -178,8 +182,6 @@ for number in $(seq 1 2000); do
         2) wanted="ok 2;$array object 3;" ;;
         *) wanted="ok 3;$array object 3 object 4;" ;;
     esac
-    found=$(printf 'seq\nobject 2\n' | "$ashd" serve "$scratch/other" --budget 1000 --counters 0 | tr '\n' ';')
-    [ "$found" = "$wanted" ]
-    verdict $? "what is found after allocation $number was refused over objects: $found"
+    finds 0 'seq\nobject 2\n' "$wanted" " over objects"
 done
 verdict $untouched "a run over objects that no refusal meets"

@@ -18,6 +18,7 @@ pub mod Mishaps
 pub mod Moving
 pub mod Opened
 pub mod Outcomes
+pub mod Prefixes
 pub mod Reading
 pub mod Refusing
 pub mod RequestOutcomes

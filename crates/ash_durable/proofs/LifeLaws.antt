@@ -231,7 +231,7 @@ module _ {D : Type 0} (device : Device D) (stays : (disk : D) → IsTrue (device
   outlives _ _ (lives.Failed events budget request old reply new life handled not ran none) =
       failed device registered events budget request old reply new (outlives events (UnderHost old) life)
       handled ran none
-  outlives _ _ (lives.CrashedHandling events budget request old reply new a b life handled crash) =
+  outlives _ _ (lives.CrashedHandling events budget request old reply new a b life handled ran crash) =
       crashed_handling device registered events budget request old reply new a b (outlives events (UnderHost old) life)
       handled crash
   outlives _ _ (lives.Closed events host life) =

@@ -55,6 +55,18 @@ abbrev pub IsCertain : List Event → Type 0
 IsCertain (InDoubt budget request ∷ earlier) = ⊥
 IsCertain _ = Unit {0}
 
+-- since the store was made or last opened, each event is a request that was answered
+abbrev pub AreAcknowledged : List Event → Type 0
+AreAcknowledged (Acknowledged budget request end seq happened ∷ earlier) = AreAcknowledged earlier
+AreAcknowledged (InDoubt budget request ∷ earlier) = ⊥
+AreAcknowledged _ = Unit {0}
+
+-- Since then the events are a prefix of the requests that were handled: each is one that was answered, but for the
+-- newest, which may be in doubt.
+abbrev pub IsOfPrefix : List Event → Type 0
+IsOfPrefix (InDoubt budget request ∷ earlier) = AreAcknowledged earlier
+IsOfPrefix events = AreAcknowledged events
+
 -- ---- crashes
 
 -- Two honest disks take the place of two others after a crash: each image that they may leave now is one that the
@@ -149,10 +161,11 @@ pub data Life {D : Type 0} (device : Device D) (registered : List Registration) 
       → Life device registered events (UnderHost old) → Handles device budget request old reply new
       → (IsAnswer reply → ⊥) → (old.state ≡ None → ⊥) → new.state ≡ None
       → Life device registered (InDoubt budget request ∷ events) (UnderHost new)
-  -- a crash while a request is handled, at any moment from its beginning to its reply
+  -- a crash while a host that runs handles a request, at any moment from its beginning to its reply; one that must be
+  -- reopened does nothing
   CrashedHandling : (events : List Event) (budget : ℕ) (request : Request) (old : Hosted D) (reply : Reply SourceFault)
       (new : Hosted D) (a b : D) → Life device registered events (UnderHost old)
-      → Handles device budget request old reply new
+      → Handles device budget request old reply new → (old.state ≡ None → ⊥)
       → Crashed device (device.clock (first old)) (device.clock (second old)) (first new) (second new) a b
       → Life device registered (InDoubt budget request ∷ events) (OnDisks a b)
   -- a host is closed
@@ -227,6 +240,12 @@ pub record RunsOn {D : Type 0} (device : Device D) (registered : List Registrati
 abbrev pub RunsAt : {D : Type 0} → Device D → List Registration → List Event → Place D → Type 0
 RunsAt device registered events (UnderHost host) = RunsOn device registered events host
 RunsAt device registered events (OnDisks one other) = Unit {0}
+
+-- Where the store is under a host that runs, each event since the store was made or last opened is a request that was
+-- answered. Where it is under one that must be reopened, or under none, the newest may be in doubt.
+abbrev pub IsPrefixAt : {D : Type 0} → List Event → Place D → Type 0
+IsPrefixAt events (UnderHost host) = ((host.state ≡ None) × IsOfPrefix events) ⊎ AreAcknowledged events
+IsPrefixAt events (OnDisks one other) = IsOfPrefix events
 
 -- What holds in each life.
 pub record Outlives {D : Type 0} (device : Device D) (registered : List Registration) (events : List Event)

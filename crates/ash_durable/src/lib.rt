@@ -25,6 +25,5 @@ pub mod lives;
 mod saving;
 mod store;
 
-pub use ash_sources::checking::check_source;
 pub use fault::{OpenRefused, StoreFault};
 pub use host::Host;

@@ -2,7 +2,7 @@
 
 ghost use Rattle.std.specs.Prelude.{ℕ, List, ◌∷◌, ◌++◌};
 ghost use Rattle.ash_durable.specs.Lives.{AreLeft, BeginWith, Crashed, Event, LeadBy, Life, OnDisks, Outlives, Place};
-ghost use Rattle.ash_durable.specs.Lives.{first_at, second_at};
+ghost use Rattle.ash_durable.specs.Lives.{IsPrefixAt, first_at, second_at};
 ghost use Rattle.ash_durable.specs.States.{AreHonest, SettleNow};
 ghost use Rattle.ash_durable.specs.Store.{MayRefuse, WasRefused};
 ghost use Rattle.ash_durable.specs.declared.fault.OpenRefused.{OpenRefused};
@@ -21,6 +21,10 @@ use ash_disk::Disk;
 ///
 /// `each`: so each event that ever came is in every such state, at its place among the others.
 ///
+/// `prefix`: since the store was made or last opened each event is a request that was answered, so that the states are
+/// those after a prefix of the requests that holds every acknowledged one. The newest alone may be in doubt, and where
+/// it is no host runs.
+///
 /// `opens`: a store is never refused to a host with the same registry, but because memory ran out, because a disk
 /// failed, or because the store is of version 1 and the number of its generation is the last.
 ///
@@ -33,6 +37,8 @@ pub fn nothing_acknowledged_is_lost<D: Disk>()
         → Life D.Disk registered (later ++ event ∷ earlier) place
         → SettleNow D.Disk (first_at place) (second_at place)
         (LeadBy later event earlier (empty registered)) }
+    ensures prefix { (registered : List Registration) (events : List Event) (place : Place D)
+        → Life D.Disk registered events place → IsPrefixAt events place }
     ensures opens { (registered : List Registration) (events : List Event) (a b : D)
         (refused : OpenRefused D)
         → Life D.Disk registered events (OnDisks a b) → WasRefused D.Disk registered a b refused

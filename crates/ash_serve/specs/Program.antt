@@ -1,10 +1,30 @@
--- The statuses of the program.
-use Rattle.std.specs.Prelude.{ℕ, Some, None, Result, Ok, Err}
+-- The statuses of the program, and the codes of the faults that end it.
+use Rattle.std.specs.Prelude.{ℕ, List, Some, None, Result, Ok, Err, codes}
+use Rattle.ash_registry.specs.Refusals as registry
+use Rattle.ash_durable.specs.Faults as store
+use Rattle.ash_serve.specs.declared.fault.RunFault.{RunFault}
+use Rattle.ash_serve.specs.declared.fault.RunFault.TheVariants as run
 use Rattle.ash_serve.specs.declared.program.ending.End.{End}
 use Rattle.ash_serve.specs.declared.program.ending.Ending.{Ending}
 use Rattle.ash_serve.specs.declared.program.ending.Ending.TheVariants as endings
 use Rattle.ash_serve.specs.declared.program.fault.Fault.{Fault}
 use Rattle.ash_serve.specs.declared.program.fault.Fault.TheVariants.{Usage, NoMemory, Registry, Store, Run}
+
+-- the number and the name of what ends a run
+abbrev pub run_code : RunFault → List ℕ
+run_code run.Truncated = codes "603 Truncated"
+run_code run.TooLong = codes "604 TooLong"
+run_code run.Read = codes "605 Read"
+run_code run.Write = codes "606 Write"
+run_code run.NoMemory = codes "509 NoMemory"
+
+-- what the program writes of a fault: the number and the name of it; for wrong words, that they are
+abbrev pub code_of : Fault → List ℕ
+code_of Usage = codes "usage"
+code_of NoMemory = codes "509 NoMemory"
+code_of (Registry fault) = registry.code_of fault
+code_of (Store fault) = store.code_of fault
+code_of (Run fault) = run_code fault
 
 -- the status of a fault: 2 for wrong words, 1 for any other
 abbrev pub status_of : Fault → ℕ

@@ -1,5 +1,8 @@
 // Why a run stopped.
 
+ghost use Rattle.std.specs.Prelude.{◌≡◌};
+ghost use Rattle.ash_serve.specs.Program.{run_code};
+
 use ash_lines::sink::WriteFault;
 use ash_lines::source::ReadFault;
 use std::alloc::AllocError;
@@ -9,24 +12,38 @@ use thiserror::Error;
 #[derive(Clone, Copy, Debug, PartialEq, Eq, Error)]
 pub enum RunFault {
     /// The input ended inside a request; nothing was written for it.
-    #[error("603 Truncated")]
+    #[error("the input ended inside a request")]
     Truncated,
     /// More than 2^40 bytes came.
-    #[error("604 TooLong")]
+    #[error("more than 2^40 bytes came")]
     TooLong,
     /// The reader failed.
-    #[error("605 Read")]
+    #[error("the input could not be read")]
     Read,
     /// The writer failed, or took no byte.
-    #[error("606 Write")]
+    #[error("the output could not be written")]
     Write,
     /// There was no memory for the buffers; nothing was read, handled or written.
-    #[error("509 NoMemory")]
+    #[error("memory was refused before the run")]
     NoMemory,
 }
 
+impl RunFault {
+    /// The code by which it is reported: its number and its name.
+    pub fn code(self) -> &'static str
+        ensures coded { result.now ≡ run_code self }
+    {
+        match self {
+            RunFault::Truncated => "603 Truncated",
+            RunFault::TooLong => "604 TooLong",
+            RunFault::Read => "605 Read",
+            RunFault::Write => "606 Write",
+            RunFault::NoMemory => "509 NoMemory",
+        }
+    }
+}
+
 impl From<ReadFault> for RunFault {
-    ghost use Rattle.std.specs.Prelude.{◌≡◌};
     ghost use Rattle.ash_serve.specs.Serving.{run_fault};
 
     ghost from_gives = { λ read fault. fault ≡ run_fault read };
@@ -40,7 +57,6 @@ impl From<ReadFault> for RunFault {
 }
 
 impl From<WriteFault> for RunFault {
-    ghost use Rattle.std.specs.Prelude.{◌≡◌};
     ghost use Rattle.ash_serve.specs.declared.fault.RunFault.TheVariants as faults;
 
     ghost from_gives = { λ _ fault. fault ≡ faults.Write };
@@ -51,7 +67,6 @@ impl From<WriteFault> for RunFault {
 }
 
 impl From<AllocError> for RunFault {
-    ghost use Rattle.std.specs.Prelude.{◌≡◌};
     ghost use Rattle.ash_serve.specs.declared.fault.RunFault.TheVariants as faults;
 
     ghost from_gives = { λ _ fault. fault ≡ faults.NoMemory };

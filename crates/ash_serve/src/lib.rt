@@ -1,7 +1,7 @@
 //! The request loop: from the bytes of requests to the bytes of replies, over the host of `ash_durable`, the lines of
 //! `ash_lines`, and std's `Read` and `Write`. It promises that what is written is the text of the replies to the
-//! requests of which the input consists, which are a run of the written steps up to the first answer that is lost, each
-//! written before the next request is read.
+//! requests of which the input consists, which are a run of the written steps up to the first by which the host must be
+//! reopened, each written before the next request is read.
 //!
 //! `handler` is what handles requests: the host. `serve` is the loop: a `session` reads a request into its buffers and
 //! has the host handle it, and `ash_lines` writes the reply. `run` is that loop over std's traits. `program` has what

@@ -36,7 +36,7 @@ pub fn main<R: Env + Files<File = File> + Input + Print + Eprint + AllocGlobal>(
         Err(fault) => End::by(Err(fault)),
     };
     if let Some(fault) = &end.fault {
-        let _ = eprintln!(rt; "ashd: {fault}");
+        let _ = eprintln!(rt; "ashd: {}", fault.code());
     }
     ExitCode::from(end.status)
 }

@@ -38,7 +38,7 @@ pub fn run<D: Disk, R: Read + Drop, W: Write>(
 ) -> Result<(), RunFault>
     ensures ends { RunEnds (R.remaining reader) (Handles D.Disk)
         budget host.old (W.contents writer.old) result host.new (W.contents writer.new) }
-    // The requests that the host answered are a run of the written steps, up to the first answer that is lost.
+    // The requests that the host answered are a run of the written steps, up to the first by which it must be reopened.
     ensures defined { (lines : List Line) (replies : List LineReply)
         → RepliesToAll (Handles D.Disk) budget host.old lines replies host.new
         → RunsToFailure budget host.old (host_requests lines) (host_replies replies) host.new }

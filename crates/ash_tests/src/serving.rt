@@ -217,17 +217,6 @@ static NUMBERED: [(RunFault, &str); 5] = [
     (RunFault::NoMemory, "509 NoMemory"),
 ];
 
-/// Compares how a fault is written.
-fn check_written(
-    rt: &impl Abort,
-    alloc: Global,
-    fault: RunFault,
-    wanted: &str,
-) -> Result<(), Fail> {
-    let found = format!(in alloc; "{fault}")?;
-    check_text(rt, &found, wanted, "a fault");
-    Ok(())
-}
 
 #[test]
 fn a_check_whose_file_or_line_fails(rt: HostRuntime) -> Result<(), Fail> {
@@ -258,9 +247,11 @@ fn a_check_whose_file_or_line_fails(rt: HostRuntime) -> Result<(), Fail> {
 }
 
 #[test]
-fn each_fault_is_written_with_its_number(rt: HostRuntime) -> Result<(), Fail> {
+fn each_fault_has_its_number_and_a_sentence(rt: HostRuntime) -> Result<(), Fail> {
     for (fault, wanted) in &NUMBERED {
-        check_written(&rt, rt.alloc(), *fault, wanted)?;
+        check_text(&rt, fault.code(), wanted, "the code of a fault");
     }
+    let sentence = format!(in rt.alloc(); "{}", Fault::Run(RunFault::Truncated))?;
+    check_text(&rt, &sentence, "the input ended inside a request", "a fault as a sentence");
     Ok(())
 }

@@ -1,7 +1,7 @@
 // Why the program ends with another status than 0, and what it writes of that.
 
 ghost use Rattle.std.specs.Prelude.{◌≡◌};
-ghost use Rattle.ash_serve.specs.Program.{status_of};
+ghost use Rattle.ash_serve.specs.Program.{code_of, status_of};
 
 use crate::fault::RunFault;
 use ash_durable::{OpenRefused, StoreFault};
@@ -13,16 +13,16 @@ use thiserror::Error;
 #[derive(Debug, Drop, Error)]
 pub enum Fault {
     /// The words ask for nothing that the program does.
-    #[error("usage")]
+    #[error("the words ask for nothing that the program does")]
     Usage,
     /// Memory was refused before the run.
-    #[error("509 NoMemory")]
+    #[error("memory was refused before the run")]
     NoMemory,
     /// What the program offers to scripts was not registered.
-    #[error("{}", .0.code())]
+    #[error("{0}")]
     Registry(RegistryFault),
     /// The store was not made or not opened. Its files are part of it.
-    #[error("{}", .0.code())]
+    #[error("{0}")]
     Store(StoreFault),
     /// The run ended by a fault.
     #[error("{0}")]
@@ -30,6 +30,19 @@ pub enum Fault {
 }
 
 impl Fault {
+    /// What the program writes of it: its number and its name; for wrong words, `usage`.
+    pub fn code(&self) -> &'static str
+        ensures coded { result.now ≡ code_of self.now }
+    {
+        match self {
+            Fault::Usage => "usage",
+            Fault::NoMemory => "509 NoMemory",
+            Fault::Registry(fault) => fault.code(),
+            Fault::Store(fault) => fault.code(),
+            Fault::Run(fault) => fault.code(),
+        }
+    }
+
     /// The status that the program ends with: 2 for wrong words, 1 for any other fault.
     pub fn status(&self) -> u8
         ensures status { result ≡ status_of self.now }

@@ -1,4 +1,5 @@
 use Rattle.ash_durable.proofs.LifeLaws.{outlives, settles_by, opens}
+use Rattle.ash_durable.proofs.Prefixes.{prefix}
 use Rattle.ash_durable.proofs.lives.nothing_acknowledged_is_lost.Goals as goal
 
 pub returns-clause-whole : goal.returns-clause-whole
@@ -12,3 +13,6 @@ returns-clause-each g c registered later event earlier place life =
 pub returns-clause-opens : goal.returns-clause-opens
 returns-clause-opens g c registered events a b refused life was =
     opens g.D.Disk g.met.D.Disk.seen_may_stay registered events a b refused life was
+
+pub returns-clause-prefix : goal.returns-clause-prefix
+returns-clause-prefix g c registered events place life = prefix g.D.Disk registered events place life

@@ -11,5 +11,5 @@ returns g c =
             | in-Ok w ↦ w.end-is ∙ ap end_of (sym w.in-Ok.is)
             | in-Err w ↦ w.end-is ∙ ap end_of (sym w.in-Err.is)
           ])
-          (record { last = c.run.new.host; ends = e.ends; saved = e.saved; lives = e.lives; first_is = c.close-a.ensures.first; second_is = c.close-a.ensures.second });
+          (record { last = c.run.new.host; ends = e.ends; saved = e.saved; defined = e.defined; lives = e.lives; first_is = c.close-a.ensures.first; second_is = c.close-a.ensures.second });
     }
