@@ -1,8 +1,7 @@
 # Release points, found by how many objects live at once. A row of tests/rows/releases has how many objects of a script live at
 # once at the most, those of its globals among them, and the function that raises ObjectLimit where one of them is too many; then
 # come a bar and the script, whose function `f` is run beside as many other objects as leave room for all of its own, and beside
-# one more. `last` raises an exception after `f`, so that all frames go at once. It is no subject of a whole run: each release point
-# beside 4,000 objects takes so long, as long as a sweep compares each object with each other, that the rows take hours.
+# one more. `last` raises an exception after `f`, so that all frames go at once.
 . tests/shell/asking.sh
 budget=5000
 most_objects=4096

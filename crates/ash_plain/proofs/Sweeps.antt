@@ -87,7 +87,7 @@ module _ (objects : Objects (List ℕ)) where
   grown_one : (m : ℕ) (old : List ℕ) → Grown objects (m ∷ []) old (with_one objects m old)
   grown_one m old = go (is_some (object_at m objects)) refl (is_among old m) refl
     where
-      go : (l : Bool) → is_some (object_at m objects) ≡ l → (b : Bool) → is_among old m ≡ b → Grown objects (m ∷ []) old (cond (l && not b) (old ++ m ∷ []) old)
+      go : (l : Bool) → is_some (object_at m objects) ≡ l → (b : Bool) → is_among old m ≡ b → Grown objects (m ∷ []) old (cond l (cond b old (old ++ m ∷ [])) old)
       go false e b f = grown_none (m ∷ []) old (λ n h lives. let same = only_one m n h in let there : is_some (object_at m objects) ≡ true = subst (λ (k : ℕ). is_some (object_at k objects) ≡ true) same lives in cc)
       go true e true f = grown_none (m ∷ []) old (λ n h lives. subst (λ (k : ℕ). is_among old k ≡ true) (sym (only_one m n h)) f)
       go true e false f = record {

@@ -14,6 +14,7 @@ ghost use Rattle.ash_plain.specs.Sweeping.{with_found, gone};
 
 use ash_host::{Event, Word};
 use ash_plain_data::object::Object;
+use indexmap::IndexSet;
 use std::alloc::{AllocError, Global};
 use std::collections::BTreeMap;
 use std::marker::Model;
@@ -83,24 +84,17 @@ fn fields_to(entries: &BTreeMap<u64, Object>, number: u64) -> Result<usize, Allo
     Ok(count)
 }
 
-/// Whether a number is among these.
-fn is_among(numbers: &[u64], number: u64) -> bool
-    ensures { result ≡ is_among numbers.now number }
-{
-    numbers.iter().any(|other| number == *other)
-}
-
 /// Appends an event for each host object that is not among those that were found, by ascending number.
 fn push_dropped(
     entries: &BTreeMap<u64, Object>,
-    found: &[u64],
+    found: &IndexSet<u64>,
     events: &mut Vec<Event>,
 ) -> Result<(), AllocError>
     ensures { OnOk result (events.new.items
-        ≡ events.old.items ++ map Dropped (gone found.now entries.now.entries)) }
+        ≡ events.old.items ++ map Dropped (gone found.now.keys entries.now.entries)) }
 {
     for (number, object) in entries {
-        if object.is_host() && !is_among(found, *number) {
+        if object.is_host() && !found.contains(number) {
             events.push(Event::Dropped(*number))?;
         }
     }
@@ -108,10 +102,10 @@ fn push_dropped(
 }
 
 /// Takes away all objects but those that were found.
-fn retain_found(entries: &mut BTreeMap<u64, Object>, found: &[u64])
-    ensures { entries.new.entries ≡ filter (λ e. is_among found.now e.0) entries.old.entries }
+fn retain_found(entries: &mut BTreeMap<u64, Object>, found: &IndexSet<u64>)
+    ensures { entries.new.entries ≡ filter (λ e. is_among found.now.keys e.0) entries.old.entries }
 {
-    entries.retain(|number, _| is_among(found, *number));
+    entries.retain(|number, _| found.contains(number));
 }
 
 impl Objects {
@@ -197,23 +191,23 @@ impl Objects {
     }
 
     /// Adds the numbers by which objects live to those that were found, each once.
-    fn find_all(&self, numbers: &[u64], found: &mut Vec<u64>) -> Result<(), AllocError>
-        ensures { OnOk result (found.new.items ≡ with_found self.now numbers.now found.old.items) }
+    fn find_all(&self, numbers: &[u64], found: &mut IndexSet<u64>) -> Result<(), AllocError>
+        ensures { OnOk result (found.new.keys ≡ with_found self.now numbers.now found.old.keys) }
     {
         for number in numbers {
-            if self.get(*number).is_some() && !is_among(found, *number) {
-                found.push(*number)?;
+            if self.get(*number).is_some() {
+                found.insert(*number)?;
             }
         }
         Ok(())
     }
 
     /// The live objects that can be reached from these.
-    fn find_reachable(&self, alloc: Global, held: &[u64]) -> Result<Vec<u64>, AllocError>
+    fn find_reachable(&self, alloc: Global, held: &[u64]) -> Result<IndexSet<u64>, AllocError>
         ensures { IfOk result (λ found. (number : ℕ) → IsSome (object_at number self.now)
-            → is_among found.items number ≡ is_reachable held.now self.now number) }
+            → is_among found.keys number ≡ is_reachable held.now self.now number) }
     {
-        let mut found = Vec::new(alloc);
+        let mut found = IndexSet::new(alloc);
         self.find_all(held, &mut found)?;
         let mut next = 0;
         while next < found.len() {

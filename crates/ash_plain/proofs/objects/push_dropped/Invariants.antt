@@ -4,4 +4,4 @@ use Rattle.ash_plain.specs.Sweeping.{gone}
 use Rattle.ash_plain.proofs.objects.push_dropped.Given as goal
 
 abbrev pub invariant-loop-number : goal.invariant-loop-number
-invariant-loop-number l = l.events.items ++ map Dropped (gone l.found l.number-iterator) ≡ l.fn.events.items ++ map Dropped (gone l.found l.entries.entries)
+invariant-loop-number l = l.events.items ++ map Dropped (gone l.found.keys l.number-iterator) ≡ l.fn.events.items ++ map Dropped (gone l.found.keys l.entries.entries)

@@ -3,4 +3,4 @@ use Rattle.ash_plain.specs.Sweeping.{with_found}
 use Rattle.ash_plain.proofs.objects.Objects.find_all.Given as goal
 
 abbrev pub invariant-loop-number : goal.invariant-loop-number
-invariant-loop-number l = with_found l.self (drop l.number-index l.numbers) l.found.items ≡ with_found l.self l.numbers l.fn.found.items
+invariant-loop-number l = with_found l.self (drop l.number-index l.numbers) l.found.keys ≡ with_found l.self l.numbers l.fn.found.keys
