@@ -1,7 +1,8 @@
 //! How fast the image of a whole state is read, restored and written: `ash_bench image`.
 //!
 //! The state has as much as a host may have: 16 modules and 4,096 objects. In each module a global has an array, which
-//! has 255 objects of 32 fields.
+//! has 254 objects of 32 fields, and each of these fields has a handle of the last object of the module. So 130,048 handles
+//! are followed where the objects are looked for that can be reached.
 
 use crate::rates::Timing;
 use anyhow::{Result, bail, ensure};
@@ -23,10 +24,10 @@ const OBJECTS_OF_A_MODULE: u64 = 256;
 /// How many fields an object of the class has.
 const FIELDS: u8 = 32;
 
-/// The class of the objects of a module, and the global that has the array of them.
+/// The class of the objects of a module, that of the last of them, and the global that has the array of the others.
 const SOURCE: &str =
-    "class C { int a, b, c, d, e, f, g, h, i, j, k, l, m, n, o, p, q, r, s, t, u, v, w, x, y, z; \
-int a1, a2, a3, a4, a5, a6; } array<C@>@ all;";
+    "class C { B@ a, b, c, d, e, f, g, h, i, j, k, l, m, n, o, p, q, r, s, t, u, v, w, x, y, z; \
+B@ a1, a2, a3, a4, a5, a6; } class B { } array<C@>@ all;";
 
 fn write_u8(out: &mut Vec<u8>, value: u8) -> Result<()> {
     out.push(value)?;
@@ -65,32 +66,40 @@ fn write_module(out: &mut Vec<u8>, name: u8, first: u64) -> Result<()> {
     write_handle(out, first)
 }
 
-/// Writes the array of the module at this place, which has all objects up to those of the next module.
-fn write_array(out: &mut Vec<u8>, place: u8, first: u64, next_module: u64) -> Result<()> {
+/// Writes the array of the module at this place, which has all objects of the module but the last.
+fn write_array(out: &mut Vec<u8>, place: u8, first: u64, last: u64) -> Result<()> {
     write_u64(out, first)?;
     write_u8(out, 3)?;
     write_u8(out, 5)?;
     write_u8(out, place)?;
     write_u16(out, 0)?;
-    write_u16(out, 255)?;
-    for number in first.wrapping_add(1)..next_module {
+    write_u16(out, 254)?;
+    for number in first.wrapping_add(1)..last {
         write_handle(out, number)?;
     }
     Ok(())
 }
 
-/// Writes an object of the class of the module at this place.
-fn write_object(out: &mut Vec<u8>, place: u8, number: u64) -> Result<()> {
+/// Writes an object of the module at this place, whose fields have handles of the last.
+fn write_object(out: &mut Vec<u8>, place: u8, number: u64, last: u64) -> Result<()> {
     write_u64(out, number)?;
     write_u8(out, 1)?;
     write_u8(out, place)?;
     write_u16(out, 0)?;
     write_u8(out, FIELDS)?;
-    for value in 0..FIELDS {
-        write_u8(out, 1)?;
-        write_u32(out, u32::from(value))?;
+    for _ in 0..FIELDS {
+        write_handle(out, last)?;
     }
     Ok(())
+}
+
+/// Writes the last object of the module at this place, which has no fields.
+fn write_last(out: &mut Vec<u8>, place: u8, number: u64) -> Result<()> {
+    write_u64(out, number)?;
+    write_u8(out, 1)?;
+    write_u8(out, place)?;
+    write_u16(out, 1)?;
+    write_u8(out, 0)
 }
 
 /// The number of the first object of the module at a place.
@@ -103,12 +112,12 @@ fn first_of(place: u8) -> u64 {
 /// Writes the objects of the module at a place.
 fn write_objects(out: &mut Vec<u8>, place: u8) -> Result<()> {
     let first = first_of(place);
-    let next_module = first.wrapping_add(OBJECTS_OF_A_MODULE);
-    write_array(out, place, first, next_module)?;
-    for number in first.wrapping_add(1)..next_module {
-        write_object(out, place, number)?;
+    let last = first.wrapping_add(OBJECTS_OF_A_MODULE).wrapping_sub(1);
+    write_array(out, place, first, last)?;
+    for number in first.wrapping_add(1)..last {
+        write_object(out, place, number, last)?;
     }
-    Ok(())
+    write_last(out, place, last)
 }
 
 /// The image of the state: version 2, nothing registered, no request, so many objects, no service.
