@@ -1,4 +1,4 @@
-// The host.
+//! The host.
 
 ghost use Rattle.std.specs.Prelude.{◌≡◌, ◌↔◌, ℕ, map, Some, IfOk, IsSome, IsTrue, OnOk, OnErr};
 ghost use Rattle.ash_registry.specs.Registered.{registered};

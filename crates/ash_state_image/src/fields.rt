@@ -1,4 +1,4 @@
-// Numbers and texts as they are read from a prefix of bytes, which takes no memory, and written at the end of a vector.
+//! Numbers and texts as they are read from a prefix of bytes, which takes no memory, and written at the end of a vector.
 
 ghost use Rattle.std.specs.Prelude.{◌≡◌, ◌++◌, OnOk, IsOkUnless};
 ghost use Rattle.ash_state_image.specs.Fields.{ReturnsField, number, prefix_at, number_at};

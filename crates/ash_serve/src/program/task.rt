@@ -1,4 +1,4 @@
-// What the words of a command line ask for.
+//! What the words of a command line ask for.
 
 use super::fault::Fault;
 use clap::error::ErrorKind;
