@@ -1,4 +1,4 @@
-// Which state an image and records are read as.
+//! Which state an image and records are read as.
 
 ghost use Rattle.std.specs.Prelude.{◌≡◌, ◌↔◌, IsTrue, IfOk, IfErr};
 ghost use Rattle.std.specs.List.{AllByRecursion};

@@ -1,4 +1,4 @@
-// Why a store is not made or not opened.
+//! Why a store is not made or not opened.
 
 use ash_disk::DeviceFailed;
 use ash_journal::{CreateFault, OpenFault};

@@ -1,4 +1,4 @@
-// How a file begins, and what its first byte says.
+//! How a file begins, and what its first byte says.
 
 ghost use Rattle.std.specs.Prelude.{◌≡◌, ◌↔◌, ℕ, List, IsTrue, IfOk};
 ghost use Rattle.ash_disk.specs.Device.{IsOnlyRead};

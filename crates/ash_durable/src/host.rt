@@ -1,4 +1,4 @@
-// The host.
+//! The host.
 
 ghost use Rattle.std.specs.Prelude.{◌≡◌, ◌↔◌, ℕ, map, Some, IfOk, IsSome, IsTrue, OnOk, OnErr};
 ghost use Rattle.ash_registry.specs.Registered.{registered};
@@ -31,12 +31,12 @@ const FULL_RECORD_BYTES: u64 = 16_777_216;
 
 /// A host for script modules whose state outlives the process. It has a registry of its own, whose text is in each
 /// image that it writes. Each call is one request. Every answer to a `load`, a `call` or a `discard` but a refusal
-/// raises the sequence number by one, and before it is given the new state is one more record of the journal on both
-/// disks, by two writes and two syncs, so that every crash afterwards leaves it there. Where that fails, or finds no
-/// memory for the record, the answer is lost: a crash leaves the state before the request or the one after it, and the
-/// host must be reopened. So it must where memory is refused while a request changes the state: the state is lost, and
-/// the disks have the one before the request. Every call but `seq`, `close` and `reopen` is from then on refused with
-/// `Refusal::Reopen`. Any other refusal changes nothing, but for a new generation that was installed before it.
+/// raises the sequence number by one, and before it is given the new state is one more record on the current disk of
+/// the journal, by two writes and two syncs, so that every crash afterwards leaves it there. Where that fails, or finds
+/// no memory for the record, the answer is lost: a crash leaves the state before the request or the one after it, and
+/// the host must be reopened. So it must where memory is refused while a request changes the state: the state is lost,
+/// and the disks have the one before the request. Every call but `seq`, `close` and `reopen` is from then on refused
+/// with `Refusal::Reopen`. Any other refusal changes nothing, but for a new generation that was installed before it.
 ///
 /// A `load`, a `call` or a `discard` that finds 16,777,216 bytes of records or more in the current generation first
 /// installs the state as a new one, without records, in the file that isn't current.

@@ -1,4 +1,4 @@
-// Keeping a state in a journal: as one record more, or as a new generation.
+//! Keeping a state in a journal: as one record more, or as a new generation.
 
 ghost use Rattle.std.specs.Prelude.{◌<◌, ◌^◌};
 ghost use Rattle.ash_journal.specs.Journal.{IsReady, record_bytes};

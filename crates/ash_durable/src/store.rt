@@ -1,4 +1,4 @@
-// Making a store on two disks, and finding its state there.
+//! Making a store on two disks, and finding its state there.
 
 ghost use Rattle.std.specs.Prelude.{◌≡◌};
 ghost use Rattle.ash_journal.specs.Journal.{first_disk, second_disk, HasFailed};

@@ -67,9 +67,9 @@ pub trait HostObject: Drop {
         ensures unchanged { OnErr result (out.new.items ≡ out.old.items) }
         ensures bounded { length (state self.now) ≤ max_state_bytes };
 
-    /// Takes these bytes as its state. It refuses bytes that are no state of its kind. Where it is refused, or memory
-    /// runs out, its state may be another one afterwards. Where it may refuse the bytes it may answer either error,
-    /// since a kind may need memory to find them bad.
+    /// Makes these bytes its state, or answers why not: `Refused`, only for bytes that it `refuses`, or `NoMemory`, for
+    /// any bytes, since a kind may need memory to find them bad. It may take bytes that it `refuses`. After an error its
+    /// state may be another one.
     fn restore(&mut self, bytes: &[u8]) -> Result<(), RestoreFault>
         ensures restored { OnOk result (state self.new ≡ bytes.now) }
         ensures refused { IsErrOf result RestoreFault.Refused → refuses self.old bytes.now }

@@ -1,4 +1,4 @@
-// One value of the script language.
+//! One value of the script language.
 
 ghost use Rattle.std.specs.Prelude.{◌≡◌};
 ghost use Rattle.ash_host.specs.Words.{int_of, int_sum, int_difference, int_product};

@@ -11,16 +11,22 @@ use ash_integers::{
     shift_by, word_from,
 };
 
+/// The least `int`.
 pub const LEAST_INT: i128 = -2_147_483_648;
 
+/// The greatest `int`.
 pub const GREATEST_INT: i128 = 2_147_483_647;
 
+/// The greatest `uint`.
 pub const GREATEST_UINT: i128 = 4_294_967_295;
 
+/// The least `int64`.
 pub const LEAST_INT64: i128 = -9_223_372_036_854_775_808;
 
+/// The greatest `int64`.
 pub const GREATEST_INT64: i128 = 9_223_372_036_854_775_807;
 
+/// The greatest `uint64`.
 pub const GREATEST_UINT64: i128 = 18_446_744_073_709_551_615;
 
 /// A call of an operator. Its operands are numbers of its type, but for the count of a shift and what is converted.

@@ -12,6 +12,7 @@ use std::alloc::Global;
 use std::cell::RefCell;
 use std::rc::Rc;
 
+/// A table whose boxes report what becomes of them.
 pub type Table = Objects<Reporter>;
 
 /// A log that counters report to, with room for so many of them.
@@ -48,12 +49,14 @@ pub fn new_table(alloc: Global, pool: &[u16]) -> Result<(Table, Log), NoMemory> 
     Ok((Objects::new(alloc, pool, Vec::new(alloc)), log))
 }
 
+/// Whether an object of this number lives.
 pub fn lives(objects: &Table, number: u64) -> bool
     ensures { IsTrue result → Lives objects.now.objects number }
 {
     objects.slot(number).is_some()
 }
 
+/// Whether the object that a word is a handle to lives, if it is one.
 pub fn is_alive(objects: &Table, word: Word) -> bool
     ensures { IsTrue result → IsAlive word objects.now }
 {
@@ -63,6 +66,7 @@ pub fn is_alive(objects: &Table, word: Word) -> bool
     }
 }
 
+/// Whether an object that lives has a word at this place.
 pub fn has_field(objects: &Table, number: u64, place: usize) -> bool
     ensures { IsTrue result → IsSome (field_of number place objects.now) }
 {
@@ -72,6 +76,7 @@ pub fn has_field(objects: &Table, number: u64, place: usize) -> bool
     }
 }
 
+/// Whether it is a host object that lives.
 pub fn is_host(objects: &Table, number: u64) -> bool
     ensures { IsTrue result → IsSome (box_at number objects.now) }
 {

@@ -1,4 +1,4 @@
-// Writing an answer.
+//! Writing an answer.
 
 ghost use Rattle.std.specs.Prelude.{◌≡◌, ◌++◌, codes};
 ghost use Rattle.std.specs.List.{flat_map, list_any};

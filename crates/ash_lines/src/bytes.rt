@@ -1,4 +1,4 @@
-// Reading the bytes of a script's source.
+//! Reading the bytes of a script's source.
 
 ghost use Rattle.std.specs.Prelude.{◌≡◌, ◌<◌, ◌≤◌, ◌∷◌, [], ◌++◌, length, vec_capacity};
 ghost use Rattle.ash_lines.specs.Reading.{ReadsBytes, max_prefix_bytes};

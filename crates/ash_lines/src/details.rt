@@ -1,4 +1,4 @@
-// What a fault reports of its source.
+//! What a fault reports of its source.
 
 use ash_parse::UnsupportedPart;
 

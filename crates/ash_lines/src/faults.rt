@@ -1,4 +1,4 @@
-// What the faults of sources report of them.
+//! What the faults of sources report of them.
 
 ghost use Rattle.std.specs.Prelude.{◌≡◌};
 ghost use Rattle.ash_sources.specs.SourceFaults.{fault_of};

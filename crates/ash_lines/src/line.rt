@@ -1,4 +1,4 @@
-// Reading a line of the input.
+//! Reading a line of the input.
 
 ghost use Rattle.std.specs.Prelude.{◌≤◌, vec_capacity, Result};
 ghost use Rattle.ash_lines.specs.Lines.{max_line_bytes};

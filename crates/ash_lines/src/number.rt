@@ -1,4 +1,4 @@
-// Numbers and arguments as they are written.
+//! Numbers and arguments as they are written.
 
 ghost use Rattle.std.specs.Prelude.{◌≡◌, ◌<◌, ◌^◌, IfSome};
 ghost use Rattle.std.specs.List.{list_all};

@@ -1,4 +1,4 @@
-// Writing words and objects.
+//! Writing words and objects.
 
 ghost use Rattle.std.specs.Prelude.{◌++◌, ◌∷◌, [], codes, map};
 ghost use Rattle.std.specs.List.{flat_map};

@@ -1,4 +1,4 @@
-// Writing pieces of text.
+//! Writing pieces of text.
 
 ghost use Rattle.std.specs.List.{flat_map};
 ghost use Rattle.ash_lines.specs.Sink.{Writes};

@@ -1,4 +1,4 @@
-// A source over any reader.
+//! A source over any reader.
 
 ghost use Rattle.std.specs.Prelude.{◌≡◌, ◌^◌, IfOk, None, false};
 ghost use Rattle.std.specs.Io.Buffered.{reader_remaining};

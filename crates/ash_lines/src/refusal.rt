@@ -1,4 +1,4 @@
-// Writing a refusal.
+//! Writing a refusal.
 
 ghost use Rattle.std.specs.Prelude.{◌≡◌, map, string_bytes};
 ghost use Rattle.ash_plain_steps.specs.RequestViews.{refusal_seen};

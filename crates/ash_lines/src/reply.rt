@@ -1,4 +1,4 @@
-// Writing a reply as a line of text.
+//! Writing a reply as a line of text.
 
 ghost use Rattle.std.specs.Prelude.{◌≡◌, ◌∷◌, [], ◌++◌};
 ghost use Rattle.ash_plain_steps.specs.RequestViews.{reply_seen};

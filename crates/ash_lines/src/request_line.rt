@@ -1,4 +1,4 @@
-// What a line asks.
+//! What a line asks.
 
 ghost use Rattle.std.specs.Prelude.{◌≡◌, ◌≤◌, ◌∷◌, [], true, Some, None, length, drop, MatchOption};
 ghost use Rattle.std.specs.Prelude.{vec_capacity, if◌then◌else◌};

@@ -1,4 +1,4 @@
-// Where replies go.
+//! Where replies go.
 
 ghost use Rattle.ash_lines.specs.Sink.{Outlet, IsOutlet, Writes, Flushes};
 

@@ -1,4 +1,4 @@
-// Where requests come from.
+//! Where requests come from.
 
 ghost use Rattle.ash_lines.specs.Source.{Feed, IsFeed, ReadsNext};
 

@@ -1,4 +1,4 @@
-// The words of a line.
+//! The words of a line.
 
 ghost use Rattle.std.specs.Prelude.{◌≡◌, [], ◌∷◌, ◌==◌, drop, position, MatchOption, Some, None};
 ghost use Rattle.std.specs.List.{list_all};

@@ -1,4 +1,4 @@
-// A sink over any writer.
+//! A sink over any writer.
 
 ghost use Rattle.std.specs.Prelude.{◌≡◌, ◌≤◌, [], ◌++◌, length, take, IfOk, IfErr, OnOk};
 ghost use Rattle.std.specs.Io.KnownBytes.{Keeps, Appends};

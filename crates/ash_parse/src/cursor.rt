@@ -12,6 +12,7 @@ use ash_lex::{Sign, Token, TokenKind};
 use ash_tree::Place;
 use std::alloc::Global;
 
+/// Where a token begins: its offset in bytes, and its line.
 pub fn place(token: &Token) -> Place
     ensures { result ≡ place_of_token token.now }
 {
@@ -33,6 +34,7 @@ fn same(a: Sign, b: Sign) -> bool
     equal(a, b)
 }
 
+/// Whether a token is this sign.
 #[tactic(auto, unfolding(crate::specs::Signs::is_sign))]
 pub fn is_sign(sign: Sign, token: &Token) -> bool
     ensures { result ≡ signs.is_sign sign (meaning_of token.now.kind) }
@@ -43,6 +45,7 @@ pub fn is_sign(sign: Sign, token: &Token) -> bool
     }
 }
 
+/// Whether the next token is this sign.
 #[tactic(auto, unfolding(crate::specs::Readers::next_is_sign))]
 pub fn next_is_sign(sign: Sign, tokens: &[Token]) -> bool
     ensures { result ≡ reading.next_is_sign sign (tokens_of tokens.now) }

@@ -18,6 +18,7 @@ use ash_lex::{ReservedWord, Sign, Token, TokenKind};
 use ash_tree::{Element, ElementKind, Place, Type, TypeKind, TypeName};
 use std::alloc::Global;
 
+/// Whether a token is the word `array`.
 #[tactic(auto, unfolding(crate::specs::TypeReader::is_array))]
 pub fn is_array(kind: &TokenKind) -> bool
     ensures { result ≡ types.is_array (meaning_of kind.now) }
@@ -116,6 +117,7 @@ fn is_name(kind: &TokenKind) -> bool
     matches!(kind, TokenKind::Name(_))
 }
 
+/// Whether the next token is a name.
 #[tactic(auto, unfolding(crate::specs::StatementReader::next_is_name))]
 pub fn next_is_name(tokens: &[Token]) -> bool
     ensures { result ≡ reader.next_is_name (tokens_of tokens.now) }

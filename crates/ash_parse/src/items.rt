@@ -77,6 +77,7 @@ fn entry(alloc: Global, tokens: &[Token]) -> ParseResult<'_, Item>
     Ok((item, strip(rest)))
 }
 
+/// Whether any token is left.
 #[tactic(auto, unfolding(crate::specs::ItemReader::is_left))]
 pub fn is_left(tokens: &[Token]) -> bool
     ensures { result ≡ reader.is_left (tokens_of tokens.now) }

@@ -153,6 +153,7 @@ pub fn operator(operands: u32, tokens: &[Token]) -> Option<(BinaryOp, &[Token])>
     }
 }
 
+/// Whether an operator that joins operands of this level is next.
 #[tactic(auto, unfolding(crate::specs::ExpressionReader::is_link))]
 pub fn begins_link(level: u32, tokens: &[Token]) -> bool
     requires { level < MAX_LEVEL }
@@ -161,6 +162,7 @@ pub fn begins_link(level: u32, tokens: &[Token]) -> bool
     operator(level, tokens).is_some()
 }
 
+/// Whether the next token begins a suffix: a `.`, a `[`, a `++` or a `--`.
 #[tactic(auto, unfolding(crate::specs::ExpressionReader::is_suffix, crate::specs::ExpressionReader::begins_suffix))]
 pub fn begins_suffix(tokens: &[Token]) -> bool
     ensures { result ≡ reader.is_suffix (tokens_of tokens.now) }

@@ -36,6 +36,7 @@ pub enum StmtToken {
     Other,
 }
 
+/// What a token is to a statement.
 #[tactic(auto, unfolding(crate::specs::StatementReader::stmt_token))]
 pub fn stmt_token(kind: &TokenKind) -> StmtToken
     ensures { result ≡ reader.stmt_token (meaning_of kind.now) }
@@ -59,6 +60,7 @@ pub fn stmt_token(kind: &TokenKind) -> StmtToken
     }
 }
 
+/// Whether a token begins a statement.
 #[tactic(auto, unfolding(crate::specs::StatementReader::begins_stmt))]
 pub fn begins_statement(kind: &TokenKind) -> bool
     ensures { result ≡ reader.begins_stmt (meaning_of kind.now) }
@@ -70,6 +72,7 @@ pub fn begins_statement(kind: &TokenKind) -> bool
     }
 }
 
+/// Whether the statements of a block go on.
 #[tactic(auto, unfolding(crate::specs::StatementReader::goes_on))]
 pub fn goes_on(tokens: &[Token]) -> bool
     ensures { result ≡ reader.goes_on (tokens_of tokens.now) }

@@ -1,4 +1,4 @@
-// Why a run stopped.
+//! Why a run stopped.
 
 ghost use Rattle.std.specs.Prelude.{◌≡◌};
 ghost use Rattle.ash_serve.specs.Program.{run_code};

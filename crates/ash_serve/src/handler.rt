@@ -1,4 +1,4 @@
-// What handles requests.
+//! What handles requests.
 
 ghost use Rattle.ash_durable.specs.Hosting.{Handles};
 ghost use Rattle.ash_plain_steps.specs.RequestViews.{request_seen, reply_seen};

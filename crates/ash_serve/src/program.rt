@@ -1,4 +1,4 @@
-// The program `ashd`: what it does, and its statuses.
+//! The program `ashd`: what it does, and its statuses.
 
 pub mod check;
 pub mod ending;

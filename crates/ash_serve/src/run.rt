@@ -1,4 +1,4 @@
-// The loop over a reader and a writer.
+//! The loop over a reader and a writer.
 
 ghost use Rattle.std.specs.Prelude.{List};
 ghost use Rattle.ash_durable.specs.Hosting.{Handles, IsSaved};

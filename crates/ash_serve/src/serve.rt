@@ -1,4 +1,4 @@
-// The loop over a source and a sink.
+//! The loop over a source and a sink.
 
 ghost use Rattle.std.specs.Prelude.{◌≡◌, []};
 ghost use Rattle.ash_lines.specs.Replies.{line_reply_of};

@@ -1,4 +1,4 @@
-// A session: the next request is read, and the host handles it.
+//! A session: the next request is read, and the host handles it.
 
 ghost use Rattle.std.specs.Prelude.{◌≡◌, ◌≤◌, ℕ, List, length, vec_capacity, IfOk};
 ghost use Rattle.ash_lines.specs.Lines.{LoadHeader as Header, max_line_bytes, parse_line};

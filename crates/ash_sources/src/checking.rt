@@ -1,4 +1,4 @@
-// The script that a source spells, if it is typed.
+//! The script that a source spells, if it is typed.
 
 ghost use Rattle.std.specs.Prelude.{◌≡◌, ◌↔◌, ℕ, List, Ok, IsOk, IfOk, IfErr, OnOk, MatchResult};
 ghost use Rattle.std.specs.List.{AllByRecursion};

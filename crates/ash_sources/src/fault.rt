@@ -21,7 +21,7 @@ pub enum SourceFault {
     /// Its script has a class that reaches itself.
     #[error("{0}")]
     Cyclic(ClassNames),
-    /// Its script is typed, but not of the part of the language that can be run so far.
+    /// Its script is typed, but uses something registered, which no script that runs can do so far.
     #[error("the script is not of the part of the language that can be run so far")]
     NotYet,
 }

@@ -1,4 +1,4 @@
-// The tokens of a source.
+//! The tokens of a source.
 
 ghost use Rattle.std.specs.Prelude.{◌≡◌, ◌↔◌, ℕ, List, Result, Ok, IfOk, IfErr};
 ghost use Rattle.ash_lex.specs.Tokens.{Lexeme, lexemes};

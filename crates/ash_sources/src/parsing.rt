@@ -1,4 +1,4 @@
-// The script that a source spells.
+//! The script that a source spells.
 
 ghost use Rattle.std.specs.Prelude.{IfOk, IfErr};
 ghost use Rattle.ash_lex.specs.Tokens.{lexemes};

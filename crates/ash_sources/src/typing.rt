@@ -1,4 +1,4 @@
-// The typed tree of a script, and what a source is typed as.
+//! The typed tree of a script, and what a source is typed as.
 
 ghost use Rattle.std.specs.Prelude.{◌≡◌, ◌↔◌, ℕ, List, Ok, Err, IfOk, IfErr};
 ghost use Rattle.ash_tree.specs.Views.{module_of as items_of};

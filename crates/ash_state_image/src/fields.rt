@@ -1,4 +1,4 @@
-// Numbers and texts as they are read from a prefix of bytes, which takes no memory, and written at the end of a vector.
+//! Numbers and texts, read from the first bytes of some, which takes no memory, and written at the end of a vector.
 
 ghost use Rattle.std.specs.Prelude.{◌≡◌, ◌++◌, OnOk, IsOkUnless};
 ghost use Rattle.ash_state_image.specs.Fields.{ReturnsField, number, prefix_at, number_at};
@@ -43,6 +43,7 @@ pub fn prefix(bytes: &[u8], count: usize) -> Result<(&[u8], &[u8]), ReadError>
     Ok(bytes.split_at(count))
 }
 
+/// The number in the first byte, and the bytes after it.
 pub fn u8_at(bytes: &[u8]) -> Result<(u8, &[u8]), ReadError>
     ensures read { ReturnsField (λ x. (x.0, x.1.now)) result (number_at 1 bytes.now) }
     ensures no_memory { IsOkUnless result Damaged }
@@ -51,6 +52,7 @@ pub fn u8_at(bytes: &[u8]) -> Result<(u8, &[u8]), ReadError>
     Ok((prefix[0], rest))
 }
 
+/// The number in the first two bytes, the lowest first, and the bytes after them.
 pub fn u16_at(bytes: &[u8]) -> Result<(u16, &[u8]), ReadError>
     ensures read { ReturnsField (λ x. (x.0, x.1.now)) result (number_at 2 bytes.now) }
     ensures no_memory { IsOkUnless result Damaged }
@@ -59,6 +61,7 @@ pub fn u16_at(bytes: &[u8]) -> Result<(u16, &[u8]), ReadError>
     Ok((LittleEndian::read_u16(prefix), rest))
 }
 
+/// The number in the first four bytes, the lowest first, and the bytes after them.
 pub fn u32_at(bytes: &[u8]) -> Result<(u32, &[u8]), ReadError>
     ensures read { ReturnsField (λ x. (x.0, x.1.now)) result (number_at 4 bytes.now) }
     ensures no_memory { IsOkUnless result Damaged }
@@ -67,6 +70,7 @@ pub fn u32_at(bytes: &[u8]) -> Result<(u32, &[u8]), ReadError>
     Ok((LittleEndian::read_u32(prefix), rest))
 }
 
+/// The number in the first eight bytes, the lowest first, and the bytes after them.
 pub fn u64_at(bytes: &[u8]) -> Result<(u64, &[u8]), ReadError>
     ensures read { ReturnsField (λ x. (x.0, x.1.now)) result (number_at 8 bytes.now) }
     ensures no_memory { IsOkUnless result Damaged }
@@ -75,6 +79,7 @@ pub fn u64_at(bytes: &[u8]) -> Result<(u64, &[u8]), ReadError>
     Ok((LittleEndian::read_u64(prefix), rest))
 }
 
+/// Appends a number in one byte.
 pub fn write_u8(out: &mut Vec<u8>, value: u8) -> Result<(), AllocError>
     ensures written { OnOk result (out.new.items ≡ out.old.items ++ number 1 value) }
 {
@@ -82,6 +87,7 @@ pub fn write_u8(out: &mut Vec<u8>, value: u8) -> Result<(), AllocError>
     Ok(())
 }
 
+/// Appends a number in two bytes, the lowest first.
 pub fn write_u16(out: &mut Vec<u8>, value: u16) -> Result<(), AllocError>
     ensures written { OnOk result (out.new.items ≡ out.old.items ++ number 2 value) }
 {
@@ -90,6 +96,7 @@ pub fn write_u16(out: &mut Vec<u8>, value: u16) -> Result<(), AllocError>
     out.extend_from_slice(&bytes)
 }
 
+/// Appends a number in four bytes, the lowest first.
 pub fn write_u32(out: &mut Vec<u8>, value: u32) -> Result<(), AllocError>
     ensures written { OnOk result (out.new.items ≡ out.old.items ++ number 4 value) }
 {
@@ -98,6 +105,7 @@ pub fn write_u32(out: &mut Vec<u8>, value: u32) -> Result<(), AllocError>
     out.extend_from_slice(&bytes)
 }
 
+/// Appends a number in eight bytes, the lowest first.
 pub fn write_u64(out: &mut Vec<u8>, value: u64) -> Result<(), AllocError>
     ensures written { OnOk result (out.new.items ≡ out.old.items ++ number 8 value) }
 {

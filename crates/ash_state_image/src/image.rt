@@ -1,19 +1,19 @@
-// The image of a state.
-//
-// An image, every number with its lowest byte first:
-//
-//     version        u16    1 or 2
-//     registry       u32    the length of the text of what is registered, and the text: UTF-8, 1,048,576 bytes at most
-//     seq            u64    how many requests have been answered
-//     last number    u64    the last that was given to an object
-//     services              as in services.rt
-//     modules               as in modules.rt
-//     objects               as in numbered.rt and objects.rt
-//
-// The body of a record:
-//
-//     tag            u8     1, it leads from every state to that of the image
-//     image                 all of the bytes after the tag
+//! The image of a state.
+//!
+//! An image, every number with its lowest byte first:
+//!
+//!     version        u16    1 or 2
+//!     registry       u32    the length of the text of what is registered, and the text: UTF-8, 1,048,576 bytes at most
+//!     seq            u64    how many requests have been answered
+//!     last number    u64    the last that was given to an object
+//!     services              as in services.rt
+//!     modules               as in modules.rt
+//!     objects               as in numbered.rt and objects.rt
+//!
+//! The body of a record:
+//!
+//!     tag            u8     1, it leads from every state to that of the image
+//!     image                 all of the bytes after the tag
 
 ghost use Rattle.std.specs.Prelude.{◌≡◌, ◌++◌, ◌≤◌, ◌<◌, ◌^◌, ◌∷◌, length, drop, string_bytes, Some, None};
 ghost use Rattle.std.specs.Prelude.{if◌then◌else◌, OnOk, IfOk, IfSome, IsOk, IsOkUnless, ℕ, List, option_map};

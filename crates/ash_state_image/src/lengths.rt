@@ -1,4 +1,4 @@
-// How many bytes an image has, so that its memory is taken at once.
+//! How many bytes an image has, so that its memory is taken at once.
 
 ghost use Rattle.std.specs.Prelude.{◌≡◌, ◌<◌, ◌≤◌, ◌+◌, ◌*◌, ◌^◌, length};
 ghost use Rattle.std.specs.List.{flat_map};

@@ -1,4 +1,4 @@
-// The limits of an image that no crate below names. Those of the live objects are `ash_host`'s.
+//! The limits of an image that no crate below names. Those of the live objects are `ash_host`'s.
 
 /// The most bytes of the text of what is registered.
 pub const MAX_TEXT_BYTES: usize = 1_048_576;

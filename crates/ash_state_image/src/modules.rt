@@ -1,11 +1,11 @@
-// Modules in an image.
-//
-//     modules        u8     how many, 16 at most, by ascending name, and each:
-//         name       u8     its length, and the bytes
-//         source     u32    its length, 65,536 at most, and the bytes
-//         globals    u16    how many, 256 at most, and each a word
-//
-// Names ascend byte by byte, so no two modules have one name.
+//! Modules in an image.
+//!
+//!     modules        u8     how many, 16 at most, by ascending name, and each:
+//!         name       u8     its length, and the bytes
+//!         source     u32    its length, 65,536 at most, and the bytes
+//!         globals    u16    how many, 256 at most, and each a word
+//!
+//! Names ascend byte by byte, so no two modules have one name.
 
 ghost use Rattle.std.specs.Prelude.{◌≡◌, ◌++◌, string_bytes, Some, None, if◌then◌else◌, OnOk, IsOkUnless};
 ghost use Rattle.std.specs.List.{flat_map, AllByRecursion};

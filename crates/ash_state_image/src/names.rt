@@ -1,4 +1,4 @@
-// Names of modules, and their order.
+//! Names of modules, and their order.
 
 ghost use Rattle.std.specs.Prelude.{◌≡◌};
 ghost use Rattle.std.specs.List.{list_all};

@@ -1,8 +1,8 @@
-// Objects by their numbers in an image.
-//
-//     objects        u32    how many, 4,096 at most, by ascending number, and each:
-//         number     u64
-//         object            a tag and what it is; version 1 has no arrays
+//! Objects by their numbers in an image.
+//!
+//!     objects        u32    how many, 4,096 at most, by ascending number, and each:
+//!         number     u64
+//!         object            a tag and what it is; version 1 has no arrays
 
 ghost use Rattle.std.specs.Prelude.{◌≡◌, ◌++◌, OnOk};
 ghost use Rattle.std.specs.List.{flat_map, AllByRecursion};

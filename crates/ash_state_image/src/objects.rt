@@ -1,19 +1,19 @@
-// Objects in an image, beside their numbers.
-//
-// An object is a tag and what it is:
-//
-//     1  script object
-//         module     u8     the index of its module in the list of modules
-//         class      u16    the index of its class in the module's source
-//         fields     u8     how many, 32 at most, and each a word, in order of declaration
-//     2  host object
-//         kind       u16
-//         state      u16    its length, 1,024 at most, and the bytes
-//     3  array
-//         element           a tag: 0 bool, 1 int, 2 uint, 3 int64, 4 uint64, 5 a handle to an object of a class or an
-//                           interface, and then its module u8 and its index u16, 6 a handle to a host object, and then
-//                           its kind u16
-//         elements   u16    how many, 4,096 at most, and each a word
+//! Objects in an image, beside their numbers.
+//!
+//! An object is a tag and what it is:
+//!
+//!     1  script object
+//!         module     u8     the index of its module in the list of modules
+//!         class      u16    the index of its class in the module's source
+//!         fields     u8     how many, 32 at most, and each a word, in order of declaration
+//!     2  host object
+//!         kind       u16
+//!         state      u16    its length, 1,024 at most, and the bytes
+//!     3  array
+//!         element           a tag: 0 bool, 1 int, 2 uint, 3 int64, 4 uint64, 5 a handle to an object of a class or an
+//!                           interface, and then its module u8 and its index u16, 6 a handle to a host object, and then
+//!                           its kind u16
+//!         elements   u16    how many, 4,096 at most, and each a word
 
 ghost use Rattle.std.specs.Prelude.{◌≡◌, ◌++◌, OnOk, IsOkUnless};
 ghost use Rattle.ash_state_image.specs.Fields.{ReturnsField};

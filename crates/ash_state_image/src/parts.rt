@@ -1,4 +1,4 @@
-// The parts of a state that is to be stored.
+//! The parts of a state that is to be stored.
 
 use crate::stored::ElementType;
 use ash_host::Word;

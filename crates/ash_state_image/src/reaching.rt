@@ -1,7 +1,7 @@
-// Which objects can be reached from the globals.
-//
-// Each object is marked once, and then it waits until its handles are followed. So each handle is looked up once, by a
-// binary search among the numbers, whatever the objects refer to.
+//! Which objects can be reached from the globals.
+//!
+//! Each object is marked once, and then it waits until its handles are followed. So each handle is looked up once, by a
+//! binary search among the numbers, whatever the objects refer to.
 
 ghost use Rattle.std.specs.Prelude.{◌≡◌, ◌↔◌, ◌∷◌, [], ◌<◌, ℕ, Bool, false, length, replicate};
 ghost use Rattle.std.specs.Prelude.{IfOk, OnOk, IsTrue};

@@ -1,4 +1,4 @@
-// What holds of a state over more than one field, whatever the sources and the registrations are.
+//! What holds of a state over more than one field, whatever the sources and the registrations are.
 
 ghost use Rattle.std.specs.Prelude.{◌≡◌, ◌↔◌, IfOk, IsTrue};
 ghost use Rattle.std.specs.List.{list_all};

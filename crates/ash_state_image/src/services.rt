@@ -1,8 +1,8 @@
-// Services in an image.
-//
-//     services       u16    how many, 16 at most, in order of registration, and each:
-//         kind       u16
-//         state      u16    its length, 1,024 at most, and the bytes
+//! Services in an image.
+//!
+//!     services       u16    how many, 16 at most, in order of registration, and each:
+//!         kind       u16
+//!         state      u16    its length, 1,024 at most, and the bytes
 
 ghost use Rattle.std.specs.Prelude.{◌≡◌, ◌++◌, OnOk};
 ghost use Rattle.std.specs.List.{flat_map, AllByRecursion};

@@ -1,4 +1,4 @@
-// A state as it was read, with data of its own.
+//! A state as it was read, with data of its own.
 
 ghost use Rattle.std.specs.Prelude.{◌≡◌};
 ghost use Rattle.ash_host.specs.Objects.{fields_of};

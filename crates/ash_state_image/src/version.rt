@@ -1,4 +1,4 @@
-// The versions of an image.
+//! The versions of an image.
 
 /// The version of an image.
 #[derive(Clone, Copy, Debug, PartialEq, Eq)]

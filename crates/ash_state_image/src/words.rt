@@ -1,14 +1,14 @@
-// Words in an image.
-//
-// A word is a tag and a value:
-//
-//     0  bool        u8     0 or 1
-//     1  int         i32
-//     2  uint        u32
-//     3  int64       i64
-//     4  uint64      u64
-//     5  null
-//     6  object      u64    its number
+//! Words in an image.
+//!
+//! A word is a tag and a value:
+//!
+//!     0  bool        u8     0 or 1
+//!     1  int         i32
+//!     2  uint        u32
+//!     3  int64       i64
+//!     4  uint64      u64
+//!     5  null
+//!     6  object      u64    its number
 
 ghost use Rattle.std.specs.Prelude.{◌≡◌, ◌++◌, OnOk, IsOkUnless};
 ghost use Rattle.std.specs.List.{flat_map};

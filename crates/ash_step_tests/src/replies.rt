@@ -10,6 +10,7 @@ use ash_sources::fault::SourceFault;
 use std::alloc::{AllocError, Global};
 use std::fmt::Write;
 
+/// Writes a word as a reply has it.
 pub fn write_word(out: &mut String, word: Word) -> Result<(), AllocError> {
     match word {
         Word::Bool(truth) => write!(out, "{truth}"),
@@ -22,6 +23,7 @@ pub fn write_word(out: &mut String, word: Word) -> Result<(), AllocError> {
     }
 }
 
+/// Writes each byte as two hexadecimal digits.
 pub fn write_bytes(out: &mut String, bytes: &[u8]) -> Result<(), AllocError> {
     for byte in bytes {
         write!(out, "{byte:02x}")?;

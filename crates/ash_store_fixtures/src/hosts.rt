@@ -16,6 +16,7 @@ use std::alloc::{AllocError, Global};
 use std::fmt::Debug;
 use std::test::Fail;
 
+/// A script with a global `n`, and a function that adds to it.
 pub const SOURCE: &[u8] = b"int n = 2; int f(int k) { n += k; return n; }";
 
 /// The file of a host that has no module, nothing registered, and has answered no request.
@@ -55,6 +56,7 @@ pub fn line_of(alloc: Global, reply: HostReply) -> Result<String, Fail> {
     Ok(String::from_utf8(bytes)?)
 }
 
+/// A disk in memory with these bytes.
 pub fn disk(alloc: Global, bytes: &[u8]) -> Result<MemoryDisk, AllocError> {
     MemoryDisk::with_bytes(alloc, bytes)
 }
@@ -64,6 +66,7 @@ pub fn fuse(alloc: Global, calls: u64) -> FailingDisk<MemoryDisk> {
     FailingDisk::new(MemoryDisk::new(alloc), calls)
 }
 
+/// The disk in a failing one.
 pub fn inner(disk: FailingDisk<MemoryDisk>) -> MemoryDisk {
     disk.into_inner()
 }
@@ -107,10 +110,12 @@ pub fn opened<D: Disk + Drop>(
     Host::open(alloc, a, b, registry).map_err(|refused| refused.fault)
 }
 
+/// A host that was closed and opened again with the same registry, or why it can't be.
 pub fn reopened<D: Disk + Drop>(host: Host<D>) -> Result<Host<D>, StoreFault> {
     host.reopen().map_err(|refused| refused.fault)
 }
 
+/// The two disks of a host that is closed.
 pub fn closed<D: Disk>(host: Host<D>) -> (D, D) {
     host.close()
 }
@@ -221,6 +226,7 @@ pub fn need(alloc: Global, reply: HostReply) -> Result<(), Fail> {
 /// What is looked at of a host's state: its number, and the global `n` of the module `m`, if there is one.
 pub type State = (u64, Option<i32>);
 
+/// The state of a host, as far as it is looked at.
 pub fn state<D: Disk>(host: &mut Host<D>) -> State {
     match global(host, "n") {
         Reply::Value(Word::Int(number)) => (seq(host), Some(number)),

@@ -42,6 +42,7 @@ pub fn new_host(alloc: Global, registry: Registry) -> Result<Host<MemoryDisk>, S
     created(alloc, a, b, registry)
 }
 
+/// A host with the store on these disks, or why there is none.
 pub fn opened<D: Disk + Drop>(
     alloc: Global,
     a: D,
@@ -51,6 +52,7 @@ pub fn opened<D: Disk + Drop>(
     Host::open(alloc, a, b, registry).map_err(|refused| refused.fault)
 }
 
+/// The two disks of a host that is closed.
 pub fn closed<D: Disk>(host: Host<D>) -> (D, D) {
     host.close()
 }

@@ -14,6 +14,7 @@ use crate::tree::statements::{Case, Label, Stmt, StmtKind, Vars};
 use crate::tree::types::{Element, Primitive, TypeName};
 use std::alloc::{AllocError, Global};
 
+/// `name(arguments)`
 pub fn call(place: Place, name: String, arguments: Vec<Expr>) -> Expr
     ensures { expr_of result
         ≡ Call place (string_bytes name) (exprs (map expr_of arguments.items)) }
@@ -24,6 +25,7 @@ pub fn call(place: Place, name: String, arguments: Vec<Expr>) -> Expr
     }
 }
 
+/// `.name(arguments)`
 pub fn method(place: Place, name: String, arguments: Vec<Expr>) -> Suffix
     ensures { suffix_of result
         ≡ Method place (string_bytes name) (exprs (map expr_of arguments.items)) }
@@ -86,6 +88,7 @@ pub fn postfix(alloc: Global, operand: Expr, suffixes: Vec<Suffix>) -> Result<Ex
     })
 }
 
+/// `{ body }`
 pub fn block(place: Place, body: Vec<Stmt>) -> Stmt
     ensures { stmt_of result ≡ Block place (stmts (map stmt_of body.items)) }
 {
@@ -95,6 +98,7 @@ pub fn block(place: Place, body: Vec<Stmt>) -> Stmt
     }
 }
 
+/// `switch (value) { labels }`
 pub fn switch(place: Place, value: Expr, labels: Vec<Case>) -> Stmt
     ensures { stmt_of result ≡ Switch place (expr_of value) (cases (map case_of labels.items)) }
 {
@@ -107,6 +111,7 @@ pub fn switch(place: Place, value: Expr, labels: Vec<Case>) -> Stmt
     }
 }
 
+/// A label of a `switch`, with the statements after it.
 pub fn case(place: Place, label: Label, body: Vec<Stmt>) -> Case
     ensures { case_of result ≡ labelled place label (stmts (map stmt_of body.items)) }
 {
@@ -150,6 +155,7 @@ pub fn index(alloc: Global, value: Expr) -> Result<Suffix, AllocError>
     Ok(Suffix::Index(Box::new(alloc, value)?))
 }
 
+/// `operator operand`
 pub fn unary(
     alloc: Global,
     place: Place,

@@ -21,6 +21,7 @@ use ash_integers::IntType;
 use ash_tree::Label;
 use std::alloc::{AllocError, Global};
 
+/// A call of what is named as its target, with the types of its parameters.
 #[tactic(auto, using(crate::proofs::Rows::call_is))]
 pub fn call(target: Target, parameters: Vec<VarType>, arguments: Vec<Expr>) -> Expr
     ensures calls_target { expr_of result
@@ -214,6 +215,7 @@ pub fn cast(alloc: Global, to: ObjectType, value: Expr) -> Result<Expr, AllocErr
     Ok(Expr::Cast { to, value })
 }
 
+/// `-operand`, `~operand` or `!operand`
 pub fn alter(alloc: Global, change: Change, operand: Expr) -> Result<Expr, AllocError>
     ensures operator_applied { IfOk result (λ e. expr_of e ≡ Alter change (expr_of operand)) }
 {
@@ -241,6 +243,7 @@ pub fn conditional(
     })
 }
 
+/// `place = value`
 pub fn assign(alloc: Global, place: Place, value: Expr) -> Result<Expr, AllocError>
     ensures value_assigned { IfOk result (λ e.
         expr_of e ≡ Assign (place_of place) (expr_of value)) }

@@ -1,4 +1,5 @@
-// The program `ashd`.
+//! The program `ashd`.
+
 #![tactic(auto)]
 
 use ash_serve::program;

@@ -1,4 +1,4 @@
-// Checking a script: its bytes are read and judged, and the verdict is written.
+//! Checking a script: its bytes are read and judged, and the verdict is written.
 
 ghost use Rattle.ash_registry.specs.Registered.{registered};
 ghost use Rattle.ash_serve.specs.CheckRun.{EndsCheck, ChecksFile, ChecksScript, ReadsScript};

@@ -1,4 +1,4 @@
-// How the program ends: by what it found, or by a fault.
+//! How the program ends: by what it found, or by a fault.
 
 ghost use Rattle.std.specs.Prelude.{◌≡◌};
 ghost use Rattle.ash_serve.specs.Program.{end_of, ending_status};

@@ -1,4 +1,4 @@
-// Why the program ends with another status than 0, and what it writes of that.
+//! Why the program ends with another status than 0, and what it writes of that.
 
 ghost use Rattle.std.specs.Prelude.{◌≡◌};
 ghost use Rattle.ash_serve.specs.Program.{code_of, status_of};

@@ -1,4 +1,4 @@
-// What the program offers to scripts.
+//! What the program offers to scripts.
 
 use ash_registry::{Registry, RegistryFault};
 use std::alloc::Global;

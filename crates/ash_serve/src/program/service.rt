@@ -1,4 +1,4 @@
-// Serving from two disks: a host is opened or made on them, and runs.
+//! Serving from two disks: a host is opened or made on them, and runs.
 
 ghost use Rattle.std.specs.Prelude.{◌≡◌, Err};
 ghost use Rattle.ash_durable.specs.Store.{Creates, Opens};

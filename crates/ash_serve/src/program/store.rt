@@ -1,4 +1,4 @@
-// The files of a store in a folder.
+//! The files of a store in a folder.
 
 use super::fault::Fault;
 use ash_disk::FileDisk;

@@ -1,11 +1,11 @@
-// What the words of a command line ask for.
+//! What the words of a command line ask for.
 
 use super::fault::Fault;
 use clap::error::ErrorKind;
 use clap::{Arg, ArgAction, ArgMatches, Command};
 use std::alloc::{AllocError, Global};
 
-/// The most counters that the pool may be given.
+/// The most host objects of the kind Counter that may be asked for.
 const MAX_COUNTERS: u64 = 4096;
 
 /// The most digits of an option's number.
@@ -29,7 +29,8 @@ pub enum Task<'a> {
 pub struct Limits {
     /// Ticks for each request.
     pub budget: u64,
-    /// How many counters the pool has. So far no script can take one.
+    /// How many host objects of the kind Counter there are to be for scripts. Nothing reads it so far: no script can
+    /// construct one.
     pub counters: u64,
 }
 
