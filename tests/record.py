@@ -1,8 +1,8 @@
 """The record of must-fail edits: under which text of its crate each crate's edits were last all refused.
 
 An edit's verdict hangs on the text of its crate (src, specs, proofs, must-fail) and on the toolchain, so a crate whose
-text and toolchain are those on record need not have its edits tried again. Comments and blank lines are no part of that
-text.
+text and toolchain are those on record need not have its edits tried again. Comments, and how lines are broken and
+indented, are no part of that text.
 """
 
 import hashlib
@@ -39,24 +39,26 @@ def toolchain():
     return subprocess.run(["rt", "version"], capture_output=True, text=True, check=True).stdout.strip()
 
 
-# The strings, characters and comments of a source file; these are the first group.
+# The comments of a source file, its white space, and its strings and characters, in which neither is.
 TOKENS = {
-    ".rt": re.compile(r'(//[^\n]*)|r#".*?"#|r"[^"]*"|"(?:\\.|[^"\\])*"|\'(?:\\.|[^\'\\])\'', re.DOTALL),
-    ".antt": re.compile(r'(--[^\n]*)|"(?:\\.|[^"\\])*"', re.DOTALL),
+    ".rt": re.compile(r'(//[^\n]*)|(\s+)|r#".*?"#|r"[^"]*"|"(?:\\.|[^"\\])*"|\'(?:\\.|[^\'\\])\'', re.DOTALL),
+    ".antt": re.compile(r'(--[^\n]*)|(\s+)|"(?:\\.|[^"\\])*"', re.DOTALL),
 }
 
 
-def without_comments(file, text):
-    """The lines of a source file that have more than comments, without these. Another file is as it is."""
+def without_layout(file, text):
+    """The text of a source file without its comments, and with one space for each run of white space. Another file is as
+    it is."""
     tokens = TOKENS.get(os.path.splitext(file)[1])
     if tokens is None:
         return text
     left = tokens.sub(lambda it: "" if it[1] else it[0], text)
-    return "".join(f"{line.rstrip()}\n" for line in left.split("\n") if line.strip())
+    return tokens.sub(lambda it: " " if it[2] else it[0], left).strip()
 
 
 def text_hash(crate, identity):
-    """The hash of all files of the crate's text, with their paths and without comments, and of the toolchain's identity."""
+    """The hash of all files of the crate's text, with their paths and without comments and layout, and of the
+    toolchain's identity."""
     top = os.path.join(TOP, "crates", crate)
     files = [
         os.path.join(at, name)
@@ -67,7 +69,7 @@ def text_hash(crate, identity):
     whole = hashlib.sha256(identity.encode())
     for file in sorted(files):
         with open(file, encoding="utf-8") as content:
-            digest = hashlib.sha256(without_comments(file, content.read()).encode()).hexdigest()
+            digest = hashlib.sha256(without_layout(file, content.read()).encode()).hexdigest()
         whole.update(f"\n{os.path.relpath(file, top)} {digest}".encode())
     return whole.hexdigest()
 

@@ -32,11 +32,11 @@ for part in src specs proofs must-fail; do
     rm "$scratch/crates/low/$part/new"
 done
 listed "the text as it was" "low 1 edits, refused on 2026-01-02"
-printf '// What is first.\n\npub fn one() -> u8 { 1 } // It is small.\n' > "$scratch/crates/low/src/lib.rt"
-listed "comments and a blank line" "low 1 edits, refused on 2026-01-02"
+printf '// What is first.\n\npub fn one()\n    -> u8 { 1 } // It is small.\n' > "$scratch/crates/low/src/lib.rt"
+listed "comments and other lines" "low 1 edits, refused on 2026-01-02"
 echo 'pub fn one() -> &str { "// 1" }' > "$scratch/crates/low/src/lib.rt"
 enters
-echo 'pub fn one() -> &str { "// 2" }' > "$scratch/crates/low/src/lib.rt"
+echo 'pub fn one() -> &str { "//  1" }' > "$scratch/crates/low/src/lib.rt"
 listed "a string that looks like a comment" "low 1 edits, not on record as it stands"
 echo 'pub fn one() -> u8 { 1 }' > "$scratch/crates/low/src/lib.rt"
 enters
