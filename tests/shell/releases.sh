@@ -25,5 +25,5 @@ release() {
 for file in tests/rows/releases/*.rows; do
     anew
     rows_of "$file" release
-    carry_out "$file"
+    check_run "$file"
 done

@@ -80,7 +80,7 @@ pub(crate) fn repair<D: Disk>(disk: &mut D, gate: Gate) -> Result<(), DeviceFail
     Ok(())
 }
 
-/// Puts bytes in place of what a file in this state holds: shuts its first gate, where it is an older generation, and
+/// Writes bytes in place of what a file in this state holds: shuts its first gate, where it is an older generation, and
 /// commits them after it.
 pub(crate) fn replace<D: Disk>(
     disk: &mut D,

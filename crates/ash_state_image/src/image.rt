@@ -190,7 +190,7 @@ pub fn image_of_one_state()
         → IsImage bytes v s → IsImage bytes w t → (v ≡ w) × (s ≡ t) }
 {}
 
-/// What is spelled is read, where the rules are kept. This function does nothing when it runs.
+/// What is spelled is read, where the rules hold. This function does nothing when it runs.
 pub fn images_are_read()
     ensures again { (version : Version) (s : Snapshot) → Fits version s → KeepsRules s
         → IsImage (image version s) version s }
@@ -233,7 +233,7 @@ pub fn write_image(alloc: Global, state: StateParts<'_>) -> Result<Vec<u8>, Allo
     // The state has an image.
     requires fits { Fits Two (snapshot_in state) }
     ensures written { IfOk result (λ image. image.items ≡ image_of (snapshot_in state.entry)) }
-    // Where the rules are kept, it is read again.
+    // Where the rules hold, it is read again.
     ensures read { KeepsRules (snapshot_in state.entry)
         → IfOk result (λ image. IsImage image.items Two (snapshot_in state.entry)) }
     // It fits into a record.
@@ -251,7 +251,7 @@ pub fn write_body(alloc: Global, state: StateParts<'_>) -> Result<Vec<u8>, Alloc
     requires fits { Fits Two (snapshot_in state) }
     ensures written { IfOk result (λ body.
         body.items ≡ image_tag ∷ image_of (snapshot_in state.entry)) }
-    // Where the rules are kept, it is read again.
+    // Where the rules hold, it is read again.
     ensures read { KeepsRules (snapshot_in state.entry)
         → IfOk result (λ body. IsBody body.items Two (snapshot_in state.entry)) }
     // It fits into a record.

@@ -11,6 +11,6 @@ pub mod NoServices
 pub mod Admitted
 pub mod Depicted
 pub mod OneImage
-pub mod Taken
+pub mod StepsTaken
 pub mod Placed
 pub mod Typed

@@ -48,7 +48,7 @@ module _ {Fault : Type 0} (embedding : Embedding Fault) where
     pub values : AreValues (record { name = m.name; tree = tree }) all (types_of_globals tree.globals) m.globals
 
   -- A state: the modules are by ascending name, what is stored is of its type, host objects are of kinds that the host has,
-  -- numbers are at most the last, limits are kept, and every object can be reached from the globals.
+  -- numbers are at most the last, limits hold, and every object can be reached from the globals.
   pub record IsWellFormedState (host : Host) (s : State) : Type 0 where
     pub ascending : Ascend s.modules
     pub valid : AllByRecursion HasValidName s.modules
