@@ -84,11 +84,11 @@ fn count_acknowledged(host: &mut Host<Fused>, source: &[u8], steps: &[Step]) -> 
     done
 }
 
-fn made(alloc: Global, a: Fused, b: Fused) -> Result<Host<Fused>, OpenRefused<Fused>> {
+fn new_host(alloc: Global, a: Fused, b: Fused) -> Result<Host<Fused>, OpenRefused<Fused>> {
     Host::create(alloc, a, b, Registry::new(alloc))
 }
 
-fn found(alloc: Global, a: Fused, b: Fused) -> Result<Host<Fused>, OpenRefused<Fused>> {
+fn open_host(alloc: Global, a: Fused, b: Fused) -> Result<Host<Fused>, OpenRefused<Fused>> {
     Host::open(alloc, a, b, Registry::new(alloc))
 }
 
@@ -122,13 +122,13 @@ pub(crate) fn handle_plan(
     let first = FailingDisk::new(disks.0, calls.0);
     let second = FailingDisk::new(disks.1, calls.1);
     let begun = if plan.is_new {
-        made(alloc, first, second)
+        new_host(alloc, first, second)
     } else {
-        found(alloc, first, second)
+        open_host(alloc, first, second)
     };
     let (mut done, mut first, mut second) = served(begun, plan.source, plan.steps)?;
     if done > plan.steps.len() {
-        let begun = found(alloc, first, second);
+        let begun = open_host(alloc, first, second);
         let (more, a, b) = served(begun, plan.source, plan.steps_again)?;
         done = done.wrapping_add(more);
         first = a;

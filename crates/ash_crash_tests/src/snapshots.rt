@@ -8,7 +8,7 @@ use ash_registry::Registry;
 use ash_store_fixtures::files::{Module, add_record, generation, image};
 use ash_store_fixtures::full::{AT_THE_LIMIT, LIMIT, full_file, spaces};
 use ash_store_fixtures::hosts::{
-    EMPTY, closed, discard, disk, found_state, image_after, load, made, need, opened,
+    EMPTY, closed, discard, disk, found_state, image_after, load, need, new_host, opened,
 };
 use ash_store_fixtures::lives::{File, Run, Start, Step, answers, bytes_of, lived_on_fuses};
 use std::alloc::{AllocError, Global};
@@ -194,7 +194,7 @@ fn take_turns(
 /// The disks after so many such requests with a source of as many spaces as there may be.
 fn disks_after(alloc: Global, requests: u64) -> Result<(MemoryDisk, MemoryDisk), Fail> {
     let source = spaces(alloc, 65_536)?;
-    let mut host = made(alloc, &[], &[])?;
+    let mut host = new_host(alloc, &[], &[])?;
     take_turns(alloc, &mut host, &source, requests)?;
     Ok(closed(host))
 }

@@ -159,11 +159,11 @@ in_an_array = program (module_of [] (alone (named (codes "l") array (Some (Call 
     uint : VarType
     uint = vars.Integer ints.Uint
 
-    made : Expr
-    made = Call (targets.Host 1) (int ∷ []) (exprs (Read (local 0 int) ∷ []))
+    new_of_local : Expr
+    new_of_local = Call (targets.Host 1) (int ∷ []) (exprs (Read (local 0 int) ∷ []))
 
     f_of : Function
-    f_of = function f (Some int) (int ∷ []) (evaluate (of_l arrays.InsertLast (counter ∷ []) (made ∷ [])) ∷ returning (Convert (record { from = ints.Uint; to = ints.Int }) (of_l arrays.Length [] [])) ∷ [])
+    f_of = function f (Some int) (int ∷ []) (evaluate (of_l arrays.InsertLast (counter ∷ []) (new_of_local ∷ [])) ∷ returning (Convert (record { from = ints.Uint; to = ints.Int }) (of_l arrays.Length [] [])) ∷ [])
 
     g_of : Function
     g_of = function (codes "g") None [] (evaluate (of_l arrays.RemoveLast [] []) ∷ [])
