@@ -6,7 +6,7 @@ use ash_disk::{MemoryDisk, Survives};
 use ash_durable::Host;
 use ash_registry::Registry;
 use ash_store_fixtures::files::{Module, add_record, generation, image};
-use ash_store_fixtures::full::{AT_THE_LIMIT, LIMIT, full_file, spaces};
+use ash_store_fixtures::full::{AT_THE_LIMIT, FULL_RECORD_BYTES, full_file, spaces};
 use ash_store_fixtures::hosts::{
     EMPTY, closed, discard, disk, found_state, image_after, load, need, new_host, opened,
 };
@@ -306,7 +306,7 @@ static AT_THE_SIZE: [Full; 2] = [
 fn a_byte_less_than_the_limit(rt: HostRuntime) -> Result<(), Fail> {
     let full = full_file(rt.alloc(), 1, AT_THE_LIMIT)?;
     let records = full.len().saturating_sub(EMPTY.len());
-    check(&rt, &(records as u64), &LIMIT, "the bytes of records");
+    check(&rt, &(records as u64), &FULL_RECORD_BYTES, "the bytes of records");
     for row in &AT_THE_SIZE {
         check_full(&rt, rt.alloc(), row)?;
     }

@@ -10,14 +10,11 @@ ghost use Rattle.ash_plain_data.specs.Running.{RunsAs};
 ghost use Rattle.ash_plain.specs.Views.{activity_seen};
 
 use crate::activity::Activity;
-use ash_host::Word;
+use ash_host::{MAX_OBJECTS, Word};
 use ash_phrases::Exception;
 use ash_plain_data::object::Object;
 use ash_plain_data::run_error::{RunError, RunResult};
 use std::alloc::AllocError;
-
-/// How many objects live at most.
-pub const MAX_OBJECTS: usize = 4096;
 
 impl Activity {
     /// The object of a handle; null has none.

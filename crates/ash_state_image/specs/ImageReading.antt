@@ -10,7 +10,7 @@ use Rattle.ash_state_image.specs.Fields.{◌>>=◌, as_at, checked_at, pair_at, 
 use Rattle.ash_state_image.specs.Words.{word_at}
 use Rattle.ash_state_image.specs.ObjectBytes.{kind_and_state_at, plain_at}
 use Rattle.ash_state_image.specs.Snapshots.{Loaded, Snapshot}
-use Rattle.ash_state_image.specs.Image.{is_module_name, are_ascending, names_of, do_rise, has_version, max_text_bytes}
+use Rattle.ash_state_image.specs.Image.{is_module_name, are_ascending, names_of, do_rise, has_version, max_registered_text_bytes}
 use Rattle.ash_state_image.specs.Image.{max_source_bytes, max_globals, max_modules, max_services}
 
 -- modules
@@ -60,7 +60,7 @@ objects_at version = checked_at (λ objects. do_rise (numbers objects))
 
 -- the bytes are a text, and within the limit of what is registered
 abbrev pub is_text : List ℕ → Bool
-is_text bytes = nat_le (length bytes) max_text_bytes && is_utf8 bytes
+is_text bytes = nat_le (length bytes) max_registered_text_bytes && is_utf8 bytes
 
 -- the text of what is registered
 unfoldable pub registered_at : List ℕ → Option (List ℕ × List ℕ)

@@ -19,7 +19,7 @@ ghost use Rattle.std.specs.Prelude.{◌≡◌, ◌++◌, ◌≤◌, ◌<◌, ◌
 ghost use Rattle.std.specs.Prelude.{if◌then◌else◌, OnOk, IfOk, IfSome, IsOk, IsOkUnless, ℕ, List, option_map};
 ghost use Rattle.ash_state_image.specs.Fields.{ReturnsField, text, whole};
 ghost use Rattle.ash_state_image.specs.Snapshots.{Snapshot};
-ghost use Rattle.ash_state_image.specs.Image.{Fits, Spells, image, image_of, image_v1_of, max_text_bytes};
+ghost use Rattle.ash_state_image.specs.Image.{Fits, Spells, image, image_of, image_v1_of, max_registered_text_bytes};
 ghost use Rattle.ash_state_image.specs.Rules.{KeepsRules, IsShaped, IsImage, IsBody, image_tag};
 ghost use Rattle.ash_state_image.specs.ImageReading.{is_text, registered_at, snapshot_at, version_at, image_at};
 ghost use Rattle.ash_state_image.specs.Views.{snapshot_of, image_read, snapshot_in};
@@ -31,7 +31,7 @@ use crate::fields::{
     ReadError, prefix, u16_at, u32_at, u64_at, write_u8, write_u16, write_u32, write_u64,
 };
 use crate::lengths::image_length;
-use crate::limits::MAX_TEXT_BYTES;
+use crate::limits::MAX_REGISTERED_TEXT_BYTES;
 use crate::modules::{modules_of, write_modules};
 use crate::numbered::{objects_of, write_objects};
 use crate::parts::StateParts;
@@ -52,7 +52,7 @@ fn as_text(alloc: Global, bytes: &[u8]) -> Result<String, ReadError>
     ensures { ReturnsField (λ text. string_bytes text) result
         (if is_text bytes.now then Some bytes.now else None) }
 {
-    if bytes.len() > MAX_TEXT_BYTES {
+    if bytes.len() > MAX_REGISTERED_TEXT_BYTES {
         return Err(ReadError::Damaged);
     }
     let Ok(text) = str::from_utf8(bytes) else {
@@ -208,7 +208,7 @@ pub fn version_one_moves()
 
 /// A length, and the text of what is registered.
 fn write_registered(out: &mut Vec<u8>, registered: &str) -> Result<(), AllocError>
-    requires { length registered.now ≤ max_text_bytes }
+    requires { length registered.now ≤ max_registered_text_bytes }
     ensures { OnOk result (out.new.items ≡ out.old.items ++ text 4 registered.now) }
 {
     write_u32(out, registered.len() as u32)?;

@@ -21,7 +21,9 @@ use Rattle.ash_steps.specs.declared.argument.Argument.TheVariants as arguments
 use Rattle.ash_steps.specs.States.{LoadedModule, State, Embedding, find_module, globals_of}
 use Rattle.ash_steps.specs.Requests.{Request, Load, Call, Discard, Get, Object, Seq, Snapshot, Refusal, SequenceSpent, BadName, ModuleTaken, TooManyModules, BadSource, NoModule, NoFunction, NotCallable, BadArguments, NoGlobal, NoObject, ObjectContents, Fields, HostState, Elements, Shown}
 
--- names of modules: a letter or `_`, then letters, digits and `_`, at most 64 bytes
+-- names of modules: a letter or `_`, then letters, digits and `_`, at most so many bytes
+abbrev pub max_module_name_bytes : ℕ
+max_module_name_bytes = 64
 
 abbrev pub is_between : ℕ → ℕ → ℕ → Bool
 is_between low high code = nat_le low code && nat_le code high
@@ -39,7 +41,7 @@ is_name [] = false
 is_name (code ∷ more) = is_name_start code && list_all is_name_part more
 
 abbrev pub is_module_name : List ℕ → Bool
-is_module_name name = is_name name && nat_le (length name) 64
+is_module_name name = is_name name && nat_le (length name) max_module_name_bytes
 
 -- how many modules there are at most, and how many requests are answered at most
 abbrev pub max_modules : ℕ
