@@ -8,7 +8,8 @@ use Rattle.ash_plain_data.specs.ObjectViews.{object_seen}
 
 -- one more number, where an object lives by it that is not found yet
 abbrev pub with_one : Objects (List ℕ) → ℕ → List ℕ → List ℕ
-with_one objects number found = if is_some (object_at number objects) && not (is_among found number) then found ++ number ∷ [] else found
+with_one objects number found =
+    if is_some (object_at number objects) && not (is_among found number) then found ++ number ∷ [] else found
 
 abbrev pub with_found : Objects (List ℕ) → List ℕ → List ℕ → List ℕ
 with_found objects [] found = found

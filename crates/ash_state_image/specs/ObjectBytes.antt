@@ -4,8 +4,10 @@ use Rattle.std.specs.Prelude.{ℕ, zero, suc, ◌<◌, ◌≤◌, ◌^◌, nat_l
 use Rattle.std.specs.List.{AllByRecursion}
 use Rattle.ash_host.specs.declared.word.Word.{Word}
 use Rattle.ash_host.specs.Limits.{max_elements, max_state_bytes}
-use Rattle.ash_host.specs.Objects.{Element, Bools, Ints, Uints, Int64s, Uint64s, Handles, Hosts, Plain, Script, Array, Host}
-use Rattle.ash_state_image.specs.Fields.{number, text, items, as_at, checked_at, pair_at, number_at, text_at, items_at, tagged_at}
+use Rattle.ash_host.specs.Objects.{Element, Bools, Ints, Uints, Int64s, Uint64s}
+use Rattle.ash_host.specs.Objects.{Handles, Hosts, Plain, Script, Array, Host}
+use Rattle.ash_state_image.specs.Fields.{number, text, items, as_at, checked_at, pair_at}
+use Rattle.ash_state_image.specs.Fields.{number_at, text_at, items_at, tagged_at}
 use Rattle.ash_state_image.specs.Words.{word, FitsWord, word_at}
 
 -- the most fields of an object, as a class has at most so many members
