@@ -7,7 +7,8 @@ ghost use Rattle.ash_disk.specs.Failures.{CountsFailure};
 ghost use Rattle.ash_disk.specs.Device.{IsDurable, HoldsThroughout};
 ghost use Rattle.ash_journal.specs.Layout.{IsShut};
 ghost use Rattle.ash_journal.specs.OtherState.{is_older};
-ghost use Rattle.ash_journal.specs.Writes.{IsSplit, IsOn, WritesByte, WhileShut, WhileCommitted, WhileRepaired};
+ghost use Rattle.ash_journal.specs.Writes.{IsSplit, IsOn, WritesByte, WhileShut};
+ghost use Rattle.ash_journal.specs.Writes.{WhileCommitted, WhileRepaired};
 ghost use Rattle.ash_journal.specs.Writes.{WhileReplaced, repaired};
 
 use crate::other_state::OtherState;

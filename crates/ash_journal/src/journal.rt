@@ -57,8 +57,10 @@ impl<D: Disk> Journal<D> {
     ghost use Rattle.std.specs.Prelude.{ℕ, List, length, IsTrue, IfOk, IfErr, OnOk};
     ghost use Rattle.std.specs.Prelude.{OnErr, IsErr, IsErrOf, MatchResult};
     ghost use Rattle.ash_journal.specs.Failures.{CountsFailuresOf};
-    ghost use Rattle.ash_journal.specs.Journal.{first_disk, second_disk, generation, record_bytes, current_disk};
-    ghost use Rattle.ash_journal.specs.Journal.{IsReady, IsRepaired, HasFailed, Finds, Holds, CountsFailuresIn};
+    ghost use Rattle.ash_journal.specs.Journal.{first_disk, second_disk, generation};
+    ghost use Rattle.ash_journal.specs.Journal.{record_bytes, current_disk};
+    ghost use Rattle.ash_journal.specs.Journal.{IsReady, IsRepaired, HasFailed};
+    ghost use Rattle.ash_journal.specs.Journal.{Finds, Holds, CountsFailuresIn};
     ghost use Rattle.ash_journal.specs.Journal.{LeavesOther, LeavesRepaired, WritesGates};
     ghost use Rattle.ash_journal.specs.Current.{IsContents, Represent};
     ghost use Rattle.ash_disk.specs.Device.{IsOnlyRead, EveryMomentSince};

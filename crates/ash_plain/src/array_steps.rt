@@ -5,8 +5,10 @@ ghost use Rattle.std.specs.Prelude.{◌≡◌, ◌++◌, IfOk, OnOk, drop, repli
 ghost use Rattle.std.specs.Option.{option_map_or};
 ghost use Rattle.ash_host.specs.declared.word.Word.TheVariants.{Null};
 ghost use Rattle.ash_host.specs.Objects.{object_at};
-ghost use Rattle.ash_phrases.specs.ArraySteps.{zero_element, natural_of, index_in, count_in, construct_array};
-ghost use Rattle.ash_phrases.specs.ArraySteps.{resized, resize, insert_last, remove_last, invoke_array, zero_in};
+ghost use Rattle.ash_phrases.specs.ArraySteps.{zero_element, natural_of, index_in};
+ghost use Rattle.ash_phrases.specs.ArraySteps.{count_in, construct_array};
+ghost use Rattle.ash_phrases.specs.ArraySteps.{resized, resize, insert_last, remove_last};
+ghost use Rattle.ash_phrases.specs.ArraySteps.{invoke_array, zero_in};
 ghost use Rattle.ash_phrases.specs.Expressions.{element_at};
 ghost use Rattle.ash_plain_data.specs.ObjectViews.{element_seen, object_seen};
 ghost use Rattle.ash_plain_data.specs.Running.{RunsAs};

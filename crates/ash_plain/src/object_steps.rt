@@ -3,7 +3,8 @@
 
 ghost use Rattle.std.specs.Prelude.{◌≡◌, ◌<◌, OnOk};
 ghost use Rattle.ash_phrases.specs.Activity.{in_world};
-ghost use Rattle.ash_phrases.specs.ObjectSteps.{object_of, words_in, with_object, with_words, demand_number};
+ghost use Rattle.ash_phrases.specs.ObjectSteps.{object_of, words_in, with_object};
+ghost use Rattle.ash_phrases.specs.ObjectSteps.{with_words, demand_number};
 ghost use Rattle.ash_phrases.specs.ObjectSteps.{max_number, make};
 ghost use Rattle.ash_plain_data.specs.ObjectViews.{object_seen};
 ghost use Rattle.ash_plain_data.specs.Running.{RunsAs};

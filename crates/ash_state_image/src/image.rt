@@ -15,13 +15,17 @@
 //     tag            u8     1, it leads from every state to that of the image
 //     image                 all of the bytes after the tag
 
-ghost use Rattle.std.specs.Prelude.{◌≡◌, ◌++◌, ◌≤◌, ◌<◌, ◌^◌, ◌∷◌, length, drop, string_bytes, Some, None};
-ghost use Rattle.std.specs.Prelude.{if◌then◌else◌, OnOk, IfOk, IfSome, IsOk, IsOkUnless, ℕ, List, option_map};
+ghost use Rattle.std.specs.Prelude.{◌≡◌, ◌++◌, ◌≤◌, ◌<◌, ◌^◌, ◌∷◌, length};
+ghost use Rattle.std.specs.Prelude.{drop, string_bytes, Some, None};
+ghost use Rattle.std.specs.Prelude.{if◌then◌else◌, OnOk, IfOk, IfSome, IsOk};
+ghost use Rattle.std.specs.Prelude.{IsOkUnless, ℕ, List, option_map};
 ghost use Rattle.ash_state_image.specs.Fields.{ReturnsField, text, whole};
 ghost use Rattle.ash_state_image.specs.Snapshots.{Snapshot};
-ghost use Rattle.ash_state_image.specs.Image.{Fits, Spells, image, image_of, image_v1_of, max_registered_text_bytes};
+ghost use Rattle.ash_state_image.specs.Image.{Fits, Spells, image, image_of, image_v1_of};
+ghost use Rattle.ash_state_image.specs.Image.{max_registered_text_bytes};
 ghost use Rattle.ash_state_image.specs.Rules.{KeepsRules, IsShaped, IsImage, IsBody, image_tag};
-ghost use Rattle.ash_state_image.specs.ImageReading.{is_text, registered_at, snapshot_at, version_at, image_at};
+ghost use Rattle.ash_state_image.specs.ImageReading.{is_text, registered_at, snapshot_at};
+ghost use Rattle.ash_state_image.specs.ImageReading.{version_at, image_at};
 ghost use Rattle.ash_state_image.specs.Views.{snapshot_of, image_read, snapshot_in};
 ghost use Rattle.ash_state_image.specs.declared.version.Version.{Version};
 ghost use Rattle.ash_state_image.specs.declared.version.Version.TheVariants.{One, Two};

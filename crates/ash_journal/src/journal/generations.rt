@@ -2,7 +2,8 @@
 ghost use Rattle.std.specs.Prelude.{◌≡◌, ◌<◌, ◌+◌, ◌-◌, ◌^◌, ◌↔◌, [], ℕ, List, length};
 ghost use Rattle.std.specs.Prelude.{IfOk, OnOk, OnErr, IsErr, IsErrOf};
 ghost use Rattle.ash_journal.specs.Journal.{first_disk, second_disk, generation, record_bytes};
-ghost use Rattle.ash_journal.specs.Journal.{IsReady, HasFailed, Holds, CountsFailuresIn, LeavesCurrent};
+ghost use Rattle.ash_journal.specs.Journal.{IsReady, HasFailed, Holds, CountsFailuresIn};
+ghost use Rattle.ash_journal.specs.Journal.{LeavesCurrent};
 ghost use Rattle.ash_journal.specs.Installing.{IsNext};
 ghost use Rattle.ash_journal.specs.Current.{IsContents, HoldsOneOf};
 ghost use Rattle.ash_journal.specs.Runs.{HoldsSince};
