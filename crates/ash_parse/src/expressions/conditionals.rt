@@ -1,6 +1,6 @@
 //! Reads the branches of a conditional.
 
-ghost use Rattle.std.specs.Prelude.{◌≡◌, ◌≤◌, true, IfOk};
+ghost use Rattle.std.specs.Prelude.{◌≡◌, ◌≤◌, IfOk};
 ghost use Rattle.ash_tree.specs.Tokens.{tokens_of};
 ghost use Rattle.ash_tree.specs.Tree.{Conditional};
 ghost use Rattle.ash_tree.specs.Views.{expr_of};
