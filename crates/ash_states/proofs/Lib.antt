@@ -6,7 +6,7 @@ pub mod Formed
 pub mod Restored
 pub mod Indexed
 pub mod Fitting
-pub mod Kept
+pub mod SnapshotRules
 pub mod NoServices
 pub mod Admitted
 pub mod Depicted
