@@ -24,7 +24,7 @@ HEAD = (
 
 
 def crates():
-    """The names of the crates, lowest first, each with the repository's crates that it stands on directly."""
+    """The names of the crates, lowest first, each with the repository's crates that it uses directly."""
     uses = uses_of_crates()
     return {name: [it for it in used if it in uses] for name, used in uses.items()}
 
@@ -87,7 +87,7 @@ def read():
 
 
 def write(record):
-    """Replaces the record, crates in the order in which they stand on each other."""
+    """Replaces the record, crates in the order in which they use each other."""
     text = HEAD + "".join(f"{it} {' '.join(record[it])}\n" for it in crates() if it in record)
     with open(FILE + ".new", "w", encoding="utf-8") as file:
         file.write(text)

@@ -21,7 +21,7 @@ SECONDS_BETWEEN_LINES = 20
 LINES_OF_LOG = 20
 
 
-def say(text):
+def write(text):
     print(f"ashd.sh: {text}", file=sys.stderr, flush=True)
 
 
@@ -86,14 +86,14 @@ def functions_so_far(begin):
 
 
 def build_crate(crate, count, start, log):
-    """Proves a crate, whose number among all stands in `count`, and returns whether that went well."""
+    """Proves a crate, whose number among all is in `count`, and returns whether that went well."""
     command = ["rt", "run", "--", *WORDS] if crate == "ashd" else ["rt", "lib"]
     begin = os.path.getsize(LOG)
     how = {"stdin": subprocess.DEVNULL, "stdout": log, "stderr": subprocess.STDOUT}
     with subprocess.Popen(command, cwd=f"{TOP}/crates/{crate}", **how) as work:
         while work.returncode is None:
             minutes = int(time.monotonic() - start) // 60
-            say(f"proving {count}: {crate}{functions_so_far(begin)}, {minutes} min so far")
+            write(f"proving {count}: {crate}{functions_so_far(begin)}, {minutes} min so far")
             try:
                 work.wait(SECONDS_BETWEEN_LINES)
             except subprocess.TimeoutExpired:
@@ -110,13 +110,13 @@ def build():
     if is_built(sources):
         return 0
     os.makedirs(OUT, exist_ok=True)
-    say(f"proving and building ashd. From nothing that takes {time_to_prove()}; rt's own lines go to {LOG}")
+    write(f"proving and building ashd. From nothing that takes {time_to_prove()}; rt's own lines go to {LOG}")
     crates, start = in_order("ashd", uses_of_crates(), []), time.monotonic()
     with open(LOG, "wb") as log:
         for number, crate in enumerate(crates, 1):
             if not build_crate(crate, f"{number} of {len(crates)}", start, log):
                 print(*lines_of_log(0)[-LINES_OF_LOG:], sep="\n", file=sys.stderr)
-                say(f"{crate} was not proved or not built. Above are the last lines of {LOG}")
+                write(f"{crate} was not proved or not built. Above are the last lines of {LOG}")
                 return 1
     record(sources)
     return 0
@@ -127,8 +127,8 @@ if __name__ == "__main__":
     try:
         sys.exit(build())
     except KeyboardInterrupt:
-        say("stopped. What is proved is kept: the next call goes on from there")
+        write("stopped. What is proved is stored: the next call goes on from there")
         sys.exit(130)
     except OSError as error:
-        say(str(error))
+        write(str(error))
         sys.exit(1)

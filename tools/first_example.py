@@ -12,7 +12,7 @@ REPLIES = f"{TOP}/examples/first.replies"
 COMMAND = ("rt", "try", "--", "try", "--budget", "1000", "--counters", "2")
 
 
-def say(text):
+def write(text):
     print(f"first-example: {text}", file=sys.stderr, flush=True)
 
 
@@ -52,11 +52,11 @@ def show(requests, replies):
 
 def main():
     need_rt("first-example")
-    say("compiling ashd without its proofs, which takes about 80 seconds on 2 processors")
+    write("compiling ashd without its proofs, which takes about 80 seconds on 2 processors")
     replies, ending = serve()
     show(text_of(REQUESTS), replies)
     if replies != text_of(REPLIES):
-        say(f"these replies are not those of {REPLIES}. rt try ended with:\n{ending}")
+        write(f"these replies are not those of {REPLIES}. rt try ended with:\n{ending}")
         return 1
     print(f"\nThis build was not proved. ./ashd.sh proves and builds ashd, which takes {time_to_prove()}.")
     return 0

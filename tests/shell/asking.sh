@@ -39,9 +39,9 @@ whole() {
     esac
 }
 
-# carry_out NAME [NUMBER]: a run over what was asked ends well, and each row gets its replies. The last sequence number is
+# check_run NAME [NUMBER]: a run over what was asked ends well, and each row gets its replies. The last sequence number is
 # this before it, and is then in $number.
-carry_out() {
+check_run() {
     local each line place=${places[0]} found= replies=() reply
     number=${2:-0}
     printf '%s' "$asked" > "$scratch/input"
@@ -72,7 +72,7 @@ all_rows() {
     for file in tests/rows/"$folder"/*.rows; do
         anew
         rows_of "$file" "$@"
-        carry_out "$file"
+        check_run "$file"
     done
 }
 

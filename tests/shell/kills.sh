@@ -56,7 +56,7 @@ echo "kills: with SEED=$SEED"
 many=$scratch/many
 used_store "$many"
 
-# delay MOST: sleeps for less than so many milliseconds, 1,000 at most
+# delay MAX: sleeps for less than so many milliseconds, 1,000 at most
 delay() {
     sleep "0.$(printf %03d $((RANDOM % $1)))"
 }

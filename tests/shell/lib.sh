@@ -48,8 +48,8 @@ keep() {
     cp "$1/ash.a" "$1/ash.b" "$2"
 }
 
-# put BYTES OFFSET FILE: overwrites bytes, which are written as for printf
-put() {
+# overwrite BYTES OFFSET FILE: overwrites bytes, which are written as for printf
+overwrite() {
     printf "$1" | dd of="$3" bs=1 seek="$2" conv=notrunc status=none
 }
 

@@ -13,14 +13,14 @@ listed() {
     holds "$1" "$2"
 }
 
-# enters: puts the crate on record, as a trial would whose edits were all refused
+# enters: writes the crate into the record, as a trial would whose edits were all refused
 enters() {
     PYTHONDONTWRITEBYTECODE=1 PYTHONPATH="$scratch/tests" python3 -c '
 import record
 record.write({"low": ("1", "2026-01-02", record.text_hash("low", record.toolchain()))})'
 }
 
-listed "a crate that was never tried" "low 1 edits, not on record as it stands"
+listed "a crate that was never tried" "low 1 edits, not on record as it is"
 enters
 listed "a crate on record" "low 1 edits, refused on 2026-01-02"
 echo 'pub fn two() -> u8 { 2 }' > "$scratch/crates/high/src/lib.rt"
@@ -28,7 +28,7 @@ listed "a change in another crate" "low 1 edits, refused on 2026-01-02"
 for part in src specs proofs must-fail; do
     mkdir -p "$scratch/crates/low/$part"
     touch "$scratch/crates/low/$part/new"
-    listed "a new file in $part" "low 1 edits, not on record as it stands"
+    listed "a new file in $part" "low 1 edits, not on record as it is"
     rm "$scratch/crates/low/$part/new"
 done
 listed "the text as it was" "low 1 edits, refused on 2026-01-02"
@@ -41,7 +41,7 @@ listed "a string that looks like a comment" "low 1 edits, not on record as it st
 echo 'pub fn one() -> u8 { 1 }' > "$scratch/crates/low/src/lib.rt"
 enters
 sed -i 's/{ 1 }/{ 3 }/' "$scratch/crates/low/src/lib.rt"
-listed "a planted change" "low 1 edits, not on record as it stands"
+listed "a planted change" "low 1 edits, not on record as it is"
 enters
 sed -i 's/[0-9a-f]\{4\}$/0000/' "$scratch/tests/edits.record"
-listed "a hash written by hand" "low 1 edits, not on record as it stands"
+listed "a hash written by hand" "low 1 edits, not on record as it is"

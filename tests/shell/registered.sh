@@ -16,7 +16,7 @@ for folder in older foreign; do
     ends "serve a store with another text ($folder)" 1 "ashd: 504 OtherInterface" serve "$scratch/$folder" --budget 1 --counters 0
     same "a store with another text stays ($folder)" "$scratch/$folder" "$scratch/before"
 done
-put '\003' 21 "$scratch/foreign/ash.a"
+overwrite '\003' 21 "$scratch/foreign/ash.a"
 ends "damage before another text" 1 "ashd: 503 Damaged" serve "$scratch/foreign" --budget 1 --counters 0
-put '\002' 21 "$scratch/foreign/ash.a"
+overwrite '\002' 21 "$scratch/foreign/ash.a"
 ends "create over a store with another text" 1 "ashd: 502 AlreadyThere" create "$scratch/foreign"

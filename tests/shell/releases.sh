@@ -4,15 +4,15 @@
 # one more. `last` raises an exception after `f`, so that all frames go at once.
 . tests/shell/asking.sh
 budget=5000
-most_objects=4096
+max_objects=4096
 
 making="class A { } A@ g; int one(A@ a) { return 1; } int two(A@ a, A@ b) { return 2; }
 bool last() { f(); return 1 / 0 == 0; } $holding"
 making=${making//$'\n'/ }
 
-# release PLACE MOST-AND-FUNCTION SCRIPT
+# release PLACE COUNT-AND-FUNCTION SCRIPT
 release() {
-    local others=$((most_objects - ${2% *}))
+    local others=$((max_objects - ${2% *}))
     ask_load "$1" ok m "$making$3"
     ask "$1" "exception ObjectLimit ${2#* } 1" "call m hold $((others + 1))"
     ask "$1" ok "discard m"
@@ -24,5 +24,5 @@ release() {
 for file in tests/rows/releases/*.rows; do
     anew
     rows_of "$file" release
-    carry_out "$file"
+    check_run "$file"
 done

@@ -72,7 +72,7 @@ for file in tests/rows/integers/*.rows; do
     type=${type%.rows}
     anew
     rows_of "$file" integers
-    carry_out "$file"
+    check_run "$file"
 done
 
 # Two integer types. A row of tests/rows/mixed has the type and the results, a bar, the left type, an operand of it, the operator,
@@ -200,13 +200,13 @@ run() {
     anew
     for text in "${texts[@]}"; do
         if [ "$text" = reopen ]; then
-            carry_out "$1" "$number"
+            check_run "$1" "$number"
             anew
         else
             ask_text "$1" "$text"
         fi
     done
-    carry_out "$1" "$number"
+    check_run "$1" "$number"
     [ ${#outcomes[@]} -eq 0 ]
     verdict $? "$1: more replies than requests: ${outcomes[*]}"
 }
@@ -256,7 +256,7 @@ for file in tests/rows/ticks/*.rows; do
     for ((budget = 0; budget <= most; budget++)); do
         anew
         rows_of "$file" tick
-        carry_out "$file, budget $budget"
+        check_run "$file, budget $budget"
     done
 done
 budget=1000

@@ -71,7 +71,7 @@ sizes() {
 }
 # opens_gate OFFSET FILE: writes 1 over a byte that is 0
 opens_gate() {
-    [ "$(od -An -tu1 -j "$1" -N 1 "$2" | tr -d ' ')" -eq 0 ] && put '\001' "$1" "$2"
+    [ "$(od -An -tu1 -j "$1" -N 1 "$2" | tr -d ' ')" -eq 0 ] && overwrite '\001' "$1" "$2"
 }
 module='\001\001m\0\0\0\0\0\0'
 sizes "the store after the first example" "$store" $((242 + 2 * 284)) 1
@@ -110,8 +110,8 @@ same "an opening writes nothing" "$scratch/bytes" "$wanted"
 
 # What a crash may leave: gates that are neither 0 nor 1. An opening writes 0 over them, and nothing else.
 keep "$store" "$scratch/torn"
-put '\002' $((242 + 2 * 284 - 1)) "$scratch/torn/ash.a"
-put '\377' 0 "$scratch/torn/ash.b"
+overwrite '\002' $((242 + 2 * 284 - 1)) "$scratch/torn/ash.a"
+overwrite '\377' 0 "$scratch/torn/ash.b"
 asks ''
 ends "serve a store with torn gates" 0 "" serve "$scratch/torn" --budget 1000 --counters 0
 same "torn gates are written over" "$scratch/torn" "$store"
@@ -121,7 +121,7 @@ same "torn gates are written over" "$scratch/torn" "$store"
 mkdir "$scratch/older"
 used='\001\001m\055\0\0\0int n = 2; int f(int k) { n += k; return n; }\001\0\001\007\0\0\0'
 generation 1 278 2 "$used" > "$scratch/older/ash.a"
-put '\001' 21 "$scratch/older/ash.a"
+overwrite '\001' 21 "$scratch/older/ash.a"
 printf 'what is left of a longer file\001' >> "$scratch/older/ash.a"
 printf '\0' > "$scratch/older/ash.b"
 asks 'get m n\nseq\ncall m f 1\n'
@@ -133,7 +133,7 @@ holds "what is found in it again" $'ok 8\nok 3'
 
 # A store of version 1 is moved to version 2 when it is opened: the first file stays, and the second gets the state.
 empty_store "$scratch/moved"
-put '\001' 21 "$scratch/moved/ash.a"
+overwrite '\001' 21 "$scratch/moved/ash.a"
 keep "$scratch/moved" "$scratch/before"
 generation 2 220 0 '\0' > "$scratch/before/ash.b"
 asks 'seq\n'
@@ -143,15 +143,15 @@ same "a store of version 1 is moved" "$scratch/moved" "$scratch/before"
 ends "serve it again" 0 "" serve "$scratch/moved" --budget 1000 --counters 0
 same "a store that was moved stays" "$scratch/moved" "$scratch/before"
 empty_store "$scratch/last"
-put '\377\377\377\377\377\377\377\377' 9 "$scratch/last/ash.a"
-put '\001' 21 "$scratch/last/ash.a"
+overwrite '\377\377\377\377\377\377\377\377' 9 "$scratch/last/ash.a"
+overwrite '\001' 21 "$scratch/last/ash.a"
 keep "$scratch/last" "$scratch/before"
 ends "serve the last generation of version 1" 1 "ashd: 511 GenerationSpent" serve "$scratch/last" --budget 1000 --counters 0
 same "the last generation of version 1 stays" "$scratch/last" "$scratch/before"
 
 # A generation of the last number: no other comes after it.
 empty_store "$scratch/last"
-put '\377\377\377\377\377\377\377\377' 9 "$scratch/last/ash.a"
+overwrite '\377\377\377\377\377\377\377\377' 9 "$scratch/last/ash.a"
 asks 'snapshot\nload m 0\n\nsnapshot\nseq\n'
 ends "serve the last generation" 0 "" serve "$scratch/last" --budget 1000 --counters 0
 holds "the last generation" $'refused 511 GenerationSpent\nok seq 1\nrefused 511 GenerationSpent\nok 1'

@@ -1,6 +1,6 @@
 # Scripts with wide trees, which are no deeper for it.
 
-# wide NAME FRONT PART TIMES END: a check of a script with so many of a part prints ok
+# wide NAME PREFIX PART TIMES SUFFIX: a check of a script with so many of a part prints ok
 wide() {
     { printf '%s' "$2"; yes "$3" | head -n "$4" | tr -d '\n'; printf '%s' "$5"; } > "$scratch/script"
     asks ''

@@ -24,14 +24,16 @@ program_of m = record { name = string_bytes m.name; tree = module_of m.tree }
 abbrev pub HasTypedGlobals : plain.Objects (List ℕ) → LoadedModule → Type 0
 HasTypedGlobals all m = AreValues (program_of m) all (types_of_globals (module_of m.tree).globals) m.globals.items
 
--- What is stored is of the types that the typed trees of the modules say: the globals are values of their types, each object is
--- as its class or its elements say, and each host object is of a kind of which the host constructs objects.
+-- What is stored is of the types that the typed trees of the modules say: the globals are values of their types, each
+-- object is as its class or its elements say, and each host object is of a kind of which the host constructs objects.
 abbrev pub IsWellTyped : Host → List LoadedModule → plain.Objects (List ℕ) → Type 0
-IsWellTyped host ms all = AllByRecursion (HasTypedGlobals all) ms × AreObjects (known_in (map program_of ms)) all × AreOffered host all
+IsWellTyped host ms all =
+    AllByRecursion (HasTypedGlobals all) ms × AreObjects (known_in (map program_of ms)) all × AreOffered host all
 
 -- the same, as the sources are read: these are the parts of a well-formed state that need the sources
 abbrev pub IsWellTypedAsRead : {Fault : Type 0} → Embedding Fault → Host → List Loaded → plain.Objects (List ℕ) → Type 0
-IsWellTypedAsRead embedding host ms all = AllByRecursion (IsLoaded embedding all) ms × AreObjects (known_of embedding ms) all × AreOffered host all
+IsWellTypedAsRead embedding host ms all =
+    AllByRecursion (IsLoaded embedding all) ms × AreObjects (known_of embedding ms) all × AreOffered host all
 
 -- as tests, where the host constructs no objects
 

@@ -1,10 +1,12 @@
 -- Whether what objects contain is of its types, as tests.
-use Rattle.std.specs.Prelude.{ℕ, ◌+◌, Bool, false, ◌&&◌, ◌||◌, nat_eq, nat_le, List, [], ◌∷◌, length, map, Option, is_some, find, option_map}
+use Rattle.std.specs.Prelude.{ℕ, ◌+◌, Bool, false, ◌&&◌, ◌||◌, nat_eq, nat_le, List, []}
+use Rattle.std.specs.Prelude.{◌∷◌, length, map, Option, is_some, find, option_map}
 use Rattle.std.specs.List.{list_all}
 use Rattle.std.specs.Option.{option_map_or}
 use Rattle.std.specs.Str.{bytes_eq}
 use Rattle.ash_host.specs.declared.word.Word.{Word}
-use Rattle.ash_host.specs.Objects.{Element, Bools, Ints, Uints, Int64s, Uint64s, Handles, Hosts, Plain, Script, Array, Host, Objects}
+use Rattle.ash_host.specs.Objects.{Element, Bools, Ints, Uints, Int64s, Uint64s, Handles}
+use Rattle.ash_host.specs.Objects.{Hosts, Plain, Script, Array, Host, Objects}
 use Rattle.ash_host.specs.Limits.{max_elements}
 use Rattle.ash_integers.specs.declared.int_type.IntType.TheVariants as ints
 use Rattle.ash_typed.specs.declared.types.ObjectType.TheVariants as objects
@@ -25,18 +27,21 @@ known_in ps name = option_map (λ (p : Program). p.tree) (program_of_name name p
 
 -- whether words are the fields of an object of the class at a place of the module's source
 abbrev pub is_script : Objects (List ℕ) → ℕ → List Word → Program → Bool
-is_script all place fields p = option_map_or (λ (c : Class). are_values p all (map type_declared c.fields) fields) (class_at p.tree place) false
+is_script all place fields p =
+    option_map_or (λ (c : Class). are_values p all (map type_declared c.fields) fields) (class_at p.tree place) false
 
 -- whether words are handles of objects of the class at a place of the module's source
 abbrev pub are_of_class : Objects (List ℕ) → ℕ → List Word → Program → Bool
-are_of_class all place ws p = is_some (class_at p.tree place) && list_all (is_reference all (is_of_place p.name place)) ws
+are_of_class all place ws p =
+    is_some (class_at p.tree place) && list_all (is_reference all (is_of_place p.name place)) ws
 
--- whether words are handles of objects of an interface at a place of the source, among these interfaces, of which the first has
--- this index
+-- whether words are handles of objects of an interface at a place of the source, among these interfaces, of which the
+-- first has this index
 abbrev pub any_interface : Objects (List ℕ) → ℕ → List Word → Program → ℕ → List Interface → Bool
 any_interface all place ws p interface [] = false
 any_interface all place ws p interface (i ∷ is) =
-    (nat_eq place (interface + i.classes_before) && list_all (is_reference all (is_of p (objects.Interface interface))) ws)
+    (nat_eq place (interface + i.classes_before) && list_all (is_reference all (is_of p (objects.Interface interface)))
+    ws)
     || any_interface all place ws p (interface + 1) is
 
 -- whether words are handles of objects of the class or of the interface at a place of the module's source
@@ -55,7 +60,8 @@ are_elements ps all (Hosts kind) ws = list_all (is_reference all (is_of_kind kin
 
 -- whether an object is well-formed among the living ones, where the host constructs none: a host object never is
 abbrev pub is_object : List Program → Objects (List ℕ) → Plain (List ℕ) → Bool
-is_object ps all (Script owner place fields) = option_map_or (is_script all place fields) (program_of_name owner ps) false
+is_object ps all (Script owner place fields) =
+    option_map_or (is_script all place fields) (program_of_name owner ps) false
 is_object ps all (Array of ws) = nat_le (length ws) max_elements && are_elements ps all of ws
 is_object ps all (Host kind state) = false
 

@@ -1,5 +1,6 @@
 -- Classes and interfaces by their places in the source of their module, as tests.
-use Rattle.std.specs.Prelude.{ℕ, ◌+◌, Bool, true, false, ◌&&◌, if◌then◌else◌, nat_eq, List, [], ◌∷◌, map, slice_get, Option, Some, None, is_some}
+use Rattle.std.specs.Prelude.{ℕ, ◌+◌, Bool, true, false, ◌&&◌, if◌then◌else◌, nat_eq, List}
+use Rattle.std.specs.Prelude.{[], ◌∷◌, map, slice_get, Option, Some, None, is_some}
 use Rattle.std.specs.Option.{option_map_or}
 use Rattle.std.specs.Str.{bytes_eq}
 use Rattle.ash_host.specs.Objects.{Element, Bools, Ints, Uints, Int64s, Uint64s, Handles, Hosts}
@@ -17,7 +18,8 @@ use Rattle.ash_wellformed.specs.WellFormed.{Shape, OfClass, OfElements, OfKind}
 -- the class at a place of the source, among these classes, of which the first has this index
 abbrev pub class_from : Module → ℕ → ℕ → List Class → Option Class
 class_from m place class [] = None
-class_from m place class (c ∷ cs) = if nat_eq place (place_of_class m class) then Some c else class_from m place (class + 1) cs
+class_from m place class (c ∷ cs) =
+    if nat_eq place (place_of_class m class) then Some c else class_from m place (class + 1) cs
 
 -- the class of a module at a place of its source
 abbrev pub class_at : Module → ℕ → Option Class
@@ -27,9 +29,12 @@ class_at m place = class_from m place 0 m.classes
 abbrev pub is_class_at : Module → ℕ → ℕ → Bool
 is_class_at m class place = is_some (slice_get m.classes class) && nat_eq place (place_of_class m class)
 
--- whether a module has an interface by an index, at this place of its source: after the classes and the interfaces before it
+-- whether a module has an interface by an index, at this place of its source: after the classes and the interfaces
+-- before it
 abbrev pub is_interface_at : Module → ℕ → ℕ → Bool
-is_interface_at m interface place = option_map_or (λ (i : Interface). nat_eq place (interface + i.classes_before)) (slice_get m.interfaces interface) false
+is_interface_at m interface place =
+    option_map_or (λ (i : Interface). nat_eq place (interface + i.classes_before)) (slice_get m.interfaces interface)
+    false
 
 -- whether a class lists an interface
 abbrev pub lists : ℕ → Class → Bool
@@ -57,7 +62,8 @@ is_element p (elements.Integer ints.Uint) Uints = true
 is_element p (elements.Integer ints.Int64) Int64s = true
 is_element p (elements.Integer ints.Uint64) Uint64s = true
 is_element p (elements.Class class) (Handles owner place) = bytes_eq owner p.name && is_class_at p.tree class place
-is_element p (elements.Interface interface) (Handles owner place) = bytes_eq owner p.name && is_interface_at p.tree interface place
+is_element p (elements.Interface interface) (Handles owner place) =
+    bytes_eq owner p.name && is_interface_at p.tree interface place
 is_element p (elements.Host kind) (Hosts other) = nat_eq other kind
 is_element p _ _ = false
 

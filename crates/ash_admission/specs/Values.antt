@@ -1,5 +1,6 @@
 -- Whether words are values of their types, as tests.
-use Rattle.std.specs.Prelude.{ℕ, ◌^◌, ℤ, pos, negsuc, Bool, true, false, if◌then◌else◌, nat_lt, List, [], ◌∷◌, Option, Some, None}
+use Rattle.std.specs.Prelude.{ℕ, ◌^◌, ℤ, pos, negsuc, Bool, true, false, if◌then◌else◌}
+use Rattle.std.specs.Prelude.{nat_lt, List, [], ◌∷◌, Option, Some, None}
 use Rattle.std.specs.Option.{option_map_or, option_and_then}
 use Rattle.ash_host.specs.declared.word.Word.{Word}
 use Rattle.ash_host.specs.declared.word.Word.TheVariants as words

@@ -9,7 +9,8 @@ ghost use Rattle.ash_steps.specs.States.{Embedding};
 ghost use Rattle.ash_plain_steps.specs.declared.state.LoadedModule as loaded_module;
 ghost use Rattle.ash_plain_steps.specs.StateViews.{modules_seen};
 ghost use Rattle.ash_plain_steps.specs.Consistency.{AreConsistent};
-ghost use Rattle.ash_admission.specs.Admission.{OffersNothing, IsWellTyped, IsWellTypedAsRead, is_loaded};
+ghost use Rattle.ash_admission.specs.Admission.{OffersNothing, IsWellTyped, IsWellTypedAsRead};
+ghost use Rattle.ash_admission.specs.Admission.{is_loaded};
 ghost use Rattle.ash_admission.specs.Admission.{is_well_typed};
 
 use crate::contents::are_objects;

@@ -3,7 +3,8 @@
 ghost use Rattle.std.specs.Prelude.{◌≡◌, map, option_map};
 ghost use Rattle.ash_host.specs.Objects.{IsInOrder};
 ghost use Rattle.ash_plain_data.specs.ObjectViews.{element_seen, object_seen};
-ghost use Rattle.ash_admission.specs.Contents.{program_of_name, is_script, are_elements, is_object, are_objects};
+ghost use Rattle.ash_admission.specs.Contents.{program_of_name, is_script, are_elements};
+ghost use Rattle.ash_admission.specs.Contents.{is_object, are_objects};
 ghost use Rattle.ash_admission.specs.Admission.{program_of};
 
 use crate::elements::{are_handles, are_integers, are_of_kind, are_truths};

@@ -5,7 +5,8 @@ ghost use Rattle.ash_typed.specs.BodyViews.{value_of};
 ghost use Rattle.ash_typed.specs.Modules.{variables_of};
 ghost use Rattle.ash_typed.specs.Signatures.{type_declared, types_of_globals};
 ghost use Rattle.ash_admission.specs.Places.{is_of};
-ghost use Rattle.ash_admission.specs.Values.{is_truth, is_integer, is_reference, is_value, after_value};
+ghost use Rattle.ash_admission.specs.Values.{is_truth, is_integer, is_reference};
+ghost use Rattle.ash_admission.specs.Values.{is_value, after_value};
 ghost use Rattle.ash_admission.specs.Values.{after_values, are_values};
 ghost use Rattle.ash_admission.specs.Admission.{program_of, is_loaded};
 

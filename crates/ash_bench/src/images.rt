@@ -6,6 +6,7 @@
 
 use crate::rates::Timing;
 use anyhow::{Result, bail, ensure};
+use ash_host::MAX_OBJECTS;
 use ash_registry::Registry;
 use ash_state_image::image::read_image;
 use ash_states::state::HostState;
@@ -16,7 +17,7 @@ use std::io;
 const NAMES: &[u8; 16] = b"abcdefghijklmnop";
 
 /// How many objects there are.
-const OBJECTS: u32 = 4096;
+const OBJECTS: u32 = MAX_OBJECTS as u32;
 
 /// How many objects each module has.
 const OBJECTS_OF_A_MODULE: u64 = 256;

@@ -40,7 +40,8 @@ impl Model for CheckedScript {
       ranks = c.ranks.items;
     } };
 
-    ghost invariant = { λ c. IsChecked (registered c.registrations.value) (module_of c.module) c.ranks.items };
+    ghost invariant = { λ c. IsChecked (registered c.registrations.value) (module_of c.module)
+        c.ranks.items };
 }
 
 impl CheckedScript {

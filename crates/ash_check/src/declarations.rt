@@ -10,7 +10,8 @@ ghost use Rattle.ash_typing.specs.ModuleDeclarations as type_names;
 ghost use Rattle.ash_typing.specs.Expressions as typing;
 ghost use Rattle.ash_typing.specs.Declarations as definition;
 ghost use Rattle.ash_expressions.specs.Agreement.{Agrees};
-ghost use Rattle.ash_expressions.specs.Views.{class_signature_of, classes_of, typed_of, callee_of, environment_of};
+ghost use Rattle.ash_expressions.specs.Views.{class_signature_of, classes_of, typed_of};
+ghost use Rattle.ash_expressions.specs.Views.{callee_of, environment_of};
 ghost use Rattle.ash_check.specs.WalkViews.{optional_expr};
 
 use ash_expressions::{

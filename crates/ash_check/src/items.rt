@@ -2,13 +2,15 @@
 
 ghost use Rattle.std.specs.Prelude.{map};
 ghost use Rattle.ash_registrations.specs.Registered.{registered};
-ghost use Rattle.ash_tree.specs.Views.{vars_of, member_of, class_of as written_class, constructor_of};
+ghost use Rattle.ash_tree.specs.Views.{vars_of, member_of, class_of as written_class};
+ghost use Rattle.ash_tree.specs.Views.{constructor_of};
 ghost use Rattle.ash_tree.specs.Views.{item_of, module_of as written_module};
 ghost use Rattle.ash_typing.specs.Items as definition;
 ghost use Rattle.ash_typed.specs.Modules.{implementation_of, class_of, module_of};
 ghost use Rattle.ash_expressions.specs.Agreement.{Agrees};
 ghost use Rattle.ash_expressions.specs.Views.{environment_of, signatures_of};
-ghost use Rattle.ash_check.specs.WalkViews.{names_of, routine_of, row_of, members_of, walked_of, class_with};
+ghost use Rattle.ash_check.specs.WalkViews.{names_of, routine_of, row_of, members_of};
+ghost use Rattle.ash_check.specs.WalkViews.{walked_of, class_with};
 
 use crate::declarations::{WrittenType, check_decl, check_variable_type, place_of, ty_in};
 use crate::implementations::check_listed_interfaces;

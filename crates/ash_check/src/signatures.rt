@@ -2,12 +2,15 @@
 
 ghost use Rattle.std.specs.Prelude.{◌≡◌, ◌++◌, map, IfOk, OnOk};
 ghost use Rattle.ash_registrations.specs.Registered.{registered};
-ghost use Rattle.ash_tree.specs.Views.{vars_of, parameter_of, function_of as written_function, member_of};
-ghost use Rattle.ash_tree.specs.Views.{type_name_of, interface_method_of, interface_of as written_interface};
+ghost use Rattle.ash_tree.specs.Views.{vars_of, parameter_of, function_of as written_function};
+ghost use Rattle.ash_tree.specs.Views.{member_of};
+ghost use Rattle.ash_tree.specs.Views.{type_name_of, interface_method_of};
+ghost use Rattle.ash_tree.specs.Views.{interface_of as written_interface};
 ghost use Rattle.ash_tree.specs.Views.{class_of as written_class, item_of, module_of};
 ghost use Rattle.ash_tree.specs.Items as by_kind;
 ghost use Rattle.ash_typing.specs.ModuleDeclarations as definition;
-ghost use Rattle.ash_expressions.specs.Views.{binding_of, function_signature_of, interface_signature_of};
+ghost use Rattle.ash_expressions.specs.Views.{binding_of, function_signature_of};
+ghost use Rattle.ash_expressions.specs.Views.{interface_signature_of};
 ghost use Rattle.ash_expressions.specs.Views.{class_signature_of, signatures_of};
 
 use crate::type_names::type_names;

@@ -1,7 +1,8 @@
 //! The walk over statements: their parts in the order of the text, then the statement.
 
 ghost use Rattle.std.specs.Prelude.{◌≡◌, [], map, option_map, IfOk};
-ghost use Rattle.ash_tree.specs.Tree.{Declare, Evaluate, Block, If, IfElse, While, DoWhile, For, Switch, stmts, cases};
+ghost use Rattle.ash_tree.specs.Tree.{Declare, Evaluate, Block, If, IfElse, While};
+ghost use Rattle.ash_tree.specs.Tree.{DoWhile, For, Switch, stmts, cases};
 ghost use Rattle.ash_tree.specs.Views as written;
 ghost use Rattle.ash_typed.specs.BodyViews.{stmt_of};
 ghost use Rattle.ash_typing.specs.Scopes as scopes;

@@ -2,7 +2,8 @@
 
 ghost use Rattle.std.specs.Prelude.{◌≡◌, ℕ, length, IfOk, IfErr, OnOk};
 ghost use Rattle.ash_classes.specs.Paths.{IsForemost, IsReportedCycle, Reaches, AreRanks};
-ghost use Rattle.ash_classes.specs.Marking.{rows_of, Goes, AreWithin, IsAt, AreDistances, IsNearest, unmarked};
+ghost use Rattle.ash_classes.specs.Marking.{rows_of, Goes, AreWithin, IsAt, AreDistances};
+ghost use Rattle.ash_classes.specs.Marking.{IsNearest, unmarked};
 
 use crate::distances::distances_to;
 use std::alloc::{AllocError, Global};

@@ -1,7 +1,9 @@
 //! How far each place is from one that it leads to.
 
-ghost use Rattle.std.specs.Prelude.{◌≡◌, ℕ, ◌<◌, length, All, OnOk, IfOk, Contains, vec_len, replicate};
-ghost use Rattle.ash_classes.specs.Marking.{rows_of, Goes, AreWithin, GoesToOne, Marks, AreDistances};
+ghost use Rattle.std.specs.Prelude.{◌≡◌, ℕ, ◌<◌, length, All, OnOk, IfOk};
+ghost use Rattle.std.specs.Prelude.{Contains, vec_len, replicate};
+ghost use Rattle.ash_classes.specs.Marking.{rows_of, Goes, AreWithin, GoesToOne};
+ghost use Rattle.ash_classes.specs.Marking.{Marks, AreDistances};
 
 use std::alloc::{AllocError, Global};
 

@@ -2,8 +2,10 @@
 
 ghost use Rattle.std.specs.Prelude.{◌≡◌, ◌↔◌, ℕ, length, map, string_bytes, IsTrue, IfOk, Contains};
 ghost use Rattle.std.specs.List.{Any};
-ghost use Rattle.ash_tree.specs.Views.{element_of, type_of, type_name_of, member_of, class_of, item_of, module_of};
-ghost use Rattle.ash_classes.specs.References.{IsOf, ElementNames, Names, Holds, RefersTo, RefersAt, Refers};
+ghost use Rattle.ash_tree.specs.Views.{element_of, type_of, type_name_of, member_of};
+ghost use Rattle.ash_tree.specs.Views.{class_of, item_of, module_of};
+ghost use Rattle.ash_classes.specs.References.{IsOf, ElementNames, Names, Holds};
+ghost use Rattle.ash_classes.specs.References.{RefersTo, RefersAt, Refers};
 ghost use Rattle.ash_classes.specs.References.{classes_of, borrowed_classes};
 ghost use Rattle.ash_classes.specs.Marking.{rows_of, Goes};
 

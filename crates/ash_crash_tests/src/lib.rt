@@ -2,7 +2,7 @@
 //! code are proved once. The tests of stores on disks that do not fail are in `ash_store_tests`.
 //!
 //! `snapshots` has new generations, `faults` disks that fail; `crashes` and `full_crashes` disks that fail, with crashes
-//! at each moment, of small stores and of one that is full.
+//! at each moment, of small stores and of one that is full: what is done to these is in `plans`.
 #![tactic(auto)]
 
 #[cfg(test)]
@@ -15,5 +15,7 @@ mod faults;
 mod full_crashes;
 #[cfg(test)]
 mod fuses;
+#[cfg(test)]
+mod plans;
 #[cfg(test)]
 mod snapshots;

@@ -6,9 +6,9 @@ use ash_disk::{MemoryDisk, Survives};
 use ash_durable::Host;
 use ash_registry::Registry;
 use ash_store_fixtures::files::{Module, add_record, generation, image};
-use ash_store_fixtures::full::{AT_THE_LIMIT, LIMIT, full_file, spaces};
+use ash_store_fixtures::full::{AT_THE_LIMIT, FULL_RECORD_BYTES, full_file, spaces};
 use ash_store_fixtures::hosts::{
-    EMPTY, closed, discard, disk, found_state, image_after, load, made, need, opened,
+    EMPTY, closed, discard, disk, found_state, image_after, load, need, new_host, opened,
 };
 use ash_store_fixtures::lives::{File, Run, Start, Step, answers, bytes_of, lived_on_fuses};
 use std::alloc::{AllocError, Global};
@@ -194,7 +194,7 @@ fn take_turns(
 /// The disks after so many such requests with a source of as many spaces as there may be.
 fn disks_after(alloc: Global, requests: u64) -> Result<(MemoryDisk, MemoryDisk), Fail> {
     let source = spaces(alloc, 65_536)?;
-    let mut host = made(alloc, &[], &[])?;
+    let mut host = new_host(alloc, &[], &[])?;
     take_turns(alloc, &mut host, &source, requests)?;
     Ok(closed(host))
 }
@@ -306,7 +306,7 @@ static AT_THE_SIZE: [Full; 2] = [
 fn a_byte_less_than_the_limit(rt: HostRuntime) -> Result<(), Fail> {
     let full = full_file(rt.alloc(), 1, AT_THE_LIMIT)?;
     let records = full.len().saturating_sub(EMPTY.len());
-    check(&rt, &(records as u64), &LIMIT, "the bytes of records");
+    check(&rt, &(records as u64), &FULL_RECORD_BYTES, "the bytes of records");
     for row in &AT_THE_SIZE {
         check_full(&rt, rt.alloc(), row)?;
     }

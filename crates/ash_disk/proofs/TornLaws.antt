@@ -36,7 +36,7 @@ prefix_stays prefix after at n new before torn =
     same : take (length prefix) new ≡ prefix
     same = same_lists (take (length prefix) new) prefix same_length each
 
--- What stands after the range stays, and what the range leaves there is as long as it was.
+-- What is after the range stays, and what the range leaves there is as long as it was.
 pub part_torn : (prefix middle suffix : List ℕ) (at n : ℕ) (new : List ℕ) → at ≡ length prefix → n ≡ length middle
     → Torn at n (prefix ++ middle ++ suffix) new
     → (torn : List ℕ) × (length torn ≡ length middle) × (new ≡ prefix ++ torn ++ suffix)

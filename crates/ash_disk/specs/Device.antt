@@ -15,7 +15,8 @@ IsDurable device disk = LeavesOnly (device.seen disk) (device.leaves disk (devic
 
 -- Calls took a disk from old to new, and at each moment of them a crash leaves only images with P.
 abbrev pub HoldsThroughout : {D : Type 0} → Device D → D → D → (List ℕ → Type 0) → Type 0
-HoldsThroughout device old new P = HoldsDuring (device.clock old) (device.clock new) (device.leaves old) (device.leaves new) P
+HoldsThroughout device old new P =
+    HoldsDuring (device.clock old) (device.clock new) (device.leaves old) (device.leaves new) P
 
 -- R holds of every two images that two disks might have left at two moments, one of each disk, since two earlier times.
 abbrev pub EveryMomentSince : {D : Type 0} → Device D → ℕ → ℕ → D → D → (List ℕ → List ℕ → Type 0) → Type 0

@@ -15,8 +15,8 @@ calls_left f = f.calls_left
 abbrev pub all_failures : {D : Type 0} → (D → ℕ) → FailingDisk D → ℕ
 all_failures failures f = failures f.disk + f.stopped
 
--- One call was made of a failing disk. With no call left it fails and does not reach the disk in it. With some left there
--- is one less, and a failure is that of the disk in it.
+-- One call was made of a failing disk. With no call left it fails and does not reach the disk in it. With some left
+-- there is one less, and a failure is that of the disk in it.
 pub record CountsCall {D T E : Type 0} (failures : D → ℕ) (result : Result T E) (old new : FailingDisk D) : Type 0 where
   pub one_less : calls_left new ≡ calls_left old - 1
   pub none_left : calls_left old ≡ 0 → IsErr result × (inner new ≡ inner old)

@@ -23,6 +23,6 @@ MemoryLeaves m calls image = MayLeave m.first.items (reverse (take calls m.calls
 abbrev pub bytes_after : MemoryDisk → ℕ → List ℕ
 bytes_after m calls = file_after m.first.items (reverse (take calls m.calls.items))
 
--- `bytes_synced m calls` are the bytes that the last sync of so many calls brought to the device.
+-- `bytes_synced m calls` are the bytes that the last sync of so many calls wrote to the device.
 abbrev pub bytes_synced : MemoryDisk → ℕ → List ℕ
 bytes_synced m calls = synced_after m.first.items (reverse (take calls m.calls.items))

@@ -63,7 +63,7 @@ pub(crate) fn image_of_all(
     Ok(file)
 }
 
-// The bytes that the last sync brought to the device.
+// The bytes that the last sync wrote to the device.
 pub(crate) fn image_of_synced(
     alloc: Global,
     first: &[u8],

@@ -28,7 +28,8 @@ pub struct MemoryDisk {
 }
 
 impl MemoryDisk {
-    ghost use Rattle.ash_disk.specs.Memory.{memory_bytes, memory_clock, memory_failures, MemoryLeaves};
+    ghost use Rattle.ash_disk.specs.Memory.{memory_bytes, memory_clock, memory_failures};
+    ghost use Rattle.ash_disk.specs.Memory.{MemoryLeaves};
     ghost use Rattle.ash_disk.specs.Memory.{bytes_after, bytes_synced};
 
     /// An empty file.
@@ -118,7 +119,8 @@ fn record_write(
 }
 
 impl Disk for MemoryDisk {
-    ghost use Rattle.ash_disk.specs.Memory.{memory_bytes, memory_clock, memory_failures, MemoryLeaves};
+    ghost use Rattle.ash_disk.specs.Memory.{memory_bytes, memory_clock, memory_failures};
+    ghost use Rattle.ash_disk.specs.Memory.{MemoryLeaves};
 
     ghost honest = { λ _. true };
 

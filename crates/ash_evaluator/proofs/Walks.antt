@@ -97,7 +97,7 @@ spread calls done es (Done word a) = appended done word (arguments calls es a)
 spread calls done es (Ended i a) = refl
 spread calls done es NoStep = refl
 
--- arguments that stand in a list, from one on
+-- arguments that are in a list, from one on
 
 pub arguments_step : (calls : Calls) (done : List Word) (es : List expr_code.Expr) (i : ℕ) (e : expr_code.Expr) (a : Activity) → i < length es → e ≡ get_or es i e → arguments_after calls done (exprs (map expr_of (drop i es))) a ≡ onward (expression calls (expr_of e) a) (λ word. arguments_after calls (done ++ word ∷ []) (exprs (map expr_of (drop (i + 1) es))))
 arguments_step calls done es i e a low is =

@@ -19,6 +19,10 @@ abbrev pub body_of_callee : Program → ℕ → Callee → Run (Option Word)
 body_of_callee p depth callee = found (entry_of p.tree callee) >>= body p depth
 
 -- The evaluator's own function for what frames do runs as the definitions say.
-unfoldable pub RunsBodies : {F : Type 0} → Shared F (MutBor activity.Activity × (callee.Callee × Unit {0})) (Result (Option Word) RunError × (MutBor activity.Activity × Unit {0})) → evaluator.Evaluator F → Type 0
+unfoldable pub RunsBodies : {F : Type 0} → Shared F (MutBor activity.Activity × (callee.Callee × Unit {0}))
+    (Result (Option Word) RunError × (MutBor activity.Activity × Unit {0})) → evaluator.Evaluator F → Type 0
 RunsBodies g e =
-    (before : MutBor activity.Activity) (called : callee.Callee) (result : Result (Option Word) RunError) (after : MutBor activity.Activity) → g.post e.body (before, (called, tt)) (result, (after, tt)) → RunsAs (λ (value : Option Word). value) result (activity_seen after.now) (body_of_callee (program_seen e.program.now) e.depth (callee_seen called) (activity_seen before.now))
+    (before : MutBor activity.Activity) (called : callee.Callee) (result : Result (Option Word) RunError)
+    (after : MutBor activity.Activity) → g.post e.body (before, (called, tt)) (result, (after, tt))
+    → RunsAs (λ (value : Option Word). value) result (activity_seen after.now)
+    (body_of_callee (program_seen e.program.now) e.depth (callee_seen called) (activity_seen before.now))

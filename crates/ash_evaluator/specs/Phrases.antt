@@ -21,7 +21,8 @@ use Rattle.ash_phrases.specs.Operators.{is_true, operate}
 use Rattle.ash_phrases.specs.Locations.{location_of_member, read}
 use Rattle.ash_phrases.specs.Calls.{Calls, invoke, call_target}
 use Rattle.ash_phrases.specs.Expressions.{expression, arguments, element_at, lazily}
-use Rattle.ash_phrases.specs.Statements.{fall_through, cases as labels, in_block, begin, loop, Flow, On, Broke, Continued, Returned, Turn}
+use Rattle.ash_phrases.specs.Statements.{fall_through, cases as labels, in_block, begin, loop}
+use Rattle.ash_phrases.specs.Statements.{Flow, On, Broke, Continued, Returned, Turn}
 use Rattle.ash_plain_data.specs.Conversions.{converted_by}
 
 -- arguments, after those that are done
@@ -40,8 +41,10 @@ operands_run calls (o ∷ os) left = operand_run calls o left >>= operands_run c
 -- links of a path
 
 abbrev pub link_run : Calls → link_code.Link → Word → Run Word
-link_run calls (links.Member member) handle = object_of handle >>= (λ number. give (location_of_member member number)) >>= read >>= give_held
-link_run calls (links.Index' a index of) handle = expression calls (expr_of index) >>= element_at handle >>= read >>= give_held
+link_run calls (links.Member member) handle =
+    object_of handle >>= (λ number. give (location_of_member member number)) >>= read >>= give_held
+link_run calls (links.Index' a index of) handle =
+    expression calls (expr_of index) >>= element_at handle >>= read >>= give_held
 link_run calls (links.Invoke' method parameters shape row) handle =
     arguments calls (exprs_of row) >>= (λ args. object_of handle >>= (λ number. invoke calls method number args))
 
@@ -70,7 +73,9 @@ abbrev pub target_run : Calls → Target → List expr_code.Expr → Run Word
 target_run calls target es = arguments calls (exprs (map expr_of es)) >>= call_target calls target
 
 abbrev pub invocation_run : Calls → Word → Method → List expr_code.Expr → Run Word
-invocation_run calls handle method es = arguments calls (exprs (map expr_of es)) >>= (λ args. object_of handle >>= (λ number. invoke calls method number args))
+invocation_run calls handle method es =
+    arguments calls (exprs (map expr_of es)) >>= (λ args. object_of handle
+    >>= (λ number. invoke calls method number args))
 
 -- the head of a `for` and the loop inside it, which are a block
 abbrev pub for_run : Calls → ℕ → ℕ → Head → Loop → Run Flow

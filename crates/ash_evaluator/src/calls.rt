@@ -2,7 +2,8 @@
 
 ghost use Rattle.std.specs.Prelude.{◌≡◌};
 ghost use Rattle.ash_phrases.specs.Runs.{Done};
-ghost use Rattle.ash_phrases.specs.Calls.{call, construct, class_at, call_through, invoke, call_target, cast};
+ghost use Rattle.ash_phrases.specs.Calls.{call, construct, class_at, call_through};
+ghost use Rattle.ash_phrases.specs.Calls.{invoke, call_target, cast};
 ghost use Rattle.ash_plain_data.specs.ClassViews.{program_seen, callee_seen};
 ghost use Rattle.ash_plain_data.specs.Running.{RunsAs};
 ghost use Rattle.ash_plain.specs.Views.{activity_seen};

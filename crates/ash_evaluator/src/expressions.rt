@@ -9,7 +9,8 @@ ghost use Rattle.ash_plain_data.specs.Running.{RunsAs};
 ghost use Rattle.ash_plain.specs.Views.{activity_seen};
 ghost use Rattle.ash_plain.specs.LocationViews.{location_seen};
 ghost use Rattle.ash_evaluator.specs.Views.{calls_seen};
-ghost use Rattle.ash_evaluator.specs.Phrases.{operand_run, operands_run, link_run, links_run, lazies_run, path_run};
+ghost use Rattle.ash_evaluator.specs.Phrases.{operand_run, operands_run, link_run};
+ghost use Rattle.ash_evaluator.specs.Phrases.{links_run, lazies_run, path_run};
 ghost use Rattle.ash_evaluator.specs.Phrases.{chain_run, lazy_run, target_run, invocation_run};
 ghost use Rattle.ash_evaluator.specs.Bodies.{RunsBodies};
 

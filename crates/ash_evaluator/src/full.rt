@@ -3,7 +3,8 @@
 ghost use Rattle.std.specs.Prelude.{map, option_map};
 ghost use Rattle.ash_typed.specs.Views.{expr_of};
 ghost use Rattle.ash_typed.specs.BodyViews.{value_of, head_of};
-ghost use Rattle.ash_phrases.specs.Statements.{declare_one, declare_all, evaluate, evaluate_all, condition};
+ghost use Rattle.ash_phrases.specs.Statements.{declare_one, declare_all, evaluate};
+ghost use Rattle.ash_phrases.specs.Statements.{evaluate_all, condition};
 ghost use Rattle.ash_phrases.specs.Statements.{condition_or_true, begin, return_value};
 ghost use Rattle.ash_plain_data.specs.Running.{RunsAs};
 ghost use Rattle.ash_plain.specs.Views.{activity_seen};

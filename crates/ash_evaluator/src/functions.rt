@@ -4,7 +4,8 @@
 ghost use Rattle.std.specs.Prelude.{map};
 ghost use Rattle.ash_typed.specs.BodyViews.{value_of as variable_of};
 ghost use Rattle.ash_typed.specs.Modules.{variables_of};
-ghost use Rattle.ash_phrases.specs.Functions.{initialize_field, initialize_fields, initialize_global};
+ghost use Rattle.ash_phrases.specs.Functions.{initialize_field, initialize_fields};
+ghost use Rattle.ash_phrases.specs.Functions.{initialize_global};
 ghost use Rattle.ash_phrases.specs.Functions.{initialize_globals, initialize_module};
 ghost use Rattle.ash_phrases.specs.Laws.{initialized};
 ghost use Rattle.ash_plain_data.specs.ClassViews.{program_seen, callee_seen};

@@ -4,7 +4,8 @@ ghost use Rattle.std.specs.Prelude.{◌≡◌, map, option_map};
 ghost use Rattle.ash_registrations.specs.Registrations.{registration_of};
 ghost use Rattle.ash_typing.specs.Environment as environment;
 ghost use Rattle.ash_expressions.specs.Views.{function_signature_of, interface_signature_of};
-ghost use Rattle.ash_expressions.specs.Views.{class_signature_of, callee_of, parameters_of, method_callee_of};
+ghost use Rattle.ash_expressions.specs.Views.{class_signature_of, callee_of, parameters_of};
+ghost use Rattle.ash_expressions.specs.Views.{method_callee_of};
 
 use crate::lookup::first_function;
 use crate::parameters::Parameters;
@@ -118,7 +119,8 @@ pub(crate) fn interface_method_callee<'a>(
 
 /// A method of a registered type, as it is called.
 pub(crate) fn host_method_callee(call: &Registration) -> Option<MethodCallee<'_>>
-    ensures { option_map method_callee_of result ≡ environment.host_method (registration_of call.now) }
+    ensures { option_map method_callee_of result
+        ≡ environment.host_method (registration_of call.now) }
 {
     match call {
         Registration::Method { id, operation, .. } => {
@@ -138,7 +140,8 @@ pub(crate) fn host_method_callee(call: &Registration) -> Option<MethodCallee<'_>
 
 /// A function of a registered service, as it is called.
 pub(crate) fn service_callee(call: &Registration) -> Option<Callee<'_>>
-    ensures { option_map callee_of result ≡ environment.service_function (registration_of call.now) }
+    ensures { option_map callee_of result
+        ≡ environment.service_function (registration_of call.now) }
 {
     match call {
         Registration::Function {
@@ -163,7 +166,8 @@ pub(crate) fn service_callee(call: &Registration) -> Option<Callee<'_>>
 
 /// The parameters of a factory.
 pub(crate) fn factory_parameters(call: &Registration) -> Option<Parameters<'_>>
-    ensures { option_map parameters_of result ≡ environment.factory_parameters (registration_of call.now) }
+    ensures { option_map parameters_of result
+        ≡ environment.factory_parameters (registration_of call.now) }
 {
     match call {
         Registration::Factory { parameters, .. } => Some(Parameters::Host(parameters)),

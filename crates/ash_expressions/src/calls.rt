@@ -6,7 +6,8 @@ ghost use Rattle.ash_typing.specs.Environment as environment;
 ghost use Rattle.ash_typing.specs.Terms as terms;
 ghost use Rattle.ash_typing.specs.Expressions as typing;
 ghost use Rattle.ash_expressions.specs.Agreement.{Agrees};
-ghost use Rattle.ash_expressions.specs.Views.{typed_of, parameters_of, callee_of, environment_of, classes_of};
+ghost use Rattle.ash_expressions.specs.Views.{typed_of, parameters_of, callee_of};
+ghost use Rattle.ash_expressions.specs.Views.{environment_of, classes_of};
 ghost use Rattle.ash_expressions.specs.Views.{arguments_of, optional_method_callee};
 
 use crate::callees::{Callee, MethodCallee};

@@ -5,7 +5,8 @@ ghost use Rattle.std.specs.Option.{option_copied};
 ghost use Rattle.ash_registrations.specs.Registered.{registered};
 ghost use Rattle.ash_registrations.specs.Registrations.{registration_of};
 ghost use Rattle.ash_typing.specs.Environment as environment;
-ghost use Rattle.ash_expressions.specs.Views.{binding_of, interface_signature_of, class_signature_of};
+ghost use Rattle.ash_expressions.specs.Views.{binding_of, interface_signature_of};
+ghost use Rattle.ash_expressions.specs.Views.{class_signature_of};
 ghost use Rattle.ash_expressions.specs.Views.{environment_of, placed_class, known_of, callee_of};
 ghost use Rattle.ash_expressions.specs.Views.{parameters_of, method_callee_of};
 

@@ -7,7 +7,8 @@ ghost use Rattle.ash_typing.specs.TypingResult.{◌>>=◌ as ◌and_then◌};
 ghost use Rattle.ash_typing.specs.ModuleDeclarations.{object_named};
 ghost use Rattle.ash_typing.specs.Expressions as typing;
 ghost use Rattle.ash_expressions.specs.Agreement.{Agrees};
-ghost use Rattle.ash_expressions.specs.Views.{typed_of, all_typed_of, environment_of, classes_of, is_target};
+ghost use Rattle.ash_expressions.specs.Views.{typed_of, all_typed_of, environment_of};
+ghost use Rattle.ash_expressions.specs.Views.{classes_of, is_target};
 
 use crate::arrays::{array_callee, build_index, check_element_type};
 use crate::assignments::build_assignment;

@@ -53,7 +53,8 @@ pub struct Signatures<'a> {
     class_index: NameIndex<'a>,
     function_index: NameIndex<'a>,
     global_index: NameIndex<'a>,
-    ghost interfaces_indexed: { IsNameIndex interface_index (map (λ i. i.name.now) interfaces.items) },
+    ghost interfaces_indexed: { IsNameIndex interface_index
+        (map (λ i. i.name.now) interfaces.items) },
     ghost classes_indexed: { IsNameIndex class_index (map (λ c. c.name.now) classes.items) },
     ghost functions_indexed: { IsNameIndex function_index (map (λ f. f.name.now) functions.items) },
     ghost globals_indexed: { IsNameIndex global_index (map (λ v. v.name.now) globals.items) },
@@ -62,7 +63,8 @@ pub struct Signatures<'a> {
 impl<'a> Signatures<'a> {
     ghost use Rattle.std.specs.Prelude.{◌≡◌, option_map, IfOk};
     ghost use Rattle.ash_typing.specs.Environment as environment;
-    ghost use Rattle.ash_expressions.specs.Views.{binding_of, function_signature_of, interface_signature_of};
+    ghost use Rattle.ash_expressions.specs.Views.{binding_of, function_signature_of};
+    ghost use Rattle.ash_expressions.specs.Views.{interface_signature_of};
     ghost use Rattle.ash_expressions.specs.Views.{class_signature_of, placed_type, placed_function};
     ghost use Rattle.ash_expressions.specs.Views.{placed_interface, placed_class};
 

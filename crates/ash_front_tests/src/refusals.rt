@@ -1,8 +1,8 @@
 //! Registrations that are refused, each of which changes nothing.
 
 use crate::compare::expect_all;
-use crate::registrations::{Call, is_unchanged, program, register};
-use Call::{Factory, Function, Method, Property, Service, Type};
+use crate::registrations::{Registration, is_unchanged, program, register};
+use Registration::{Factory, Function, Method, Property, Service, Type};
 use RegistryFault::{
     BadDeclaration, FactoryTaken, NameTaken, NoService, NotPrimitive, ReservedName, UnknownType,
 };
@@ -10,12 +10,12 @@ use ash_registry::{Registry, RegistryFault};
 use std::alloc::Global;
 
 /// A registration, and why it is refused.
-type Row = (Call, RegistryFault);
+type Row = (Registration, RegistryFault);
 
 /// Whether a registration is refused for this, and changes nothing.
 fn is_refused(registry: &mut Registry, row: Row) -> Result<bool, RegistryFault> {
-    let (call, wanted) = row;
-    Ok(register(registry, call) == Err(wanted) && is_unchanged(registry)?)
+    let (registration, wanted) = row;
+    Ok(register(registry, registration) == Err(wanted) && is_unchanged(registry)?)
 }
 
 /// Makes each registration in turn up to the first that is not refused as it must be.

@@ -1,13 +1,13 @@
 //! The registrations of the program, what is looked up among them, and the faults of others.
 
 use crate::compare::expect;
-use Call::{Factory, Function, Method, Property, Service, Type};
+use Registration::{Factory, Function, Method, Property, Service, Type};
 use ash_registry::{Registry, RegistryFault};
 use std::alloc::{AllocError, Global};
 
 /// A registration.
 #[derive(Clone, Copy)]
-pub(crate) enum Call {
+pub(crate) enum Registration {
     /// A type's name and its kind.
     Type(&'static str, u16),
     /// A service's kind.
@@ -22,8 +22,11 @@ pub(crate) enum Call {
     Function(u16, &'static str, u16),
 }
 
-pub(crate) fn register(registry: &mut Registry, call: Call) -> Result<(), RegistryFault> {
-    match call {
+pub(crate) fn register(
+    registry: &mut Registry,
+    registration: Registration,
+) -> Result<(), RegistryFault> {
+    match registration {
         Type(name, kind) => registry.object_type(name, kind),
         Service(kind) => {
             registry.service(kind)?;
@@ -37,7 +40,7 @@ pub(crate) fn register(registry: &mut Registry, call: Call) -> Result<(), Regist
 }
 
 /// `Counter` and `Tally`, as the program registers them.
-static CALLS: [Call; 8] = [
+static REGISTRATIONS: [Registration; 8] = [
     Type("Counter", 1),
     Factory("Counter", "Counter@ f(int)"),
     Method("Counter", "int add(int)", 1),
@@ -48,9 +51,12 @@ static CALLS: [Call; 8] = [
     Function(0, "int total()", 2),
 ];
 
-fn register_each(registry: &mut Registry, calls: &[Call]) -> Result<(), RegistryFault> {
-    for call in calls {
-        register(registry, *call)?;
+fn register_each(
+    registry: &mut Registry,
+    registrations: &[Registration],
+) -> Result<(), RegistryFault> {
+    for registration in registrations {
+        register(registry, *registration)?;
     }
     Ok(())
 }
@@ -58,7 +64,7 @@ fn register_each(registry: &mut Registry, calls: &[Call]) -> Result<(), Registry
 /// These registrations.
 pub(crate) fn program(alloc: Global) -> Result<Registry, RegistryFault> {
     let mut registry = Registry::new(alloc);
-    register_each(&mut registry, &CALLS)?;
+    register_each(&mut registry, &REGISTRATIONS)?;
     Ok(registry)
 }
 
@@ -123,7 +129,7 @@ fn the_program_registers(rt: HostRuntime) {
 }
 
 /// A method and a property.
-static ADDED: [Call; 2] = [
+static ADDED: [Registration; 2] = [
     Method("Counter", "uint32 sum(int32 a, bool b, uint64)", 3),
     Property("Counter", " int64 /* the */ total ", 3),
 ];

@@ -6,9 +6,9 @@ use crate::tokens::push_times;
 use ash_registry::{Registry, RegistryFault};
 use std::alloc::{AllocError, Global};
 
-/// What a registry has a limited number of.
+/// A limit, by what it counts.
 #[derive(Clone, Copy)]
-enum Sort {
+enum Limit {
     Services,
     Types,
     Members,
@@ -42,41 +42,46 @@ fn add_function(alloc: Global, registry: &mut Registry, id: u16) -> Result<(), R
     registry.function(0, decl.as_str(), id)
 }
 
-/// Registers the one of a sort with this number.
-fn add(alloc: Global, registry: &mut Registry, sort: Sort, id: u16) -> Result<(), RegistryFault> {
-    match sort {
-        Sort::Services => add_service(registry, id),
-        Sort::Types => add_type(alloc, registry, id),
-        Sort::Members => add_method(alloc, registry, id),
-        Sort::Functions => add_function(alloc, registry, id),
+/// Registers the item of this number of those that a limit counts.
+fn add(alloc: Global, registry: &mut Registry, limit: Limit, id: u16) -> Result<(), RegistryFault> {
+    match limit {
+        Limit::Services => add_service(registry, id),
+        Limit::Types => add_type(alloc, registry, id),
+        Limit::Members => add_method(alloc, registry, id),
+        Limit::Functions => add_function(alloc, registry, id),
     }
 }
 
-/// Registers those of a sort with the numbers from 3 to the one before this.
-fn fill(alloc: Global, registry: &mut Registry, sort: Sort, end: u16) -> Result<(), RegistryFault> {
+/// Registers those that a limit counts, with the numbers from 3 to the one before this.
+fn fill(
+    alloc: Global,
+    registry: &mut Registry,
+    limit: Limit,
+    end: u16,
+) -> Result<(), RegistryFault> {
     for id in 3..end {
-        add(alloc, registry, sort, id)?;
+        add(alloc, registry, limit, id)?;
     }
     Ok(())
 }
 
-/// Whether there may be those of a sort with the numbers below this one, and the next is one too many and changes
-/// nothing.
+/// Whether there may be those that a limit counts with the numbers below this one, and the next is one too many and
+/// changes nothing.
 fn is_limit(
     alloc: Global,
     registry: &mut Registry,
-    sort: Sort,
+    limit: Limit,
     end: u16,
 ) -> Result<bool, RegistryFault> {
-    fill(alloc, registry, sort, end)?;
+    fill(alloc, registry, limit, end)?;
     let before = registry.text().to_string(alloc)?;
-    let answer = add(alloc, registry, sort, end);
+    let answer = add(alloc, registry, limit, end);
     Ok(answer == Err(RegistryFault::TooMany) && registry.text() == before.as_str())
 }
 
 fn is_limit_of_services(alloc: Global) -> Result<bool, RegistryFault> {
     let mut registry = program(alloc)?;
-    let is_limit = is_limit(alloc, &mut registry, Sort::Services, 18)?;
+    let is_limit = is_limit(alloc, &mut registry, Limit::Services, 18)?;
     let kinds = registry.service_kinds()?.len();
     Ok(is_limit && kinds == 16)
 }
@@ -93,7 +98,7 @@ fn has_names(registry: &Registry, last: &str, none: &str) -> bool {
 
 fn is_limit_of_types(alloc: Global) -> Result<bool, RegistryFault> {
     let mut registry = program(alloc)?;
-    let is_limit = is_limit(alloc, &mut registry, Sort::Types, 258)?;
+    let is_limit = is_limit(alloc, &mut registry, Limit::Types, 258)?;
     Ok(is_limit && has_names(&registry, "T257", "T258"))
 }
 
@@ -111,7 +116,7 @@ fn refuses_property(alloc: Global, registry: &mut Registry) -> Result<bool, Regi
 
 fn is_limit_of_members(alloc: Global) -> Result<bool, RegistryFault> {
     let mut registry = program(alloc)?;
-    let is_limit = is_limit(alloc, &mut registry, Sort::Members, 32)?;
+    let is_limit = is_limit(alloc, &mut registry, Limit::Members, 32)?;
     let is_full = refuses_property(alloc, &mut registry)?;
     let is_last = registry.member("Counter", "m31").is_some();
     Ok(is_limit && is_full && is_last && registry.member("Counter", "m32").is_none())
@@ -124,7 +129,7 @@ fn one_member_too_many(rt: HostRuntime) {
 
 fn is_limit_of_functions(alloc: Global) -> Result<bool, RegistryFault> {
     let mut registry = program(alloc)?;
-    let is_limit = is_limit(alloc, &mut registry, Sort::Functions, 257)?;
+    let is_limit = is_limit(alloc, &mut registry, Limit::Functions, 257)?;
     Ok(is_limit && has_names(&registry, "f256", "f257"))
 }
 

@@ -1,4 +1,4 @@
--- The code by which the want of memory is reported.
+-- The code by which refused memory is reported.
 use Rattle.std.specs.Prelude.{ℕ, List, codes}
 use Rattle.ash_host.specs.declared.fault.NoMemory.{NoMemory}
 

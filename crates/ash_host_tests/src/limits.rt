@@ -5,7 +5,7 @@ use crate::steps::{Memory, Sequence, Step, first_unmet};
 use ash_host::Event;
 use ash_objects::{MAX_OBJECTS, MakeFault};
 
-static MOST: Sequence<'static> = Sequence {
+static FULL_TABLE: Sequence<'static> = Sequence {
     pool: &[11],
     steps: &[
         Step::MakeEach(MAX_OBJECTS),
@@ -21,5 +21,5 @@ static MOST: Sequence<'static> = Sequence {
 
 #[test]
 fn as_many_objects_as_may_live(rt: HostRuntime) {
-    expect_all(&rt, first_unmet(rt.alloc(), &MOST, Memory::Ample));
+    expect_all(&rt, first_unmet(rt.alloc(), &FULL_TABLE, Memory::Ample));
 }

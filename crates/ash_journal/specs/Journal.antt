@@ -94,7 +94,8 @@ pub record Holds {D : Type 0} (device : Device D) (j : Journal D) (image : List 
     (bodies : List (List ℕ)) : Type 0 where
   pub files : Finds device j image bodies
   pub repaired : IsRepaired j
-  pub run : HoldsSince device (device.clock (first_disk j)) (device.clock (second_disk j)) (first_disk j) (second_disk j)
+  pub run : HoldsSince device (device.clock (first_disk j)) (device.clock (second_disk j)) (first_disk j)
+      (second_disk j)
       (IsContents (image, bodies))
 
 -- The disk that holds the current file stays as it was.

@@ -101,4 +101,5 @@ IsCutAt at file =
     ((generation : ℕ) × (rest : List ℕ) × (file ≡ 1 ∷ (mark generation ++ rest)) × IsCut rest × (at ≡ 0))
     ⊎ ((generation : ℕ) × (image : List ℕ) × (bodies : List (List ℕ)) × (rest : List ℕ)
     × FieldsFit generation image bodies
-    × (file ≡ committed_bytes generation image bodies ++ 1 ∷ rest) × IsCut rest × (at ≡ length (committed_bytes generation image bodies)))
+    × (file ≡ committed_bytes generation image bodies ++ 1 ∷ rest) × IsCut rest
+    × (at ≡ length (committed_bytes generation image bodies)))

@@ -65,4 +65,5 @@ CreateFaultIs reasons.NoMemory first second unchanged = (IsClosed first × IsClo
 
 -- No file is open, or the two settle on this image with no records.
 abbrev pub IsCreatedOrClosed : List ℕ → List ℕ → List ℕ → Type 0
-IsCreatedOrClosed image first second = (IsClosed first × IsClosed second) ⊎ SettleOn (IsContents (image, [])) first second
+IsCreatedOrClosed image first second =
+    (IsClosed first × IsClosed second) ⊎ SettleOn (IsContents (image, [])) first second

@@ -5,7 +5,8 @@ use Rattle.ash_journal.specs.Current.{Contents, SettleOn, SettleFurther}
 
 -- At every pair of moments, one of the first disk from time a on and one of the second from time b on, up to now, the
 -- images that a crash may have left settle on contents of which P holds.
-pub record HoldsSince {D : Type 0} (device : Device D) (a b : ℕ) (first second : D) (P : Contents → Type 0) : Type 0 where
+pub record HoldsSince {D : Type 0} (device : Device D) (a b : ℕ) (first second : D) (P : Contents → Type 0)
+    : Type 0 where
   pub first_began : a ≤ device.clock first
   pub second_began : b ≤ device.clock second
   pub moments : EveryMomentSince device a b first second (SettleOn P)

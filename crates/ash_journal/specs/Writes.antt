@@ -56,10 +56,11 @@ IsUnused file = (length file ≤ 1) ⊎ IsShut file
 
 -- All images that a crash may leave have at most one byte, or all have 0 for their first gate.
 abbrev pub AreUnused : (List ℕ → Type 0) → Type 0
-AreUnused images = ((image : List ℕ) → images image → length image ≤ 1) ⊎ ((image : List ℕ) → images image → IsShut image)
+AreUnused images = ((image : List ℕ) → images image → length image ≤ 1)
+    ⊎ ((image : List ℕ) → images image → IsShut image)
 
--- The disk has been unused since an earlier time: at each moment of it, up to now, all images that a crash might have left
--- have at most one byte, or all have 0 for their first gate.
+-- The disk has been unused since an earlier time: at each moment of it, up to now, all images that a crash might have
+-- left have at most one byte, or all have 0 for their first gate.
 pub record WasUnused {D : Type 0} (device : Device D) (since : ℕ) (disk : D) : Type 0 where
   pub began : since ≤ device.clock disk
   pub idle : (time : ℕ) → since ≤ time → time ≤ device.clock disk → AreUnused (device.leaves disk time)

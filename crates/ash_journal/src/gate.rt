@@ -7,7 +7,8 @@ ghost use Rattle.ash_disk.specs.Failures.{CountsFailure};
 ghost use Rattle.ash_disk.specs.Device.{IsDurable, HoldsThroughout};
 ghost use Rattle.ash_journal.specs.Layout.{IsShut};
 ghost use Rattle.ash_journal.specs.OtherState.{is_older};
-ghost use Rattle.ash_journal.specs.Writes.{IsSplit, IsOn, WritesByte, WhileShut, WhileCommitted, WhileRepaired};
+ghost use Rattle.ash_journal.specs.Writes.{IsSplit, IsOn, WritesByte, WhileShut};
+ghost use Rattle.ash_journal.specs.Writes.{WhileCommitted, WhileRepaired};
 ghost use Rattle.ash_journal.specs.Writes.{WhileReplaced, repaired};
 
 use crate::other_state::OtherState;
@@ -80,7 +81,7 @@ pub(crate) fn repair<D: Disk>(disk: &mut D, gate: Gate) -> Result<(), DeviceFail
     Ok(())
 }
 
-/// Puts bytes in place of what a file in this state holds: shuts its first gate, where it is an older generation, and
+/// Writes bytes in place of what a file in this state holds: shuts its first gate, where it is an older generation, and
 /// commits them after it.
 pub(crate) fn replace<D: Disk>(
     disk: &mut D,

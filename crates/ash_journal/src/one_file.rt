@@ -4,9 +4,11 @@ ghost use Rattle.std.specs.Prelude.{[], ℕ, List, length, take, drop};
 ghost use Rattle.std.specs.Prelude.{IsTrue, IfOk, IfSome, IsErr, IsErrOf, MatchOption, MatchResult};
 ghost use Rattle.ash_disk.specs.Device.{IsOnlyRead};
 ghost use Rattle.ash_disk.specs.Image.{bytes_at};
-ghost use Rattle.ash_journal.specs.Layout.{four_bytes, mark, mark_size, prefix_size, header_size, committed_bytes};
+ghost use Rattle.ash_journal.specs.Layout.{four_bytes, mark, mark_size, prefix_size};
+ghost use Rattle.ash_journal.specs.Layout.{header_size, committed_bytes};
 ghost use Rattle.ash_journal.specs.Layout.{IsShut, FieldsFit, IsCut, HasMark};
-ghost use Rattle.ash_journal.specs.Reading.{HeaderIs, IsFailure, IsCutFault, Counts, IsBlock, IsRead};
+ghost use Rattle.ash_journal.specs.Reading.{HeaderIs, IsFailure, IsCutFault};
+ghost use Rattle.ash_journal.specs.Reading.{Counts, IsBlock, IsRead};
 
 use crate::bytes::{HEADER_SIZE, MAGIC, MARK_SIZE, PREFIX_SIZE};
 use crate::error::OpenFault;

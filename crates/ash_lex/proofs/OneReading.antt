@@ -144,7 +144,7 @@ open_takes_all left piece rest h e long =
     )) in
     e ∙ ap (λ l. piece ++ l) none ∙ append-nil piece
 
--- where a fault stands, no gap and no token begins
+-- where a fault is, no gap and no token begins
 stuck_at_fault : (place : ℕ) (left : List ℕ) (f : LexFault) → FaultAt place left f → Stuck left
 stuck_at_fault place left (BadCharacter at) h piece rest e long =
     (λ _. h.2 piece rest e long.is_piece, λ _ _. h.2 piece rest e long.is_piece)
@@ -166,7 +166,7 @@ open_is_no_numeral : (left piece rest : List ℕ) (n : ℕ) → IsOpenComment le
 open_is_no_numeral left piece rest n h e is long =
     omega (arith, open_class left h, numeral_class piece n is, ap piece_class (open_takes_all left piece rest h e long))
 
--- one fault stands at a place
+-- one fault is at a place
 one_fault_there : (place : ℕ) (left : List ℕ) (f g : LexFault) → FaultAt place left f → FaultAt place left g → f ≡ g
 one_fault_there place left (BadCharacter at) (BadCharacter at') h k = ap BadCharacter (h.0 ∙ sym k.0)
 one_fault_there place left (UnclosedComment at) (UnclosedComment at') h k = ap UnclosedComment (h.0 ∙ sym k.0)
@@ -188,7 +188,7 @@ one_fault_there place left NoMemory g h k = absurd h
 one_fault_there place left f SourceTooLong h k = absurd k
 one_fault_there place left f NoMemory h k = absurd k
 
--- no fault stands at the end of a text
+-- no fault is at the end of a text
 no_fault_at_end : (place : ℕ) (f : LexFault) → FaultAt place [] f → ⊥
 no_fault_at_end place (BadCharacter at) h = omega (arith, h.1)
 no_fault_at_end place (UnclosedComment at) h = omega (arith, ap length h.1.1)

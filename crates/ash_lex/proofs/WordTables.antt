@@ -1,4 +1,4 @@
--- Each word stands in its table: the look-up finds it by its characters.
+-- Each word is in its table: the look-up finds it by its characters.
 use Rattle.std.proofs.Common.{◌≡◌, ℕ, ◌<◌, List, [], ◌∷◌, length, Some, get_or, refl, arith, find}
 use Rattle.std.specs.Str.{bytes_eq}
 use Rattle.ash_lex.specs.Words.{reserved_text, unsupported_text}

@@ -5,7 +5,8 @@ use Rattle.ash_lex.specs.Signs.{sign_text}
 use Rattle.ash_lex.specs.Pieces.{IsGap, IsName, IsNumeral, IsOpenComment, IsLongest}
 use Rattle.ash_lex.specs.Tokens.{Means, meaning_of, FaultAt, FirstFault}
 use Rattle.ash_lex.specs.declared.pieces.Piece.{Piece}
-use Rattle.ash_lex.specs.declared.pieces.Piece.TheVariants.{Gap as GapPiece, UnclosedComment, Name as NamePiece, Decimal}
+use Rattle.ash_lex.specs.declared.pieces.Piece.TheVariants.{Gap as GapPiece, UnclosedComment}
+use Rattle.ash_lex.specs.declared.pieces.Piece.TheVariants.{Name as NamePiece, Decimal}
 use Rattle.ash_lex.specs.declared.pieces.Piece.TheVariants.{Hexadecimal, Sign as SignPiece}
 use Rattle.ash_lex.specs.declared.lexer.ScannedPiece.{ScannedPiece}
 use Rattle.ash_lex.specs.declared.lexer.ScannedPiece.TheVariants.{Gap, Token}

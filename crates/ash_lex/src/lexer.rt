@@ -7,7 +7,8 @@ ghost use Rattle.ash_lex.specs.declared.faults.LexFault.{LexFault};
 ghost use Rattle.ash_lex.specs.declared.faults.LexFault.TheVariants.{NoMemory, NumberTooLarge};
 ghost use Rattle.ash_lex.specs.Pieces.{IsName};
 ghost use Rattle.ash_lex.specs.Bytes as spec;
-ghost use Rattle.ash_lex.specs.Tokens.{Means, meaning_of, number, Lexeme, lexemes, Reads, Spells, Rises};
+ghost use Rattle.ash_lex.specs.Tokens.{Means, meaning_of, number, Lexeme};
+ghost use Rattle.ash_lex.specs.Tokens.{lexemes, Reads, Spells, Rises};
 ghost use Rattle.ash_lex.specs.Tokens.{FirstFault, IsRefusal};
 ghost use Rattle.ash_lex.specs.ScannedPieces.{IsScanned, IsPieceFault, IsTextFault};
 

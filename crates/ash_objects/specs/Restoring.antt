@@ -135,7 +135,8 @@ module _ {B : Type 0} where
     pub refused : G.refuses service bytes
 
   -- The box that the object of a number took refused the object's state, and those before it took theirs.
-  pub record BoxRefused (G : Ghosts B) (objects : List StoredObject) (boxes : List (Option B)) (number : ℕ) : Type 0 where
+  pub record BoxRefused (G : Ghosts B) (objects : List StoredObject) (boxes : List (Option B)) (number : ℕ)
+      : Type 0 where
     pub place : ℕ
     pub object : StoredObject
     pub box : B

@@ -1,11 +1,13 @@
 //! Calls of arrays.
 ghost use Rattle.std.specs.Prelude.{◌≡◌, ◌<◌, ◌≤◌, ◌-◌, ◌++◌, ◌∷◌, ◌↔◌, ℕ, []};
-ghost use Rattle.std.specs.Prelude.{take, length, slice_get, Some, IsSome, IfSome, OnOk, OnErr, IsErrOf};
+ghost use Rattle.std.specs.Prelude.{take, length, slice_get, Some, IsSome};
+ghost use Rattle.std.specs.Prelude.{IfSome, OnOk, OnErr, IsErrOf};
 ghost use Rattle.ash_objects.specs.declared.arrays.LengthFault.{LengthFault};
 ghost use Rattle.ash_host.specs.Objects.{IsInOrder};
 ghost use Rattle.ash_objects.specs.Table.{slot_of, IsAlive, with_object, with_field};
 ghost use Rattle.ash_host.specs.Limits.{max_elements};
-ghost use Rattle.ash_objects.specs.Arrays.{elements_at, array_at, HasElementsIn, IsArrayIn, with_elements};
+ghost use Rattle.ash_objects.specs.Arrays.{elements_at, array_at, HasElementsIn};
+ghost use Rattle.ash_objects.specs.Arrays.{IsArrayIn, with_elements};
 ghost use Rattle.ash_slots.specs.Arrays.{lengthened};
 
 use crate::counting::release_words;

@@ -1,11 +1,13 @@
 //! The marks of objects that were made, changed or taken away.
 ghost use Rattle.std.specs.Prelude.{◌≡◌, ◌≤◌, ◌+◌, ℕ, true, false, List, [], length};
-ghost use Rattle.std.specs.Prelude.{IfSome, IfNone, IsSomeAnd, IfOk, OnOk, OnErr, sum_by, vec_len, vec_capacity};
+ghost use Rattle.std.specs.Prelude.{IfSome, IfNone, IsSomeAnd, IfOk, OnOk};
+ghost use Rattle.std.specs.Prelude.{OnErr, sum_by, vec_len, vec_capacity};
 ghost use Rattle.std.specs.List.Sorted.{IsStrictlyIncreasing};
 ghost use Rattle.ash_host.specs.Objects.{object_at, IsInOrder};
 ghost use Rattle.ash_slots.specs.Store.{change_at};
 ghost use Rattle.ash_objects.specs.Listing.{AreListed};
-ghost use Rattle.ash_objects.specs.Marking.{marked_of, marked_in, unmarked, unmark_all, without_marks};
+ghost use Rattle.ash_objects.specs.Marking.{marked_of, marked_in, unmarked};
+ghost use Rattle.ash_objects.specs.Marking.{unmark_all, without_marks};
 
 use crate::marked_slots::MarkedSlots;
 use crate::objects::Objects;

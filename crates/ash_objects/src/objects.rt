@@ -3,7 +3,8 @@ ghost use Rattle.std.specs.Prelude.{◌≡◌, ◌<◌, ◌≤◌, ◌+◌, ◌^
 ghost use Rattle.std.specs.Option.{option_copied};
 ghost use Rattle.ash_host.specs.Objects.{Lives};
 ghost use Rattle.ash_objects.specs.Table.{slot_of, body_of, count_of, holds_of, field_of, IsInUse};
-ghost use Rattle.ash_objects.specs.Table.{HasFieldIn, IsAlive, held, unheld, with_object, with_field};
+ghost use Rattle.ash_objects.specs.Table.{HasFieldIn, IsAlive, held, unheld};
+ghost use Rattle.ash_objects.specs.Table.{with_object, with_field};
 
 use crate::marked_slots::MarkedSlots;
 use ash_host::{HostObject, Word};

@@ -1,6 +1,7 @@
 //! A table from what a state holds.
 ghost use Rattle.std.specs.Prelude.{◌≡◌, ◌≤◌, ℕ, List, Option, Some, [], All};
-ghost use Rattle.std.specs.Prelude.{length, slice_get, IsSome, IfSome, IfOk, OnOk, IsErrOf, vec_len};
+ghost use Rattle.std.specs.Prelude.{length, slice_get, IsSome, IfSome};
+ghost use Rattle.std.specs.Prelude.{IfOk, OnOk, IsErrOf, vec_len};
 ghost use Rattle.ash_host.specs.Objects.{object_at, numbers, Lives, IsInOrder, AreNumbered, handle};
 ghost use Rattle.ash_slots.specs.Bodies.{words_of};
 ghost use Rattle.ash_slots.specs.Counting.{counted};
@@ -13,7 +14,8 @@ ghost use Rattle.ash_objects.specs.Restoring.{stored_in, states_in, kind_wanted,
 ghost use Rattle.ash_objects.specs.Restoring.{Enough, Short, draw_then, draw_boxes, with_box_first};
 ghost use Rattle.ash_objects.specs.Restoring.{RestoresState, RestoresBox, RestoresServices};
 ghost use Rattle.ash_objects.specs.Restoring.{RestoresBoxes, ServiceRefused};
-ghost use Rattle.ash_objects.specs.Restoring.{BoxRefused, IsRefused, IsRestored, with_drawn, AreFit};
+ghost use Rattle.ash_objects.specs.Restoring.{BoxRefused, IsRefused, IsRestored};
+ghost use Rattle.ash_objects.specs.Restoring.{with_drawn, AreFit};
 ghost use Rattle.ash_objects.specs.Restoring.{AreInserted, refer_objects};
 
 use crate::counting::refer_words;

@@ -1,14 +1,17 @@
 //! The sweep: what no hold and no object that stays leads to goes.
 ghost use Rattle.std.specs.Prelude.{◌≡◌, ◌<◌, ◌≤◌, ◌+◌, ◌++◌, ℕ, Bool, List, []};
-ghost use Rattle.std.specs.Prelude.{length, map, nat_eq, IsSomeAnd, OnOk, OnErr, vec_len, vec_capacity};
+ghost use Rattle.std.specs.Prelude.{length, map, nat_eq, IsSomeAnd, OnOk};
+ghost use Rattle.std.specs.Prelude.{OnErr, vec_len, vec_capacity};
 ghost use Rattle.std.specs.Map.{remove_entry};
 ghost use Rattle.ash_host.specs.Objects.{object_at, IsInOrder};
 ghost use Rattle.ash_slots.specs.Bodies.{words_of};
 ghost use Rattle.ash_slots.specs.Store.{IsIn, IsIdle, AreStored, NoneWaits};
 ghost use Rattle.ash_objects.specs.Counting.{fields_in, release_all, AreCounted};
 ghost use Rattle.ash_slots.specs.Counting.{counted};
-ghost use Rattle.ash_objects.specs.Collecting.{HaveGone, AreInOrder, entry_mark, marked_since, marked_drops};
-ghost use Rattle.ash_objects.specs.Sweeping.{Collects, RanksFall, LeavesReachable, gone_from, drops};
+ghost use Rattle.ash_objects.specs.Collecting.{HaveGone, AreInOrder, entry_mark};
+ghost use Rattle.ash_objects.specs.Collecting.{marked_since, marked_drops};
+ghost use Rattle.ash_objects.specs.Sweeping.{Collects, RanksFall, LeavesReachable};
+ghost use Rattle.ash_objects.specs.Sweeping.{gone_from, drops};
 
 use crate::counting::release_words;
 use crate::objects::Objects;

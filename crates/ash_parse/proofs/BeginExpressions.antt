@@ -10,7 +10,7 @@ use Rattle.ash_tree.specs.declared.tree.operators.BinaryOp.{BinaryOp}
 use Rattle.ash_tree.specs.declared.tree.operators.AssignOp.{AssignOp}
 use Rattle.ash_tree.specs.Tree.{HandleElement, Expr, Number, Truth, Null, This, Name, Call, Brackets, Convert, NewArray, Cast, Unary, Conditional, Assign, TypeName, Field, Method, Index, Increment, Decrement, place_of, exprs, chained, suffixed}
 use Rattle.ash_tree.specs.Tokens.{Tokens}
-use Rattle.ash_tree.specs.Operators.{primitive, unary_operator, binary_operator, LEVELS, assign_operator}
+use Rattle.ash_tree.specs.Operators.{primitive, unary_operator, binary_operator, max_level, assign_operator}
 use Rattle.ash_tree.specs.Types.{IsElement, handle_element}
 use Rattle.ash_tree.specs.Expressions.{IsInner, inner, AreExprs, no_exprs, some_exprs, AreMoreExprs, no_more_exprs, more_exprs, IsArgs, args, IsAssign, no_assign, assign, no_branch, branches, IsBinary, operand, joined, AreLinks, no_links, more_links, IsUnary, applied, postfix, AreSuffixes, no_suffixes, more_suffixes, IsSuffix, field, method, index, increment, decrement, IsPrimary, numeral, yes, no, null, this, named, call, brackets, convert, new_array, cast}
 use Rattle.ash_parse.specs.Signs.{is_sign, same_sign}
@@ -30,7 +30,7 @@ up zero u = operand u
 up (suc n) u = joined (up n u) no_links
 
 pub alone : {free depth : ℕ} {from left : Tokens} {e : Expr} → IsUnary free depth from e left → IsAssign free depth from e left
-alone u = no_assign (no_branch (up LEVELS u))
+alone u = no_assign (no_branch (up max_level u))
 
 pub inner_alone : {free depth : ℕ} {from left : Tokens} {e : Expr} → length from ≤ free → IsUnary free (suc depth) from e left → IsInner free depth from e left
 inner_alone big u = inner (λ deep. absurd (omega arith)) (alone u)
@@ -328,7 +328,7 @@ module _ (depth : ℕ) (below : Below) (whole : (ts : Tokens) → Law (below tru
   begin_binary zero ts = law_as (λ free. IsUnary free depth) _ (λ free from x left d. operand d) (unary_with below ts) ts (begin_unary ts)
   begin_binary (suc n) ts = begin_chain n (binary_with below n) (begin_binary n) ts
 
-  begin_branches : (p : Place) (c : Expr) (ts : Tokens) → Law (branches_with below c ts) ts (After (sign signs.Question, p) (Then (λ free. IsBinary free depth LEVELS) (λ free. IsAssign free depth) c))
+  begin_branches : (p : Place) (c : Expr) (ts : Tokens) → Law (branches_with below c ts) ts (After (sign signs.Question, p) (Then (λ free. IsBinary free depth max_level) (λ free. IsAssign free depth) c))
   unfolding branches_with
   begin_branches p c ts =
       then (λ free. IsInner free depth) _ (below true ts) _ ts (whole ts)
@@ -336,25 +336,25 @@ module _ (depth : ℕ) (below : Below) (whole : (ts : Tokens) → Law (below tru
       (λ q s. then (λ free. IsInner free depth) _ (below true s) _ s (whole s)
       (λ b t. done _ (Conditional (place_of c) c a b) t (λ free left second j first i before d. no_assign (branches d i j)))))
 
-  begin_assign_by : (o : Option AssignOp) (m : Meaning) (p : Place) (e : Expr) (ts : Tokens) → assign_operator m ≡ o → Law (assign_by below e o m p ts) ((m, p) ∷ ts) (Then (λ free. IsBinary free depth LEVELS) (λ free. IsAssign free depth) e)
+  begin_assign_by : (o : Option AssignOp) (m : Meaning) (p : Place) (e : Expr) (ts : Tokens) → assign_operator m ≡ o → Law (assign_by below e o m p ts) ((m, p) ∷ ts) (Then (λ free. IsBinary free depth max_level) (λ free. IsAssign free depth) e)
   begin_assign_by None m p e ts g = done _ e ((m, p) ∷ ts) (λ free left before d. no_assign (no_branch d))
   begin_assign_by (Some o) m p e ts g =
       after _ (m, p) _ ts (then (λ free. IsInner free depth) _ (below true ts) _ ts (whole ts)
       (λ v r. done _ (Assign (place_of e) e o v) r (λ free left second i before d. assign d g i)))
 
-  begin_assign_from : (e : Expr) (ts : Tokens) → Law (assign_from below e ts) ts (Then (λ free. IsBinary free depth LEVELS) (λ free. IsAssign free depth) e)
+  begin_assign_from : (e : Expr) (ts : Tokens) → Law (assign_from below e ts) ts (Then (λ free. IsBinary free depth max_level) (λ free. IsAssign free depth) e)
   unfolding assign_from
   begin_assign_from e [] = done _ e [] (λ free left before d. no_assign (no_branch d))
   begin_assign_from e ((m, p) ∷ ts) = record {
-    explained = explain_either (is_sign signs.Question m) (branches_with below e ts) (assign_by below e (assign_operator m) m p ts) ((m, p) ∷ ts) (Then (λ free. IsBinary free depth LEVELS) (λ free. IsAssign free depth) e)
-        (λ b. subst (λ w. Explained (branches_with below e ts) ((w, p) ∷ ts) (Then (λ free. IsBinary free depth LEVELS) (λ free. IsAssign free depth) e)) (sym (sign_is signs.Question m b)) (after _ (sign signs.Question, p) _ ts (begin_branches p e ts)).explained)
+    explained = explain_either (is_sign signs.Question m) (branches_with below e ts) (assign_by below e (assign_operator m) m p ts) ((m, p) ∷ ts) (Then (λ free. IsBinary free depth max_level) (λ free. IsAssign free depth) e)
+        (λ b. subst (λ w. Explained (branches_with below e ts) ((w, p) ∷ ts) (Then (λ free. IsBinary free depth max_level) (λ free. IsAssign free depth) e)) (sym (sign_is signs.Question m b)) (after _ (sign signs.Question, p) _ ts (begin_branches p e ts)).explained)
         (λ b. (begin_assign_by (assign_operator m) m p e ts refl).explained);
     filled = fill_here _ e (λ free left before d. no_assign (no_branch d));
   }
 
   pub begin_assign : (ts : Tokens) → Law (assign_with below ts) ts (λ free. IsAssign free depth)
   unfolding assign_with
-  begin_assign ts = then (λ free. IsBinary free depth LEVELS) _ (binary_with below LEVELS ts) _ ts (begin_binary LEVELS ts) (λ e r. begin_assign_from e r)
+  begin_assign ts = then (λ free. IsBinary free depth max_level) _ (binary_with below max_level ts) _ ts (begin_binary max_level ts) (λ e r. begin_assign_from e r)
 
 mutual
   unfolding below_at

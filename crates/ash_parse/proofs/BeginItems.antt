@@ -8,7 +8,7 @@ use Rattle.ash_lex.specs.declared.words.ReservedWord.TheVariants as words
 use Rattle.ash_tree.specs.declared.tree.places.Place.{Place}
 use Rattle.ash_tree.specs.Tree.{Parameter, AMethod, AField, AConstructor, Item, AClass, AnInterface, AFunction, AGlobal}
 use Rattle.ash_tree.specs.Tokens.{Tokens}
-use Rattle.ash_tree.specs.Expressions.{DEPTH}
+use Rattle.ash_tree.specs.Expressions.{max_depth}
 use Rattle.ash_tree.specs.Types.{IsType}
 use Rattle.ash_tree.specs.Statements.{IsVars, IsBlock}
 use Rattle.ash_tree.specs.Grammar.{IsResultType, void, typed, IsParameter, parameter, AreMoreParameters, no_more_parameters, more_parameters, AreParameters, no_parameters, parameters, IsFunction, function, IsMember, method, fields, constructor, AreMembers, no_members, more_members, IsClass, class, IsItem, a_class, a_function, globals, Derives, no_items, semicolon, item, AreMoreInterfaces, no_more_interfaces, more_interfaces, AreInterfaces, no_interfaces, interfaces, IsInterfaceMethod, interface_method, AreInterfaceMethods, no_interface_methods, more_interface_methods, IsInterface, interface, an_interface}
@@ -83,7 +83,7 @@ begin_parameters ts =
 
 begin_body : (ts : Tokens) → Law (body_at ts) ts (λ free. IsBlock free 0)
 unfolding body_at
-begin_body ts = begin_block 0 (below_at DEPTH) (nested_at DEPTH) (begin_whole DEPTH 0 refl) (begin_part DEPTH 0 refl) (begin_nested DEPTH 0 refl) (λ s x rest h. (nested_sound DEPTH 0 refl s x rest h).1) ts
+begin_body ts = begin_block 0 (below_at max_depth) (nested_at max_depth) (begin_whole max_depth 0 refl) (begin_part max_depth 0 refl) (begin_nested max_depth 0 refl) (λ s x rest h. (nested_sound max_depth 0 refl s x rest h).1) ts
 
 begin_function : (ts : Tokens) → Law (function_at ts) ts IsFunction
 unfolding function_at
@@ -96,7 +96,7 @@ begin_function ts =
 
 begin_globals : (ts : Tokens) → Law (globals_at ts) ts (Ending signs.Semicolon (λ free. IsVars free 0))
 unfolding globals_at
-begin_globals ts = begin_declared 0 (below_at DEPTH) (begin_whole DEPTH 0 refl) (begin_part DEPTH 0 refl) ts
+begin_globals ts = begin_declared 0 (below_at max_depth) (begin_whole max_depth 0 refl) (begin_part max_depth 0 refl) ts
 
 begin_constructor : (ts : Tokens) → Law (constructor_at ts) ts (λ free from x left. IsMember free from (AConstructor x) left)
 unfolding constructor_at

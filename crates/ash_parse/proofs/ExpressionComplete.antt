@@ -11,9 +11,9 @@ use Rattle.ash_tree.specs.declared.tree.operators.BinaryOp.{BinaryOp}
 use Rattle.ash_tree.specs.declared.tree.operators.AssignOp.{AssignOp}
 use Rattle.ash_tree.specs.Tree.{Element, Expr, Name, Call, Brackets, Convert, NewArray, Cast, Unary, Conditional, Assign, Suffix, Field, Method, Index, Operation, place_of, exprs, chained, suffixed}
 use Rattle.ash_tree.specs.Tokens.{Tokens}
-use Rattle.ash_tree.specs.Operators.{primitive, unary_operator, binary_operator, level, LEVELS, assign_operator}
+use Rattle.ash_tree.specs.Operators.{primitive, unary_operator, binary_operator, level, max_level, assign_operator}
 use Rattle.ash_tree.specs.Types.{IsElement}
-use Rattle.ash_tree.specs.Expressions.{DEPTH, IsInner, inner, AreExprs, no_exprs, some_exprs, AreMoreExprs, no_more_exprs, more_exprs, IsArgs, args, IsAssign, no_assign, assign, IsCond, no_branch, branches, IsBinary, operand, joined, AreLinks, no_links, more_links, IsUnary, applied, postfix, AreSuffixes, no_suffixes, more_suffixes, IsSuffix, field, method, index, increment, decrement, IsPrimary, numeral, yes, no, null, this, named, call, brackets, convert, new_array, cast}
+use Rattle.ash_tree.specs.Expressions.{max_depth, IsInner, inner, AreExprs, no_exprs, some_exprs, AreMoreExprs, no_more_exprs, more_exprs, IsArgs, args, IsAssign, no_assign, assign, IsCond, no_branch, branches, IsBinary, operand, joined, AreLinks, no_links, more_links, IsUnary, applied, postfix, AreSuffixes, no_suffixes, more_suffixes, IsSuffix, field, method, index, increment, decrement, IsPrimary, numeral, yes, no, null, this, named, call, brackets, convert, new_array, cast}
 use Rattle.ash_parse.specs.Signs.{is_sign, same_sign}
 use Rattle.ash_parse.specs.Readers.{next_is, next_is_sign}
 use Rattle.ash_parse.specs.ExpressionReader.{Below, begins, next_expr_with, more_exprs_with, exprs_with, arguments_with, bracketed_with, name_or_call_with, new_array_with, cast_with, primary_with, begins_suffix, is_suffix, member_with, index_with, suffix_with, suffixes_with, postfix_with, unary_with, operator_at, is_link, link_by, links_by, chain_by, binary_with, branches_with, assign_from, assign_with, limit_at, below_at}
@@ -64,15 +64,15 @@ module _ (below : Below) where
   unfolding bracketed_with
   bracketed_again p q from left e h = rw (expect_again signs.OpenParenthesis p from) (then_reads _ h (rw (expect_again signs.CloseParenthesis q left) whole))
 
-  assign_again : {free : ℕ} (m : Meaning) (p : Place) (from after left : Tokens) (target value : Expr) (operator : AssignOp) → assign_operator m ≡ Some operator → Reads Expr free (binary_with below LEVELS from) (target, (m, p) ∷ after) → Reads Expr free (below true after) (value, left) → Reads Expr free (assign_with below from) (Assign (place_of target) target operator value, left)
+  assign_again : {free : ℕ} (m : Meaning) (p : Place) (from after left : Tokens) (target value : Expr) (operator : AssignOp) → assign_operator m ≡ Some operator → Reads Expr free (binary_with below max_level from) (target, (m, p) ∷ after) → Reads Expr free (below true after) (value, left) → Reads Expr free (assign_with below from) (Assign (place_of target) target operator value, left)
   unfolding assign_with assign_from
   assign_again m p from after left target value operator o h v = then_reads _ h (rw ((assign_plain m operator o).3, o) (then_reads _ v whole))
 
-  alone_again : {free : ℕ} (from left : Tokens) (e : Expr) → Ends left → Reads Expr free (binary_with below LEVELS from) (e, left) → Reads Expr free (assign_with below from) (e, left)
+  alone_again : {free : ℕ} (from left : Tokens) (e : Expr) → Ends left → Reads Expr free (binary_with below max_level from) (e, left) → Reads Expr free (assign_with below from) (e, left)
   unfolding assign_with
   alone_again from left e s h = then_reads _ h (as_read (ends_assign below e left s))
 
-  branches_again : {free : ℕ} (p q : Place) (from first second left : Tokens) (c a b : Expr) → Reads Expr free (binary_with below LEVELS from) (c, (sign signs.Question, p) ∷ first) → Reads Expr free (below true first) (a, (sign signs.Colon, q) ∷ second) → Reads Expr free (below true second) (b, left) → Reads Expr free (assign_with below from) (Conditional (place_of c) c a b, left)
+  branches_again : {free : ℕ} (p q : Place) (from first second left : Tokens) (c a b : Expr) → Reads Expr free (binary_with below max_level from) (c, (sign signs.Question, p) ∷ first) → Reads Expr free (below true first) (a, (sign signs.Colon, q) ∷ second) → Reads Expr free (below true second) (b, left) → Reads Expr free (assign_with below from) (Conditional (place_of c) c a b, left)
   unfolding assign_with assign_from branches_with is_sign same_sign
   branches_again p q from first second left c a b h f g = then_reads _ h (then_reads _ f (rw (expect_again signs.Colon q second) (then_reads _ g whole)))
 
@@ -136,12 +136,12 @@ module _ (below : Below) where
   unfolding primary_with cast_with primitive
   cast_again p o q r s z text from left e h = rw (target_again o q r text ((sign signs.OpenParenthesis, s) ∷ from)) (then_reads _ (bracketed_again s z from left e h) whole)
 
-question_stops : (p : Place) (ts : Tokens) → Stops LEVELS ((sign signs.Question, p) ∷ ts)
+question_stops : (p : Place) (ts : Tokens) → Stops max_level ((sign signs.Question, p) ∷ ts)
 unfolding is_sign same_sign begins_suffix binary_operator
-question_stops p ts = plain_stops LEVELS (sign signs.Question) p ts refl refl refl
+question_stops p ts = plain_stops max_level (sign signs.Question) p ts refl refl refl
 
 -- what begins here is too deep, so that the limit is not asked of it
-pub past : (free n depth : ℕ) → (free < n → suc depth ≤ DEPTH) → depth + 0 ≡ DEPTH → n ≤ free
+pub past : (free n depth : ℕ) → (free < n → suc depth ≤ max_depth) → depth + 0 ≡ max_depth → n ≤ free
 past free n depth w d = grind arith
 
 -- where no deeper phrase may begin
@@ -153,47 +153,47 @@ limit_cuts free ((m, p) ∷ ts) left e b l = rw b (cut {free = free} {more = ts}
 mutual
   unfolding below_at binary_with primary_with suffix_with primitive ends_expr
 
-  pub inner_read : {free depth : ℕ} {from left : Tokens} {e : Expr} → IsInner free depth from e left → (room : ℕ) → depth + room ≡ DEPTH → Ends left → Reads Expr free (below_at room true from) (e, left)
+  pub inner_read : {free depth : ℕ} {from left : Tokens} {e : Expr} → IsInner free depth from e left → (room : ℕ) → depth + room ≡ max_depth → Ends left → Reads Expr free (below_at room true from) (e, left)
   inner_read (inner {free = free} {depth = depth} {from = from} {left = left} {e = e} w a) zero d s = limit_cuts free from left e (assign_begins a) (past free (length from) depth w d)
   inner_read (inner w a) (suc room) d s = assign_read a room (omega arith) s
 
-  pub exprs_read : {free depth : ℕ} {from left : Tokens} {es : List Expr} → AreExprs free depth from es left → (room : ℕ) → depth + room ≡ DEPTH → Closes left → Reads (List Expr) free (exprs_with (below_at room) from) (es, left)
+  pub exprs_read : {free depth : ℕ} {from left : Tokens} {es : List Expr} → AreExprs free depth from es left → (room : ℕ) → depth + room ≡ max_depth → Closes left → Reads (List Expr) free (exprs_with (below_at room) from) (es, left)
   exprs_read (no_exprs {left = left}) room d s = as_read (exprs_none (below_at room) left s)
   exprs_read (some_exprs {from = from} {after = after} {left = left} {e = e} {es = es} a b) room d s =
       exprs_some (below_at room) from after left e es (inner_begins a) (inner_read a room d (more_end b s)) (more_exprs_read b room d s)
 
-  more_exprs_read : {free depth : ℕ} {from left : Tokens} {es : List Expr} → AreMoreExprs free depth from es left → (room : ℕ) → depth + room ≡ DEPTH → Closes left → ReadsAll free (next_is_sign signs.Comma) (next_expr_with (below_at room)) from es left
+  more_exprs_read : {free depth : ℕ} {from left : Tokens} {es : List Expr} → AreMoreExprs free depth from es left → (room : ℕ) → depth + room ≡ max_depth → Closes left → ReadsAll free (next_is_sign signs.Comma) (next_expr_with (below_at room)) from es left
   more_exprs_read (no_more_exprs {left = left}) room d s = none_again _ (next_is_sign signs.Comma) (next_expr_with (below_at room)) left (close_ends left s).1
   more_exprs_read (more_exprs {p = p} {from = from} {after = after} {left = left} {e = e} {es = es} a b) room d s =
       let l = inner_shorter a in
       one_again _ (next_is_sign signs.Comma) (next_expr_with (below_at room)) ((sign signs.Comma, p) ∷ from) after left e es (next_is_sign-again signs.Comma p from) (next_expr_again (below_at room) p from after e (inner_read a room d (more_end b s))) (omega arith) (more_exprs_read b room d s)
 
-  pub args_read : {free depth : ℕ} {from left : Tokens} {es : List Expr} → IsArgs free depth from es left → (room : ℕ) → depth + room ≡ DEPTH → Reads (List Expr) free (arguments_with (below_at room) from) (es, left)
+  pub args_read : {free depth : ℕ} {from left : Tokens} {es : List Expr} → IsArgs free depth from es left → (room : ℕ) → depth + room ≡ max_depth → Reads (List Expr) free (arguments_with (below_at room) from) (es, left)
   args_read (args {p = p} {q = q} {from = from} {left = left} {es = es} a) room d = args_again (below_at room) p q from left es (exprs_read a room d (next_is_sign-again signs.CloseParenthesis q left))
 
-  pub assign_read : {free depth : ℕ} {from left : Tokens} {e : Expr} → IsAssign free depth from e left → (room : ℕ) → depth + room ≡ DEPTH → Ends left → Reads Expr free (assign_with (below_at room) from) (e, left)
+  pub assign_read : {free depth : ℕ} {from left : Tokens} {e : Expr} → IsAssign free depth from e left → (room : ℕ) → depth + room ≡ max_depth → Ends left → Reads Expr free (assign_with (below_at room) from) (e, left)
   assign_read (no_assign a) room d s = cond_read a room d s
   assign_read (assign {m = m} {p = p} {from = from} {after = after} {left = left} {target = target} {value = value} {operator = operator} a o b) room d s =
       let q = assign_plain m operator o in
-      assign_again (below_at room) m p from after left target value operator o (binary_read a room d (plain_stops LEVELS m p after q.0 q.1 q.2)) (inner_read b room d s)
+      assign_again (below_at room) m p from after left target value operator o (binary_read a room d (plain_stops max_level m p after q.0 q.1 q.2)) (inner_read b room d s)
 
-  cond_read : {free depth : ℕ} {from left : Tokens} {e : Expr} → IsCond free depth from e left → (room : ℕ) → depth + room ≡ DEPTH → Ends left → Reads Expr free (assign_with (below_at room) from) (e, left)
-  cond_read (no_branch {from = from} {left = left} {e = e} a) room d s = alone_again (below_at room) from left e s (binary_read a room d (ends_stop LEVELS left s))
+  cond_read : {free depth : ℕ} {from left : Tokens} {e : Expr} → IsCond free depth from e left → (room : ℕ) → depth + room ≡ max_depth → Ends left → Reads Expr free (assign_with (below_at room) from) (e, left)
+  cond_read (no_branch {from = from} {left = left} {e = e} a) room d s = alone_again (below_at room) from left e s (binary_read a room d (ends_stop max_level left s))
   cond_read (branches {p = p} {q = q} {from = from} {first = first} {second = second} {left = left} {c = c} {a = a} {b = b} i j k) room d s =
       branches_again (below_at room) p q from first second left c a b (binary_read i room d (question_stops p first)) (inner_read j room d refl) (inner_read k room d s)
 
-  binary_read : {free depth n : ℕ} {from left : Tokens} {e : Expr} → IsBinary free depth n from e left → (room : ℕ) → depth + room ≡ DEPTH → Stops n left → Reads Expr free (binary_with (below_at room) n from) (e, left)
+  binary_read : {free depth n : ℕ} {from left : Tokens} {e : Expr} → IsBinary free depth n from e left → (room : ℕ) → depth + room ≡ max_depth → Stops n left → Reads Expr free (binary_with (below_at room) n from) (e, left)
   binary_read (operand a) room d s = unary_read a room d s
   binary_read (joined {n = n} {from = from} {after = after} {left = left} {first = first} {more = more} a b) room d s =
       joined_again (below_at room) n from after left first more (binary_read a room d (links_stop b s)) (links_read b room d s)
 
-  links_read : {free depth n : ℕ} {from left : Tokens} {more : List Operation} → AreLinks free depth n from more left → (room : ℕ) → depth + room ≡ DEPTH → Stops (suc n) left → ReadsAll free (is_link n) (link_by n (binary_with (below_at room) n)) from more left
+  links_read : {free depth n : ℕ} {from left : Tokens} {more : List Operation} → AreLinks free depth n from more left → (room : ℕ) → depth + room ≡ max_depth → Stops (suc n) left → ReadsAll free (is_link n) (link_by n (binary_with (below_at room) n)) from more left
   links_read (no_links {n = n} {left = left}) room d s = none_again _ (is_link n) (link_by n (binary_with (below_at room) n)) left (s.2 n (omega arith))
   links_read (more_links {n = n} {m = m} {p = p} {from = from} {after = after} {left = left} {operator = operator} {operand = right} {more = more} o l a b) room d s =
       let k = binary_shorter a in
       one_again _ (is_link n) (link_by n (binary_with (below_at room) n)) ((m, p) ∷ from) after left (record { operator = operator; operand = right }) more (link_begins (below_at room) n m p from operator o l) (link_again (below_at room) n m p from after operator right o l (binary_read a room d (links_stop b s))) (omega arith) (links_read b room d s)
 
-  unary_read : {free depth : ℕ} {from left : Tokens} {e : Expr} → IsUnary free depth from e left → (room : ℕ) → depth + room ≡ DEPTH → Stops 0 left → Reads Expr free (unary_with (below_at room) from) (e, left)
+  unary_read : {free depth : ℕ} {from left : Tokens} {e : Expr} → IsUnary free depth from e left → (room : ℕ) → depth + room ≡ max_depth → Stops 0 left → Reads Expr free (unary_with (below_at room) from) (e, left)
   unary_read (applied {free = free} {depth = depth} {m = m} {p = p} {from = from} {left = left} {operator = operator} {e = e} o w a) zero d s =
       applied_again (below_at zero) m p from left operator e o (limit_cuts free from left e (unary_phrase_begins a) (past free (length from) depth w d))
   unary_read (applied {m = m} {p = p} {from = from} {left = left} {operator = operator} {e = e} o w a) (suc room) d s =
@@ -201,12 +201,12 @@ mutual
   unary_read (postfix {from = from} {after = after} {left = left} {e = e} {more = more} a b) room d s =
       rw (primary_alone (below_at room) a) (postfix_again (below_at room) from after left e more (primary_read a room d (suffixes_open b s.0)) (suffixes_read b room d s))
 
-  suffixes_read : {free depth : ℕ} {from left : Tokens} {more : List Suffix} → AreSuffixes free depth from more left → (room : ℕ) → depth + room ≡ DEPTH → Stops 0 left → ReadsAll free is_suffix (suffix_with (below_at room)) from more left
+  suffixes_read : {free depth : ℕ} {from left : Tokens} {more : List Suffix} → AreSuffixes free depth from more left → (room : ℕ) → depth + room ≡ max_depth → Stops 0 left → ReadsAll free is_suffix (suffix_with (below_at room)) from more left
   suffixes_read (no_suffixes {left = left}) room d s = none_again _ is_suffix (suffix_with (below_at room)) left s.1
   suffixes_read (more_suffixes {from = from} {after = after} {left = left} {s = x} {more = more} a b) room d s =
       one_again _ is_suffix (suffix_with (below_at room)) from after left x more (suffix_begins a) (suffix_read a room d (suffixes_open b s.0)) (suffix_shorter a) (suffixes_read b room d s)
 
-  suffix_read : {free depth : ℕ} {from left : Tokens} {x : Suffix} → IsSuffix free depth from x left → (room : ℕ) → depth + room ≡ DEPTH → next_is_sign signs.OpenParenthesis left ≡ false → Reads Suffix free (suffix_with (below_at room) from) (x, left)
+  suffix_read : {free depth : ℕ} {from left : Tokens} {x : Suffix} → IsSuffix free depth from x left → (room : ℕ) → depth + room ≡ max_depth → next_is_sign signs.OpenParenthesis left ≡ false → Reads Suffix free (suffix_with (below_at room) from) (x, left)
   suffix_read (field {p = p} {q = q} {text = text} {left = left}) room d s = as_read (field_again (below_at room) p q text left s)
   suffix_read (method {p = p} {q = q} {text = text} {left = left} {es = es} (args {p = o} {q = c} {from = from} a)) room d s =
       method_again (below_at room) p q o text from left es (args_again (below_at room) o c from left es (exprs_read a room d (next_is_sign-again signs.CloseParenthesis c left)))
@@ -214,7 +214,7 @@ mutual
   suffix_read increment room d s = whole
   suffix_read decrement room d s = whole
 
-  primary_read : {free depth : ℕ} {from left : Tokens} {e : Expr} → IsPrimary free depth from e left → (room : ℕ) → depth + room ≡ DEPTH → next_is_sign signs.OpenParenthesis left ≡ false → Reads Expr free (primary_with (below_at room) from) (e, left)
+  primary_read : {free depth : ℕ} {from left : Tokens} {e : Expr} → IsPrimary free depth from e left → (room : ℕ) → depth + room ≡ max_depth → next_is_sign signs.OpenParenthesis left ≡ false → Reads Expr free (primary_with (below_at room) from) (e, left)
   primary_read numeral room d s = whole
   primary_read yes room d s = whole
   primary_read no room d s = whole

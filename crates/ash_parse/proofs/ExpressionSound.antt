@@ -11,7 +11,7 @@ use Rattle.ash_tree.specs.declared.tree.operators.BinaryOp.{BinaryOp}
 use Rattle.ash_tree.specs.declared.tree.operators.AssignOp.{AssignOp}
 use Rattle.ash_tree.specs.Tree.{Expr, Number, Truth, Null, This, Name, Call, Brackets, Convert, NewArray, Cast, Unary, Conditional, Assign, Suffix, Field, Method, Index, Increment, Decrement, Operation, place_of, exprs, chained, suffixed}
 use Rattle.ash_tree.specs.Tokens.{Tokens}
-use Rattle.ash_tree.specs.Operators.{primitive, unary_operator, binary_operator, level, LEVELS, assign_operator}
+use Rattle.ash_tree.specs.Operators.{primitive, unary_operator, binary_operator, level, max_level, assign_operator}
 use Rattle.ash_tree.specs.Expressions.{Within, IsInner, inner, AreExprs, no_exprs, some_exprs, AreMoreExprs, no_more_exprs, more_exprs, IsArgs, args, IsAssign, no_assign, assign, IsCond, no_branch, branches, IsBinary, operand, joined, AreLinks, no_links, more_links, IsUnary, applied, postfix, AreSuffixes, no_suffixes, more_suffixes, IsSuffix, field, method, index, increment, decrement, IsPrimary, numeral, yes, no, null, this, named, call, brackets, convert, new_array, cast}
 use Rattle.ash_parse.specs.Signs.{is_sign}
 use Rattle.ash_parse.specs.Readers.{ParseResult, Unexpected, TooDeep, ◌>>=◌, put, next_is, next_is_sign, expect_at, name_at}
@@ -217,7 +217,7 @@ module _ (free depth : ℕ) (below : Below) (whole : Finds (below true) (IsInner
   binary_sound zero ts x rest h = operand (unary_sound ts x rest h)
   binary_sound (suc n) ts x rest h = chain_sound n (binary_with below n) (binary_sound n) ts x rest h
 
-  branches_sound : (p : Place) (c : Expr) (from ts : Tokens) (x : Expr) (rest : Tokens) → IsBinary free depth LEVELS from c ((sign signs.Question, p) ∷ ts) → branches_with below c ts ≡ Ok (x, rest) → IsCond free depth from x rest
+  branches_sound : (p : Place) (c : Expr) (from ts : Tokens) (x : Expr) (rest : Tokens) → IsBinary free depth max_level from c ((sign signs.Question, p) ∷ ts) → branches_with below c ts ≡ Ok (x, rest) → IsCond free depth from x rest
   unfolding branches_with
   branches_sound p c from ts x rest d h =
       let a = bind_ok (below true ts) (λ a. expect_at signs.Colon a.1 >>= λ colon. below true colon.1 >>= λ b. Ok (Conditional (place_of c) c a.0 b.0, b.1)) (x, rest) h in
@@ -227,25 +227,25 @@ module _ (free depth : ℕ) (below : Below) (whole : Finds (below true) (IsInner
       expect_sound signs.Colon (a.0).1 (k.0).0 (k.0).1 (λ r. IsInner free depth ts (a.0).0 r → IsInner free depth ts (a.0).0 ((sign signs.Colon, (k.0).0) ∷ (k.0).1)) k.1 (λ d. d) (whole ts (a.0).0 (a.0).1 a.1) in
       at_pair (IsCond free depth from) (Conditional (place_of c) c (a.0).0 (b.0).0) (b.0).1 x rest b.2 (branches d i (whole (k.0).1 (b.0).0 (b.0).1 b.1))
 
-  assign_by_sound : (o : Option AssignOp) (m : Meaning) (p : Place) (e : Expr) (from ts : Tokens) (x : Expr) (rest : Tokens) → assign_operator m ≡ o → IsBinary free depth LEVELS from e ((m, p) ∷ ts) → assign_by below e o m p ts ≡ Ok (x, rest) → IsAssign free depth from x rest
+  assign_by_sound : (o : Option AssignOp) (m : Meaning) (p : Place) (e : Expr) (from ts : Tokens) (x : Expr) (rest : Tokens) → assign_operator m ≡ o → IsBinary free depth max_level from e ((m, p) ∷ ts) → assign_by below e o m p ts ≡ Ok (x, rest) → IsAssign free depth from x rest
   assign_by_sound None m p e from ts x rest g d h = at_pair (IsAssign free depth from) e ((m, p) ∷ ts) x rest h (no_assign (no_branch d))
   assign_by_sound (Some o) m p e from ts x rest g d h =
       let v = bind_ok (below true ts) (λ v. Ok (Assign (place_of e) e o v.0, v.1)) (x, rest) h in
       at_pair (IsAssign free depth from) (Assign (place_of e) e o (v.0).0) (v.0).1 x rest v.2 (assign d g (whole ts (v.0).0 (v.0).1 v.1))
 
-  assign_from_sound : (e : Expr) (from ts : Tokens) (x : Expr) (rest : Tokens) → IsBinary free depth LEVELS from e ts → assign_from below e ts ≡ Ok (x, rest) → IsAssign free depth from x rest
+  assign_from_sound : (e : Expr) (from ts : Tokens) (x : Expr) (rest : Tokens) → IsBinary free depth max_level from e ts → assign_from below e ts ≡ Ok (x, rest) → IsAssign free depth from x rest
   unfolding assign_from
   assign_from_sound e from [] x rest d h = at_pair (IsAssign free depth from) e [] x rest h (no_assign (no_branch d))
   assign_from_sound e from ((m, p) ∷ ts) x rest d h =
       if_elim (is_sign signs.Question m) (branches_with below e ts) (assign_by below e (assign_operator m) m p ts) (Ok (x, rest)) (IsAssign free depth from x rest) h
-      (λ b k. no_assign (branches_sound p e from ts x rest (subst (λ w. IsBinary free depth LEVELS from e ((w, p) ∷ ts)) (sign_is signs.Question m b) d) k))
+      (λ b k. no_assign (branches_sound p e from ts x rest (subst (λ w. IsBinary free depth max_level from e ((w, p) ∷ ts)) (sign_is signs.Question m b) d) k))
       (λ b k. assign_by_sound (assign_operator m) m p e from ts x rest refl d k)
 
   pub assign_sound : Finds (assign_with below) (IsAssign free depth)
   unfolding assign_with
   assign_sound ts x rest h =
-      let e = bind_ok (binary_with below LEVELS ts) (λ e. assign_from below e.0 e.1) (x, rest) h in
-      assign_from_sound (e.0).0 ts (e.0).1 x rest (binary_sound LEVELS ts (e.0).0 (e.0).1 e.1) e.2
+      let e = bind_ok (binary_with below max_level ts) (λ e. assign_from below e.0 e.1) (x, rest) h in
+      assign_from_sound (e.0).0 ts (e.0).1 x rest (binary_sound max_level ts (e.0).0 (e.0).1 e.1) e.2
 
 limit_is_no_ok : (ts : Tokens) (x : Expr × Tokens) → limit_at ts ≡ Ok x → ⊥
 unfolding limit_at

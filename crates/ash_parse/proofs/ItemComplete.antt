@@ -7,7 +7,7 @@ use Rattle.ash_lex.specs.declared.tokens.Token.{Token}
 use Rattle.ash_tree.specs.declared.tree.places.Place.{Place}
 use Rattle.ash_tree.specs.Tree.{Named, TypeName, Vars, Stmt, Parameter, Function, Constructor, Member, Class, InterfaceMethod, Item, AFunction, AGlobal, Declaration, AProperty}
 use Rattle.ash_tree.specs.Tokens.{Tokens}
-use Rattle.ash_tree.specs.Expressions.{DEPTH}
+use Rattle.ash_tree.specs.Expressions.{max_depth}
 use Rattle.ash_tree.specs.Statements.{IsVars, IsBlock}
 use Rattle.ash_tree.specs.Grammar.{IsResultType, void, typed, IsParameter, parameter, AreMoreParameters, no_more_parameters, more_parameters, AreParameters, no_parameters, parameters, IsFunction, function, IsMember, method, fields, constructor, AreMembers, no_members, more_members, AreMoreInterfaces, no_more_interfaces, more_interfaces, AreInterfaces, no_interfaces, interfaces, class, IsInterfaceMethod, interface_method, AreInterfaceMethods, no_interface_methods, more_interface_methods, interface, IsItem, a_class, an_interface, a_function, globals, Derives, no_items, semicolon, item, IsUnnamed, unnamed, with_name, AreMoreUnnamed, no_more_unnamed, more_unnamed, AreUnnamed, no_unnamed, some_unnamed, Declares, signature, property}
 use Rattle.ash_parse.specs.declared.faults.ParseFault.{ParseFault}
@@ -66,7 +66,7 @@ parameters_read (parameters {p = p} {q = q} {from = from} {after = next} {left =
 
 body_read : {free : ℕ} {from left : Tokens} {ss : List Stmt} → IsBlock free 0 from ss left → Reads (List Stmt) free (body_at from) (ss, left)
 unfolding body_at
-body_read a = block_read a DEPTH (omega arith)
+body_read a = block_read a max_depth (omega arith)
 
 function_read : {free : ℕ} {from left : Tokens} {f : Function} → IsFunction free from f left → Reads Function free (function_at from) (f, left)
 unfolding function_at
@@ -74,7 +74,7 @@ function_read (function {p = p} {text = text} {after = next} a b c) = rw (result
 
 globals_read : {free : ℕ} {from : Tokens} {v : Vars} (p : Place) (left : Tokens) → IsVars free 0 from v ((sign signs.Semicolon, p) ∷ left) → Reads Vars free (globals_at from) (v, left)
 unfolding globals_at
-globals_read p left a = declared_read p left a DEPTH (omega arith)
+globals_read p left a = declared_read p left a max_depth (omega arith)
 
 constructor_again : {free : ℕ} (p : Place) (text : List ℕ) (from inside left : Tokens) (xs : List Parameter) (body : List Stmt) → parameters_at from ≡ Ok (xs, inside) → Reads (List Stmt) free (body_at inside) (body, left) → Reads Constructor free (constructor_at ((name text, p) ∷ from)) (record { place = p; name = text; parameters = xs; body = body }, left)
 unfolding constructor_at

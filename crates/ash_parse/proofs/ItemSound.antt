@@ -6,7 +6,7 @@ use Rattle.ash_lex.specs.declared.words.ReservedWord.TheVariants as words
 use Rattle.ash_tree.specs.declared.tree.places.Place.{Place}
 use Rattle.ash_tree.specs.Tree.{TypeName, Vars, Parameter, Constructor, AMethod, AField, AConstructor, Class, Interface, Item, AClass, AnInterface, AFunction, AGlobal}
 use Rattle.ash_tree.specs.Tokens.{Tokens}
-use Rattle.ash_tree.specs.Expressions.{DEPTH}
+use Rattle.ash_tree.specs.Expressions.{max_depth}
 use Rattle.ash_tree.specs.Types.{IsType}
 use Rattle.ash_tree.specs.Statements.{IsVars, IsBlock}
 use Rattle.ash_tree.specs.Grammar.{IsResultType, void, typed, IsParameter, parameter, AreMoreParameters, no_more_parameters, more_parameters, AreParameters, no_parameters, parameters, IsFunction, function, IsMember, method, fields, constructor, AreMembers, no_members, more_members, IsClass, class, IsItem, a_class, a_function, globals, Derives, no_items, semicolon, item, AreMoreInterfaces, no_more_interfaces, more_interfaces, AreInterfaces, no_interfaces, interfaces, IsInterfaceMethod, interface_method, AreInterfaceMethods, no_interface_methods, more_interface_methods, IsInterface, interface, an_interface}
@@ -80,7 +80,7 @@ parameters_sound ts x rest h =
 
 body_sound : Finds body_at (IsBlock 0 0)
 unfolding body_at
-body_sound ts x rest h = block_sound 0 0 (below_at DEPTH) (nested_at DEPTH) (whole_sound DEPTH 0 refl) (part_sound DEPTH 0 refl) (nested_sound DEPTH 0 refl) ts x rest h
+body_sound ts x rest h = block_sound 0 0 (below_at max_depth) (nested_at max_depth) (whole_sound max_depth 0 refl) (part_sound max_depth 0 refl) (nested_sound max_depth 0 refl) ts x rest h
 
 pub function_sound : Finds function_at (IsFunction 0)
 unfolding function_at
@@ -94,7 +94,7 @@ function_sound ts x rest h =
 
 globals_sound : (ts : Tokens) (x : Vars) (rest : Tokens) → globals_at ts ≡ Ok (x, rest) → (p : Place) × IsVars 0 0 ts x ((sign signs.Semicolon, p) ∷ rest)
 unfolding globals_at
-globals_sound ts x rest h = declared_sound 0 0 (below_at DEPTH) (whole_sound DEPTH 0 refl) (part_sound DEPTH 0 refl) ts x rest h
+globals_sound ts x rest h = declared_sound 0 0 (below_at max_depth) (whole_sound max_depth 0 refl) (part_sound max_depth 0 refl) ts x rest h
 
 constructor_sound : (ts : Tokens) (x : Constructor) (rest : Tokens) → constructor_at ts ≡ Ok (x, rest) → IsMember 0 ts (AConstructor x) rest
 unfolding constructor_at

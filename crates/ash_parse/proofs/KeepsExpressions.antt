@@ -10,7 +10,7 @@ use Rattle.ash_tree.specs.declared.tree.operators.BinaryOp.{BinaryOp}
 use Rattle.ash_tree.specs.declared.tree.operators.AssignOp.{AssignOp}
 use Rattle.ash_tree.specs.Tree.{Element, Expr, Number, Truth, Null, This, Name, Call, Brackets, Convert, NewArray, Cast, Unary, Conditional, Assign, Field, Method, Index, Increment, Decrement, place_of, exprs, chained, suffixed}
 use Rattle.ash_tree.specs.Tokens.{Tokens}
-use Rattle.ash_tree.specs.Operators.{primitive, unary_operator, binary_operator, level, LEVELS, assign_operator}
+use Rattle.ash_tree.specs.Operators.{primitive, unary_operator, binary_operator, level, max_level, assign_operator}
 use Rattle.ash_parse.specs.Signs.{is_sign}
 use Rattle.ash_parse.specs.Readers.{TooDeep, ParseResult, ◌>>=◌, next_is, next_is_sign}
 use Rattle.ash_parse.specs.ExpressionReader.{begins, limit_at, next_expr_with, more_exprs_with, exprs_with, arguments_with, bracketed_with, name_or_call_with, new_array_with, cast_with, primary_by, primary_with, begins_suffix, is_suffix, member_with, index_with, suffix_with, suffixes_with, postfix_with, unary_by, unary_with, operator_by, operator_at, is_link, link_from, link_by, links_by, chain_by, binary_with, branches_with, assign_by, assign_from, assign_with, below_at}
@@ -211,7 +211,7 @@ module _ (room : ℕ) (h : room ≤ 64) (deeper : (whole : Bool) → Lawful (bel
 
   pub assign_lawful : Lawful (assign_with (below_at room))
   unfolding assign_with
-  assign_lawful = bind_lawful _ (binary_lawful LEVELS) assign_from_lawful
+  assign_lawful = bind_lawful _ (binary_lawful max_level) assign_from_lawful
 
   -- what leaves open whether a declaration begins is taken
   primary_takes : Takes Passed (primary_with (below_at room))
@@ -243,7 +243,7 @@ module _ (room : ℕ) (h : room ≤ 64) (deeper : (whole : Bool) → Lawful (bel
 
   pub assign_takes : Takes Passed (assign_with (below_at room))
   unfolding assign_with
-  assign_takes = bind_takes _ (binary_takes LEVELS) assign_from_lawful
+  assign_takes = bind_takes _ (binary_takes max_level) assign_from_lawful
 
 pub below_lawful : (room : ℕ) → room ≤ 64 → (whole : Bool) → Lawful (below_at room whole)
 unfolding below_at

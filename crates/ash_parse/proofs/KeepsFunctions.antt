@@ -10,7 +10,7 @@ use Rattle.ash_tree.specs.declared.tree.types.Primitive.{Primitive}
 use Rattle.ash_tree.specs.Tree.{Element, Named, Prim, Object, Handle, Array, ArrayHandle, Expr, Decl, Initializer, Arguments, Vars, Parameter, Function}
 use Rattle.ash_tree.specs.Tokens.{Tokens}
 use Rattle.ash_tree.specs.Operators.{primitive}
-use Rattle.ash_tree.specs.Expressions.{DEPTH}
+use Rattle.ash_tree.specs.Expressions.{max_depth}
 use Rattle.ash_parse.specs.Signs.{is_sign, same_sign}
 use Rattle.ash_parse.specs.Readers.{Unexpected, ParseResult, ◌>>=◌, put, next_is_sign, expect_at, name_at}
 use Rattle.ash_parse.specs.ExpressionReader.{below_at, exprs_with, arguments_with, more_exprs_with}
@@ -25,7 +25,7 @@ use Rattle.ash_parse.proofs.Choices.{left_of, passed_is_read, Passed, name_passe
 use Rattle.ash_parse.proofs.KeepsExpressions.{below_lawful, room_takes, more_exprs_lawful}
 use Rattle.ash_parse.proofs.KeepsStatements.{type_lawful, type_takes, more_decls_lawful, initializer_lawful, declared_lawful, block_lawful, nested_lawful}
 
-pub within : DEPTH ≤ 64
+pub within : max_depth ≤ 64
 within = omega arith
 
 void_no_array : (m : Meaning) → is_void m ≡ true → IsNoArray m
@@ -110,11 +110,11 @@ parameters_lawful = bind_lawful _ (expect_lawful signs.OpenParenthesis) λ o. cl
 
 pub body_lawful : Lawful body_at
 unfolding body_at
-body_lawful = block_lawful DEPTH within (nested_lawful DEPTH within)
+body_lawful = block_lawful max_depth within (nested_lawful max_depth within)
 
 globals_lawful : Lawful globals_at
 unfolding globals_at
-globals_lawful = declared_lawful DEPTH within
+globals_lawful = declared_lawful max_depth within
 
 -- after the name: the parameters of a function, by the next three tokens
 opens_function : Tokens → Bool
@@ -186,15 +186,15 @@ after_parameters r n xs = bind_lawful _ body_lawful λ b. ok_lawful (record { pl
 -- the variables, after the name of the first of them
 abbrev globals_by : Named → List ℕ × Place → ParseResult Initializer → ParseResult Vars
 globals_by t n o =
-    (((o >>= λ i. Ok (record { place = n.1; name = n.0; initializer = i.0 }, i.1)) >>= λ d. put d.0 (more_decls_with (below_at DEPTH) d.1)) >>= λ ds. Ok (record { of = t; decls = ds.0 }, ds.1))
+    (((o >>= λ i. Ok (record { place = n.1; name = n.0; initializer = i.0 }, i.1)) >>= λ d. put d.0 (more_decls_with (below_at max_depth) d.1)) >>= λ ds. Ok (record { of = t; decls = ds.0 }, ds.1))
     >>= λ v. expect_at signs.Semicolon v.1 >>= λ z. Ok (v.0, z.1)
 
 module _ (t : Named) (n : List ℕ × Place) where
   first_decl : (i : Initializer) → Lawful {A = Decl} (λ s. Ok (record { place = n.1; name = n.0; initializer = i }, s))
   first_decl i = ok_lawful (record { place = n.1; name = n.0; initializer = i })
 
-  more_after : (d : Decl) → Lawful (λ s. put d (more_decls_with (below_at DEPTH) s))
-  more_after d = put_lawful d (more_decls_lawful DEPTH within)
+  more_after : (d : Decl) → Lawful (λ s. put d (more_decls_with (below_at max_depth) s))
+  more_after d = put_lawful d (more_decls_lawful max_depth within)
 
   all_decls : (ds : List Decl) → Lawful {A = Vars} (λ s. Ok (record { of = t; decls = ds }, s))
   all_decls ds = ok_lawful (record { of = t; decls = ds })
@@ -209,16 +209,16 @@ module _ (t : Named) (n : List ℕ × Place) where
   globals_by_takes takes = bind_takes _ (bind_takes _ (bind_takes _ (bind_takes _ takes first_decl) more_after) all_decls) end_after
 
 abbrev some_exprs : Tokens → ParseResult (List Expr)
-some_exprs s = below_at DEPTH true s >>= λ e. put e.0 (more_exprs_with (below_at DEPTH) e.1)
+some_exprs s = below_at max_depth true s >>= λ e. put e.0 (more_exprs_with (below_at max_depth) e.1)
 
-more_of : (e : Expr) → Lawful (λ s. put e (more_exprs_with (below_at DEPTH) s))
-more_of e = put_lawful e (more_exprs_lawful DEPTH within (below_lawful DEPTH within))
+more_of : (e : Expr) → Lawful (λ s. put e (more_exprs_with (below_at max_depth) s))
+more_of e = put_lawful e (more_exprs_lawful max_depth within (below_lawful max_depth within))
 
 some_exprs_lawful : Lawful some_exprs
-some_exprs_lawful = bind_lawful (λ e. put e.0 (more_exprs_with (below_at DEPTH) e.1)) (below_lawful DEPTH within true) more_of
+some_exprs_lawful = bind_lawful (λ e. put e.0 (more_exprs_with (below_at max_depth) e.1)) (below_lawful max_depth within true) more_of
 
 some_exprs_takes : Takes Passed some_exprs
-some_exprs_takes = bind_takes (λ e. put e.0 (more_exprs_with (below_at DEPTH) e.1)) (room_takes 63 (omega arith)) more_of
+some_exprs_takes = bind_takes (λ e. put e.0 (more_exprs_with (below_at max_depth) e.1)) (room_takes 63 (omega arith)) more_of
 
 module _ {B : Type 0} (of_function : Function → B) (of_globals : Vars → B) where
   abbrev on : Option Named → List ℕ × Place → ParseResult (List Parameter) → ParseResult B
@@ -252,18 +252,18 @@ module _ {B : Type 0} (of_function : Function → B) (of_globals : Vars → B) w
   unfolding parameters_at parameter_list_at some_parameters expect_at is_sign same_sign
   on_opened r n p s = refl
 
-  off_opened : (t : Named) (n : List ℕ × Place) (p : Place) (s : Tokens) → off t n (initializer_with (below_at DEPTH) ((sign signs.OpenParenthesis, p) ∷ s)) ≡ off t n (made s)
+  off_opened : (t : Named) (n : List ℕ × Place) (p : Place) (s : Tokens) → off t n (initializer_with (below_at max_depth) ((sign signs.OpenParenthesis, p) ∷ s)) ≡ off t n (made s)
   unfolding initializer_with arguments_with exprs_with next_is_sign expect_at is_sign same_sign
   off_opened t n p s = refl
 
   function_decided : (t : Named) (n : List ℕ × Place) (a : Meaning × Place) (more other seen prefix : Tokens) → opens_function (prefix ++ a ∷ seen) ≡ true → (opens_function (prefix ++ a ∷ more) ≡ opens_function (prefix ++ a ∷ other) → ⊥) → Past (length more) (on (Some t) n (parameters_at (prefix ++ a ∷ more)))
   function_decided t n = takes_deciding (λ s. on (Some t) n (parameters_at s)) (λ s. on (Some t) n (closed some_parameters s)) (on_opened (Some t) n) (on_lawful (Some t) n {read = closed some_parameters} (closed_lawful some_parameters_lawful)) (on_takes (Some t) n {read = closed some_parameters} (closed_takes some_parameters_takes))
 
-  globals_decided : (t : Named) (n : List ℕ × Place) (a : Meaning × Place) (more other seen prefix : Tokens) → opens_function (prefix ++ a ∷ seen) ≡ true → (opens_function (prefix ++ a ∷ more) ≡ opens_function (prefix ++ a ∷ other) → ⊥) → Past (length more) (off t n (initializer_with (below_at DEPTH) (prefix ++ a ∷ more)))
-  globals_decided t n = takes_deciding (λ s. off t n (initializer_with (below_at DEPTH) s)) (λ s. off t n (made s)) (off_opened t n) (off_lawful t n {read = made} made_lawful) (off_takes t n {read = made} made_takes)
+  globals_decided : (t : Named) (n : List ℕ × Place) (a : Meaning × Place) (more other seen prefix : Tokens) → opens_function (prefix ++ a ∷ seen) ≡ true → (opens_function (prefix ++ a ∷ more) ≡ opens_function (prefix ++ a ∷ other) → ⊥) → Past (length more) (off t n (initializer_with (below_at max_depth) (prefix ++ a ∷ more)))
+  globals_decided t n = takes_deciding (λ s. off t n (initializer_with (below_at max_depth) s)) (λ s. off t n (made s)) (off_opened t n) (off_lawful t n {read = made} made_lawful) (off_takes t n {read = made} made_takes)
 
   -- what opens a body decides for a function
-  decided_crosses : (t : Named) (n : List ℕ × Place) → Crosses opens_function (λ s. on (Some t) n (parameters_at s)) (λ s. off t n (initializer_with (below_at DEPTH) s))
+  decided_crosses : (t : Named) (n : List ℕ × Place) → Crosses opens_function (λ s. on (Some t) n (parameters_at s)) (λ s. off t n (initializer_with (below_at max_depth) s))
   decided_crosses t n a more other prefix = (
     λ h k. past (function_decided t n a more other more prefix h (differs_on (opens_function (prefix ++ a ∷ more)) (opens_function (prefix ++ a ∷ other)) h k)) (globals_decided t n a other more more prefix h (λ e. differs_on (opens_function (prefix ++ a ∷ more)) (opens_function (prefix ++ a ∷ other)) h k (sym e))),
     λ h k. past (globals_decided t n a more other other prefix k (differs_off (opens_function (prefix ++ a ∷ more)) (opens_function (prefix ++ a ∷ other)) h k)) (function_decided t n a other more other prefix k (λ e. differs_off (opens_function (prefix ++ a ∷ more)) (opens_function (prefix ++ a ∷ other)) h k (sym e))),
@@ -271,20 +271,20 @@ module _ {B : Type 0} (of_function : Function → B) (of_globals : Vars → B) w
 
   -- after its type, a function or variables
   abbrev named : Named → Tokens → ParseResult B
-  named t s = name_at s >>= λ n. cond (opens_function n.1) (on (Some t) n.0 (parameters_at n.1)) (off t n.0 (initializer_with (below_at DEPTH) n.1))
+  named t s = name_at s >>= λ n. cond (opens_function n.1) (on (Some t) n.0 (parameters_at n.1)) (off t n.0 (initializer_with (below_at max_depth) n.1))
 
-  after_name : (t : Named) (n : List ℕ × Place) → Lawful (λ s. cond (opens_function s) (on (Some t) n (parameters_at s)) (off t n (initializer_with (below_at DEPTH) s)))
-  after_name t n = choice_lawful opens_function (decided_crosses t n) (on_lawful (Some t) n {read = parameters_at} parameters_lawful) (off_lawful t n {read = initializer_with (below_at DEPTH)} (initializer_lawful DEPTH within))
+  after_name : (t : Named) (n : List ℕ × Place) → Lawful (λ s. cond (opens_function s) (on (Some t) n (parameters_at s)) (off t n (initializer_with (below_at max_depth) s)))
+  after_name t n = choice_lawful opens_function (decided_crosses t n) (on_lawful (Some t) n {read = parameters_at} parameters_lawful) (off_lawful t n {read = initializer_with (below_at max_depth)} (initializer_lawful max_depth within))
 
   named_lawful : (t : Named) → Lawful (named t)
-  named_lawful t = bind_lawful {read = name_at} (λ n. cond (opens_function n.1) (on (Some t) n.0 (parameters_at n.1)) (off t n.0 (initializer_with (below_at DEPTH) n.1))) name_lawful (after_name t)
+  named_lawful t = bind_lawful {read = name_at} (λ n. cond (opens_function n.1) (on (Some t) n.0 (parameters_at n.1)) (off t n.0 (initializer_with (below_at max_depth) n.1))) name_lawful (after_name t)
 
   -- after a type that was read, or where none was
   abbrev on_type : ParseResult Named → ParseResult B
   on_type o = ((o >>= λ t. Ok (Some t.0, t.1)) >>= λ r. name_at r.1 >>= λ n. function_by r.0 n.0 (parameters_at n.1)) >>= λ f. Ok (of_function f.0, f.1)
 
   abbrev off_type : ParseResult Named → ParseResult B
-  off_type o = ((o >>= λ t. decls_with (below_at DEPTH) t.1 >>= λ ds. Ok (record { of = t.0; decls = ds.0 }, ds.1)) >>= λ v. expect_at signs.Semicolon v.1 >>= λ z. Ok (v.0, z.1)) >>= λ v. Ok (of_globals v.0, v.1)
+  off_type o = ((o >>= λ t. decls_with (below_at max_depth) t.1 >>= λ ds. Ok (record { of = t.0; decls = ds.0 }, ds.1)) >>= λ v. expect_at signs.Semicolon v.1 >>= λ z. Ok (v.0, z.1)) >>= λ v. Ok (of_globals v.0, v.1)
 
   one_of : (b : Bool) (o : ParseResult B) → cond b o o ≡ o
   one_of true o = refl

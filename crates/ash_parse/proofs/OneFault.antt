@@ -78,15 +78,15 @@ leaves_less t a b (inl e) = inl (no_first a b e)
 leaves_less t a b (inr d) = inr (d.0, b ++ d.1, d.2, subst (λ (l : Tokens). IsElement l d.2 []) (append_assoc a b d.1) d.3)
 
 -- `t` is the word `array`, and `u` is in its `"<" elem ">"`, after `mid`
-abbrev StandsInside : Meaning × Place → Tokens → Meaning × Place → Type 0
-StandsInside t mid u = (t.0 ≡ reserved words.Array) × (tail : Tokens) × (of : Element) × IsElement (mid ++ u ∷ tail) of []
+abbrev IsInside : Meaning × Place → Tokens → Meaning × Place → Type 0
+IsInside t mid u = (t.0 ≡ reserved words.Array) × (tail : Tokens) × (of : Element) × IsElement (mid ++ u ∷ tail) of []
 
-inside_seen : (t : Meaning × Place) (mid more : Tokens) (u : Meaning × Place) → LeavesOpen t (mid ++ u ∷ more) → StandsInside t mid u
+inside_seen : (t : Meaning × Place) (mid more : Tokens) (u : Meaning × Place) → LeavesOpen t (mid ++ u ∷ more) → IsInside t mid u
 inside_seen t mid more u (inl e) = absurd (not_none mid more u e)
 inside_seen t mid more u (inr d) = (d.0, more ++ d.1, d.2, subst (λ (l : Tokens). IsElement l d.2 []) (append_assoc mid (u ∷ more) d.1) d.3)
 
 -- a module that goes on after `t` has `t` too deep, where each does that has the same tokens after it as far as they count
-module _ (less : Tokens) (t : Meaning × Place) (mid tail rest : Tokens) (u : Meaning × Place) (free : ℕ) (items : List Item) (inside : StandsInside t mid u → ⊥) (d : Derives free (less ++ t ∷ (mid ++ u ∷ tail)) items) (few : free ≤ suc (length tail)) where
+module _ (less : Tokens) (t : Meaning × Place) (mid tail rest : Tokens) (u : Meaning × Place) (free : ℕ) (items : List Item) (inside : IsInside t mid u → ⊥) (d : Derives free (less ++ t ∷ (mid ++ u ∷ tail)) items) (few : free ≤ suc (length tail)) where
   at_same : NoneKeeps less t mid (u ∷ rest) → ⊥
   at_same none = none tail items (derives_freer d (length mid + suc (length tail)) (omega arith))
 
@@ -147,14 +147,14 @@ begun_on f g r mid more t e k none b =
     let d : Derives (length b.0) ((f ++ t ∷ mid) ++ b.0) b.1 = subst (λ (l : Tokens). Derives (length b.0) (l ++ b.0) b.1) e b.2 in
     subst (NoneGoesOn f) k none (length b.0) (mid ++ b.0) b.1 (subst (λ (l : Tokens). Derives (length b.0) l b.1) (append_assoc f (t ∷ mid) b.0) d)
 
--- where a fault is
-abbrev stands : (ts : Tokens) (h : Halt) → FirstFault ts h → (prefix : Tokens) × (ts ≡ prefix ++ left_at h) × Begun prefix
-stands ts (Unexpected rest) h = (h.0, h.1, h.2)
-stands ts (TooDeep []) h = absurd h
-stands ts (TooDeep (t ∷ rest)) h = (h.0, h.1, h.2)
+-- what is before a fault
+abbrev prefix_before : (ts : Tokens) (h : Halt) → FirstFault ts h → (prefix : Tokens) × (ts ≡ prefix ++ left_at h) × Begun prefix
+prefix_before ts (Unexpected rest) h = (h.0, h.1, h.2)
+prefix_before ts (TooDeep []) h = absurd h
+prefix_before ts (TooDeep (t ∷ rest)) h = (h.0, h.1, h.2)
 
 -- no token is too deep inside an array's `"<" elem ">"`
-none_inside : (f g mid : Tokens) (t u : Meaning × Place) → g ≡ f ++ t ∷ mid → StandsInside t mid u → GoesTooDeep g u → ⊥
+none_inside : (f g mid : Tokens) (t u : Meaning × Place) → g ≡ f ++ t ∷ mid → IsInside t mid u → GoesTooDeep g u → ⊥
 none_inside f g mid t u e s deep =
     let tail = deep.0 in
     let is : g ++ u ∷ tail ≡ f ++ t ∷ (mid ++ u ∷ tail) = ap (λ (l : Tokens). l ++ u ∷ tail) e ∙ append_assoc f (t ∷ mid) (u ∷ tail) in
@@ -162,7 +162,7 @@ none_inside f g mid t u e s deep =
 
 -- no fault is where it is open what a token begins that is too deep
 module _ (f mid : Tokens) (t : Meaning × Place) (deep : GoesTooDeep f t) where
-  open_deep : (ts : Tokens) (k : Halt) → (fault : FirstFault ts k) → (stands ts k fault).0 ≡ f ++ t ∷ mid → LeavesOpen t mid → ((u : Meaning × Place) (rest : Tokens) → left_at k ≡ u ∷ rest → GoesTooDeep (stands ts k fault).0 u → ⊥) → ⊥
+  open_deep : (ts : Tokens) (k : Halt) → (fault : FirstFault ts k) → (prefix_before ts k fault).0 ≡ f ++ t ∷ mid → LeavesOpen t mid → ((u : Meaning × Place) (rest : Tokens) → left_at k ≡ u ∷ rest → GoesTooDeep (prefix_before ts k fault).0 u → ⊥) → ⊥
   open_deep ts (Unexpected rest) fault e leaves cut = fault.4 f t mid e leaves deep
   open_deep ts (TooDeep []) fault e leaves cut = fault
   open_deep ts (TooDeep (u ∷ rest)) fault e leaves cut = cut u rest refl fault.3
@@ -180,9 +180,9 @@ module _ (f mid : Tokens) (t : Meaning × Place) (deep : GoesTooDeep f t) where
       let n : length (after ++ b.0) ≡ length after + length b.0 = length-append after b.0 in
       none (after ++ b.0) b.1 (derives_freer (subst (λ (l : Tokens). Derives (length b.0) l b.1) is b.2) (length seen + suc (length (after ++ b.0))) (omega arith))
 
-  after_deep : (ts : Tokens) (k : Halt) → (fault : FirstFault ts k) → (stands ts k fault).0 ≡ f ++ t ∷ mid → NoneWithin f t (mid ++ left_at k) → ⊥
+  after_deep : (ts : Tokens) (k : Halt) → (fault : FirstFault ts k) → (prefix_before ts k fault).0 ≡ f ++ t ∷ mid → NoneWithin f t (mid ++ left_at k) → ⊥
   after_deep ts k fault e w =
-      let g = (stands ts k fault).0 in
+      let g = (prefix_before ts k fault).0 in
       by_place ⊥ (left_at k) w.1
       (λ l. let q = split mid (left_at k) w.0 w.1 w.2 l in
       let leaves : LeavesOpen t (mid ++ q.0 ∷ q.1) = subst (λ (l : Tokens). LeavesOpen t l) q.2 w.3 in
@@ -193,17 +193,17 @@ module _ (f mid : Tokens) (t : Meaning × Place) (deep : GoesTooDeep f t) where
       open_deep ts k fault e (subst (λ (l : Tokens). LeavesOpen t l) (sym q.0) w.3) (λ u rest is cut.
       none_next g u rest e (subst (λ (l : Tokens). NoneKeeps f t l (u ∷ rest)) (sym q.0) (subst (λ (l : Tokens). NoneKeeps f t w.0 l) (sym q.1 ∙ is) w.4)) cut))
       (λ l. let q = split w.0 w.1 mid (left_at k) (sym w.2) l in
-      none_begun g w.0 q.1 (left_at k) q.0 e q.2 (subst (λ (l : Tokens). NoneKeeps f t w.0 l) q.3 w.4) (stands ts k fault).2)
+      none_begun g w.0 q.1 (left_at k) q.0 e q.2 (subst (λ (l : Tokens). NoneKeeps f t w.0 l) q.3 w.4) (prefix_before ts k fault).2)
 
 -- of two faults none is the later
 later : (ts : Tokens) (h k : Halt) → FirstFault ts h → FirstFault ts k → length (left_at k) < length (left_at h) → ⊥
 later ts (Unexpected rest) k h fault l =
-    let p = stands ts k fault in
+    let p = prefix_before ts k fault in
     let q = split h.0 rest p.0 (left_at k) (sym h.1 ∙ p.1) l in
     begun_on h.0 p.0 rest q.1 (q.1 ++ left_at k) q.0 q.2 q.3 h.3 p.2
 later ts (TooDeep []) k h fault l = h
 later ts (TooDeep (t ∷ rest)) k h fault l =
-    let p = stands ts k fault in
+    let p = prefix_before ts k fault in
     let q = split h.0 (t ∷ rest) p.0 (left_at k) (sym h.1 ∙ p.1) l in
     let e : t ≡ q.0 = beginnings t q.0 rest (q.1 ++ left_at k) q.3 in
     after_deep h.0 q.1 t h.3 ts k fault (q.2 ∙ ap (λ (a : Meaning × Place). h.0 ++ a ∷ q.1) (sym e)) (subst (NoneWithin h.0 t) (tails t q.0 rest (q.1 ++ left_at k) q.3) h.4)

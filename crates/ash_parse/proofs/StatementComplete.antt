@@ -8,7 +8,7 @@ use Rattle.ash_tree.specs.declared.tree.statements.Label.{Label}
 use Rattle.ash_tree.specs.Tree.{Expr, Vars, Stmt, Empty, Declare, Evaluate, Block, If, IfElse, While, DoWhile, For, Switch, Break, Continue, Return, Case, labelled, place_of, place_of_type, stmts, cases}
 use Rattle.ash_tree.specs.Tokens.{Tokens}
 use Rattle.ash_tree.specs.Operators.{primitive, unary_operator}
-use Rattle.ash_tree.specs.Expressions.{DEPTH}
+use Rattle.ash_tree.specs.Expressions.{max_depth}
 use Rattle.ash_tree.specs.Statements.{IsFirst, no_first, first_vars, first_expr, IsTest, no_test, test, IsResult, no_result, value, IsLabel, case, case_minus, default, IsNested, nested, AreLocals, no_locals, local_vars, local_stmt, IsBlock, block, IsStmt, inner_block, empty, evaluate, if_only, if_else, while, do_while, for, switch, break, continue, return, AreCases, no_cases, more_cases, AreStmts, no_stmts, more_stmts}
 use Rattle.ash_parse.specs.declared.stmt_tokens.StmtToken.{StmtToken}
 use Rattle.ash_parse.specs.declared.stmt_tokens.StmtToken.TheVariants as stmt_tokens
@@ -226,18 +226,18 @@ module _ (below : Below) where
   unfolding evaluate_with
   evaluate_again p from left e h = then_reads _ h (rw (expect_again signs.Semicolon p left) whole)
 
-first_read : {free depth : ℕ} {from left : Tokens} {s : Stmt} → IsFirst free depth from s left → (room : ℕ) → depth + room ≡ DEPTH → Reads Stmt free (first_with (below_at room) from) (s, left)
+first_read : {free depth : ℕ} {from left : Tokens} {s : Stmt} → IsFirst free depth from s left → (room : ℕ) → depth + room ≡ max_depth → Reads Stmt free (first_with (below_at room) from) (s, left)
 first_read (no_first {p = p} {left = left}) room d = as_read (no_first_again (below_at room) p left)
 first_read (first_vars {p = p} {from = from} {left = left} {v = v} a) room d = first_vars_again (below_at room) from left v (vars_begin a) (vars_vars a) (declared_read p left a room d)
 first_read (first_expr {p = p} {from = from} {left = left} {e = e} a) room d =
     let s = semicolon_ends p left in
     first_expr_again (below_at room) p from left e (inner_begins a) (inner_no_vars a (ends_follow ((sign signs.Semicolon, p) ∷ left) s)) (inner_read a room d s)
 
-test_read : {free depth : ℕ} {from left : Tokens} {c : Option Expr} → IsTest free depth from c left → (room : ℕ) → depth + room ≡ DEPTH → Reads (Option Expr) free (test_with (below_at room) from) (c, left)
+test_read : {free depth : ℕ} {from left : Tokens} {c : Option Expr} → IsTest free depth from c left → (room : ℕ) → depth + room ≡ max_depth → Reads (Option Expr) free (test_with (below_at room) from) (c, left)
 test_read (no_test {p = p} {left = left}) room d = as_read (no_test_again (below_at room) p left)
 test_read (test {p = p} {from = from} {left = left} {e = e} a) room d = test_again (below_at room) p from left e (inner_begins a) (inner_read a room d (semicolon_ends p left))
 
-result_read : {free depth : ℕ} {from left : Tokens} {c : Option Expr} → IsResult free depth from c left → (room : ℕ) → depth + room ≡ DEPTH → Reads (Option Expr) free (return_value_with (below_at room) from) (c, left)
+result_read : {free depth : ℕ} {from left : Tokens} {c : Option Expr} → IsResult free depth from c left → (room : ℕ) → depth + room ≡ max_depth → Reads (Option Expr) free (return_value_with (below_at room) from) (c, left)
 result_read (no_result {p = p} {left = left}) room d = as_read (no_result_again (below_at room) p left)
 result_read (value {p = p} {from = from} {left = left} {e = e} a) room d = result_again (below_at room) p from left e (assign_begins a) (assign_read a room d (semicolon_ends p left))
 
@@ -329,11 +329,11 @@ stmt_limit_cuts free ((m, p) ∷ ts) left s b l = rw b (cut {free = free} {more 
 mutual
   unfolding nested_at stmt_with stmt_token
 
-  pub nested_read : {free depth : ℕ} {from left : Tokens} {s : Stmt} → IsNested free depth from s left → (room : ℕ) → depth + room ≡ DEPTH → Closes s left → Reads Stmt free (nested_at room from) (s, left)
+  pub nested_read : {free depth : ℕ} {from left : Tokens} {s : Stmt} → IsNested free depth from s left → (room : ℕ) → depth + room ≡ max_depth → Closes s left → Reads Stmt free (nested_at room from) (s, left)
   nested_read (nested {free = free} {depth = depth} {from = from} {left = left} {s = s} w a) zero d c = stmt_limit_cuts free from left s (stmt_begins a) (past free (length from) depth w d)
   nested_read (nested w a) (suc room) d c = stmt_read a room (omega arith) c
 
-  locals_read : {free depth : ℕ} {from left : Tokens} {ss : List Stmt} → AreLocals free depth from ss left → (room : ℕ) → depth + room ≡ DEPTH → goes_on left ≡ false → NoElse left → ReadsAll free goes_on (local_with (below_at room) (nested_at room)) from ss left
+  locals_read : {free depth : ℕ} {from left : Tokens} {ss : List Stmt} → AreLocals free depth from ss left → (room : ℕ) → depth + room ≡ max_depth → goes_on left ≡ false → NoElse left → ReadsAll free goes_on (local_with (below_at room) (nested_at room)) from ss left
   locals_read (no_locals {left = left}) room d g n = none_again _ goes_on (local_with (below_at room) (nested_at room)) left g
   locals_read (local_vars {p = p} {from = from} {after = after} {left = left} {v = v} {ss = ss} a b) room d g n =
       let l = vars_shorter a in
@@ -341,12 +341,12 @@ mutual
   locals_read (local_stmt {from = from} {after = after} {left = left} {s = s} {ss = ss} a b) room d g n =
       one_again _ goes_on (local_with (below_at room) (nested_at room)) from after left s ss (goes_further from (nested_begins a)).0 (local_stmt_again (below_at room) (nested_at room) from after s (nested_no_vars a) (nested_read a room d (closes_where s after (locals_no_else b n)))) (nested_shorter a) (locals_read b room d g n)
 
-  pub block_read : {free depth : ℕ} {from left : Tokens} {ss : List Stmt} → IsBlock free depth from ss left → (room : ℕ) → depth + room ≡ DEPTH → Reads (List Stmt) free (block_with (below_at room) (nested_at room) from) (ss, left)
+  pub block_read : {free depth : ℕ} {from left : Tokens} {ss : List Stmt} → IsBlock free depth from ss left → (room : ℕ) → depth + room ≡ max_depth → Reads (List Stmt) free (block_with (below_at room) (nested_at room) from) (ss, left)
   block_read (block {p = p} {q = q} {from = from} {left = left} {ss = ss} a) room d =
       let e = brace_rests q left in
       block_again (below_at room) (nested_at room) p q from left ss (locals_read a room d e.0 e.2)
 
-  stmt_read : {free depth : ℕ} {from left : Tokens} {s : Stmt} → IsStmt free depth from s left → (room : ℕ) → depth + room ≡ DEPTH → Closes s left → Reads Stmt free (stmt_with (below_at room) (nested_at room) from) (s, left)
+  stmt_read : {free depth : ℕ} {from left : Tokens} {s : Stmt} → IsStmt free depth from s left → (room : ℕ) → depth + room ≡ max_depth → Closes s left → Reads Stmt free (stmt_with (below_at room) (nested_at room) from) (s, left)
   stmt_read (inner_block {p = p} {from = from} {left = left} {ss = ss} b) room d k = inner_block_again (below_at room) (nested_at room) p from left ss (block_read b room d)
   stmt_read empty room d k = whole
   stmt_read (evaluate {p = p} {from = from} {left = left} {e = e} a) room d k = rw (alone_again (below_at room) (nested_at room) from (assign_begins a)) (evaluate_again (below_at room) p from left e (assign_read a room d (semicolon_ends p left)))
@@ -368,13 +368,13 @@ mutual
   stmt_read (continue {p = p} {q = q} {left = left}) room d k = as_read (continue_again (below_at room) (nested_at room) p q left)
   stmt_read (return {p = p} {from = from} {left = left} {c = c} a) room d k = return_again (below_at room) (nested_at room) p from left c (result_read a room d)
 
-  cases_read : {free depth : ℕ} {from left : Tokens} {cs : List Case} → AreCases free depth from cs left → (room : ℕ) → depth + room ≡ DEPTH → goes_on left ≡ false → Rests left → ReadsAll free goes_on (case_with (nested_at room)) from cs left
+  cases_read : {free depth : ℕ} {from left : Tokens} {cs : List Case} → AreCases free depth from cs left → (room : ℕ) → depth + room ≡ max_depth → goes_on left ≡ false → Rests left → ReadsAll free goes_on (case_with (nested_at room)) from cs left
   cases_read (no_cases {left = left}) room d g n = none_again _ goes_on (case_with (nested_at room)) left g
   cases_read (more_cases {p = p} {from = from} {first = first} {after = after} {left = left} {l = l} {ss = ss} {cs = cs} i a b) room d g n =
       let x = label_shorter i in let y = stmts_shorter a in
       one_again _ goes_on (case_with (nested_at room)) from after left (labelled p l (stmts ss)) cs (label_begins i).0 (case_again (below_at room) (nested_at room) from first after p l ss (label_read i) (stmts_read a room d (cases_rest b n))) (omega arith) (cases_read b room d g n)
 
-  stmts_read : {free depth : ℕ} {from left : Tokens} {ss : List Stmt} → AreStmts free depth from ss left → (room : ℕ) → depth + room ≡ DEPTH → Rests left → ReadsAll free case_goes_on (nested_at room) from ss left
+  stmts_read : {free depth : ℕ} {from left : Tokens} {ss : List Stmt} → AreStmts free depth from ss left → (room : ℕ) → depth + room ≡ max_depth → Rests left → ReadsAll free case_goes_on (nested_at room) from ss left
   stmts_read (no_stmts {left = left}) room d n = none_again _ case_goes_on (nested_at room) left n.0
   stmts_read (more_stmts {from = from} {after = after} {left = left} {s = s} {ss = ss} a b) room d n =
       one_again _ case_goes_on (nested_at room) from after left s ss (goes_further from (nested_begins a)).1 (nested_read a room d (closes_where s after (stmts_no_else b n.1))) (nested_shorter a) (stmts_read b room d n)

@@ -11,7 +11,7 @@ use Rattle.ash_tree.specs.declared.tree.operators.AssignOp.{AssignOp}
 use Rattle.ash_tree.specs.Tree.{Named, Prim, Expr, Suffix, Operation, Default, Value, Arguments, Decl, Vars}
 use Rattle.ash_tree.specs.Tokens.{Tokens}
 use Rattle.ash_tree.specs.Operators.{primitive, unary_operator, binary_operator, assign_operator}
-use Rattle.ash_tree.specs.Expressions.{DEPTH, IsInner, inner, args, IsAssign, no_assign, assign, IsCond, no_branch, branches, IsBinary, operand, joined, AreLinks, no_links, more_links, IsUnary, applied, postfix, AreSuffixes, no_suffixes, more_suffixes, field, method, index, increment, decrement, IsPrimary, numeral, yes, no, null, this, named, call, brackets, convert, new_array, cast}
+use Rattle.ash_tree.specs.Expressions.{max_depth, IsInner, inner, args, IsAssign, no_assign, assign, IsCond, no_branch, branches, IsBinary, operand, joined, AreLinks, no_links, more_links, IsUnary, applied, postfix, AreSuffixes, no_suffixes, more_suffixes, field, method, index, increment, decrement, IsPrimary, numeral, yes, no, null, this, named, call, brackets, convert, new_array, cast}
 use Rattle.ash_tree.specs.Types.{IsType, prim, object, handle, array, array_handle}
 use Rattle.ash_tree.specs.Statements.{IsDecl, bare, valued, made, AreMoreDecls, no_more_decls, more_decls, IsVars, vars}
 use Rattle.ash_parse.specs.Signs.{is_sign, same_sign}
@@ -216,21 +216,21 @@ module _ (below : Below) where
   unfolding vars_statement_with
   declared_again p from left v h = then_reads _ h (rw (expect_again signs.Semicolon p left) whole)
 
-decl_read : {free depth : ℕ} {from left : Tokens} {d : Decl} → IsDecl free depth from d left → (room : ℕ) → depth + room ≡ DEPTH → Next left → Reads Decl free (decl_with (below_at room) from) (d, left)
+decl_read : {free depth : ℕ} {from left : Tokens} {d : Decl} → IsDecl free depth from d left → (room : ℕ) → depth + room ≡ max_depth → Next left → Reads Decl free (decl_with (below_at room) from) (d, left)
 decl_read (bare {p = p} {text = text} {left = left}) room d s = as_read (bare_again (below_at room) p text left s)
 decl_read (valued {p = p} {q = q} {text = text} {from = from} {left = left} {e = e} a) room d s = valued_again (below_at room) p q text from left e (assign_read a room d (next_ends left s).0)
 decl_read (made {p = p} {text = text} {left = left} {es = es} (args {p = o} {q = c} {from = from} a)) room d s = made_again (below_at room) p o text from left es (args_read (args {p = o} {q = c} {from = from} {left = left} {es = es} a) room d)
 
-more_decls_read : {free depth : ℕ} {from left : Tokens} {ds : List Decl} → AreMoreDecls free depth from ds left → (room : ℕ) → depth + room ≡ DEPTH → Done left → ReadsAll free (next_is_sign signs.Comma) (next_decl_with (below_at room)) from ds left
+more_decls_read : {free depth : ℕ} {from left : Tokens} {ds : List Decl} → AreMoreDecls free depth from ds left → (room : ℕ) → depth + room ≡ max_depth → Done left → ReadsAll free (next_is_sign signs.Comma) (next_decl_with (below_at room)) from ds left
 more_decls_read (no_more_decls {left = left}) room d s = none_again _ (next_is_sign signs.Comma) (next_decl_with (below_at room)) left (done_next left s).1
 more_decls_read (more_decls {p = p} {from = from} {after = after} {left = left} {d = x} {ds = xs} a b) room d s =
     let l = decl_shorter a in
     one_again _ (next_is_sign signs.Comma) (next_decl_with (below_at room)) ((sign signs.Comma, p) ∷ from) after left x xs (next_is_sign-again signs.Comma p from) (next_decl_again (below_at room) p from after x (decl_read a room d (decls_next b s))) (omega arith) (more_decls_read b room d s)
 
-vars_read : {free depth : ℕ} {from left : Tokens} {v : Vars} → IsVars free depth from v left → (room : ℕ) → depth + room ≡ DEPTH → Done left → Reads Vars free (vars_with (below_at room) from) (v, left)
+vars_read : {free depth : ℕ} {from left : Tokens} {v : Vars} → IsVars free depth from v left → (room : ℕ) → depth + room ≡ max_depth → Done left → Reads Vars free (vars_with (below_at room) from) (v, left)
 vars_read (vars {from = from} {first = first} {after = after} {left = left} {t = t} {d = x} {ds = xs} a b c) room d s =
     vars_again (below_at room) from first after left t x xs (type_read a (decl_begins b).1) (decl_read b room d (decls_next c s)) (more_decls_read c room d s)
 
 -- variables with their ";"
-pub declared_read : {free depth : ℕ} {from : Tokens} {v : Vars} (p : Place) (left : Tokens) → IsVars free depth from v ((sign signs.Semicolon, p) ∷ left) → (room : ℕ) → depth + room ≡ DEPTH → Reads Vars free (vars_statement_with (below_at room) from) (v, left)
+pub declared_read : {free depth : ℕ} {from : Tokens} {v : Vars} (p : Place) (left : Tokens) → IsVars free depth from v ((sign signs.Semicolon, p) ∷ left) → (room : ℕ) → depth + room ≡ max_depth → Reads Vars free (vars_statement_with (below_at room) from) (v, left)
 declared_read {from = from} {v = v} p left a room d = declared_again (below_at room) p from left v (vars_read a room d (next_is_sign-again signs.Semicolon p left))

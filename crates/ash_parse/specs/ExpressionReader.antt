@@ -14,7 +14,7 @@ use Rattle.ash_tree.specs.Tree.{Expr, Number, Truth, Null, This, Name, Call, Bra
 use Rattle.ash_tree.specs.Tree.{Conditional, Assign, Suffix, Field, Method, Index, Increment, Decrement, Operation}
 use Rattle.ash_tree.specs.Tree.{place_of, exprs, chained, suffixed}
 use Rattle.ash_tree.specs.Tokens.{Tokens}
-use Rattle.ash_tree.specs.Operators.{primitive, unary_operator, binary_operator, level, LEVELS, assign_operator}
+use Rattle.ash_tree.specs.Operators.{primitive, unary_operator, binary_operator, level, max_level, assign_operator}
 use Rattle.ash_parse.specs.Signs.{is_sign}
 use Rattle.ash_parse.specs.Readers.{ParseResult, Unexpected, TooDeep, ◌>>=◌, put, loop, next_is, next_is_sign}
 use Rattle.ash_parse.specs.Readers.{expect_at, name_at}
@@ -227,7 +227,7 @@ assign_from below e ((m, p) ∷ ts) =
     if is_sign signs.Question m then branches_with below e ts else assign_by below e (assign_operator m) m p ts
 
 unfoldable pub assign_with : Below → Tokens → ParseResult Expr
-assign_with below ts = binary_with below LEVELS ts >>= λ e. assign_from below e.0 e.1
+assign_with below ts = binary_with below max_level ts >>= λ e. assign_from below e.0 e.1
 
 -- with room for so many deeper phrases, one in the other
 unfoldable pub below_at : ℕ → Below

@@ -8,7 +8,7 @@ use Rattle.ash_tree.specs.Tree.{Named, TypeName, Vars, Stmt, Parameter, Function
 use Rattle.ash_tree.specs.Tree.{AField, AConstructor, Class, InterfaceMethod, Interface, Item, AClass, AnInterface}
 use Rattle.ash_tree.specs.Tree.{AFunction, AGlobal, Declaration, ASignature, AProperty}
 use Rattle.ash_tree.specs.Tokens.{Tokens}
-use Rattle.ash_tree.specs.Expressions.{DEPTH}
+use Rattle.ash_tree.specs.Expressions.{max_depth}
 use Rattle.ash_parse.specs.Signs.{is_sign}
 use Rattle.ash_parse.specs.Readers.{ParseResult, Unexpected, ◌>>=◌, put, loop, next_is_sign, expect_at, name_at}
 use Rattle.ash_parse.specs.TypeReader.{is_array, after_element}
@@ -63,7 +63,7 @@ parameters_at ts = do
 
 -- the body of a function
 unfoldable pub body_at : Tokens → ParseResult (List Stmt)
-body_at ts = block_with (below_at DEPTH) (nested_at DEPTH) ts
+body_at ts = block_with (below_at max_depth) (nested_at max_depth) ts
 
 unfoldable pub function_at : Tokens → ParseResult Function
 function_at ts = do
@@ -75,7 +75,7 @@ function_at ts = do
 
 -- vars ";" outside functions
 unfoldable pub globals_at : Tokens → ParseResult Vars
-globals_at ts = vars_statement_with (below_at DEPTH) ts
+globals_at ts = vars_statement_with (below_at max_depth) ts
 
 -- all but the first token
 unfoldable pub without_first : Tokens → Tokens

@@ -3,23 +3,26 @@
 //! Each function reads the phrase that is written above it. `room` is how many phrases that count for the depth may
 //! still begin, one in the other.
 
-ghost use Rattle.std.specs.Prelude.{◌≡◌, ◌<◌, ◌≤◌, map, true, false, IfOk};
+ghost use Rattle.std.specs.Prelude.{◌<◌, ◌≤◌, map, true, false};
 ghost use Rattle.ash_tree.specs.Tokens.{tokens_of};
-ghost use Rattle.ash_tree.specs.Tree.{Conditional};
 ghost use Rattle.ash_tree.specs.Views.{expr_of, suffix_of, operation_of};
 ghost use Rattle.ash_parse.specs.Readers.{ParsesAs, Fails, put};
 ghost use Rattle.ash_parse.specs.ExpressionReader as reader;
 
 use crate::cursor::{expect, is_sign, name, next_is_sign, place};
-use crate::data_types::{element, target};
 use crate::error::{ParseError, ParseResult};
 use crate::operators::{
     MAX_LEVEL, assign_operator, begins_expression, begins_link, begins_suffix, next_level,
-    operator, primitive, unary_operator,
+    operator, unary_operator,
 };
-use ash_lex::{ReservedWord, Sign, Token, TokenKind};
-use ash_tree::{Expr, ExprKind, Link, Place, Suffix, nodes};
-use std::alloc::{AllocError, Global};
+use ash_lex::{Sign, Token, TokenKind};
+use ash_tree::{Expr, Link, Suffix, nodes};
+use conditionals::branches;
+use primaries::primary;
+use std::alloc::Global;
+
+mod conditionals;
+mod primaries;
 
 /// How deep a token is at most.
 pub const MAX_DEPTH: u32 = 64;
@@ -83,84 +86,6 @@ pub fn assign(alloc: Global, room: u32, tokens: &[Token]) -> ParseResult<'_, Exp
     };
     let (value, rest) = nested_assign(alloc, room, after)?;
     Ok((nodes::assign(alloc, target, operator, value)?, rest))
-}
-
-/// A condition with the first of its branches, and where they are.
-struct FirstBranch {
-    place: Place,
-    condition: Box<Expr>,
-    then: Box<Expr>,
-}
-
-/// `assign ":" assign`, after the `?`
-#[cycle(expressions)]
-#[tactic(auto, unfolding(crate::specs::ExpressionReader::branches_with, crate::specs::ExpressionReader::other_branch_with), using(ash_tree::proofs::Rows::place_is))]
-fn branches<'a>(
-    alloc: Global,
-    room: u32,
-    condition: Expr,
-    tokens: &'a [Token],
-) -> ParseResult<'a, Expr>
-    requires { room ≤ MAX_DEPTH }
-    ensures { ParsesAs expr_of result
-        (reader.branches_with (reader.below_at room) (expr_of condition) (tokens_of tokens.now)) }
-{
-    let place = condition.place;
-    let condition = boxed(alloc, condition)?;
-    let (then, rest) = nested_assign(alloc, room, tokens)?;
-    let then = boxed(alloc, then)?;
-    let first = FirstBranch {
-        place,
-        condition,
-        then,
-    };
-    other_branch(alloc, room, first, rest)
-}
-
-/// `":" assign`, after the first branch
-#[cycle(expressions)]
-#[tactic(auto, unfolding(crate::specs::ExpressionReader::other_branch_with))]
-fn other_branch<'a>(
-    alloc: Global,
-    room: u32,
-    first: FirstBranch,
-    tokens: &'a [Token],
-) -> ParseResult<'a, Expr>
-    requires { room ≤ MAX_DEPTH }
-    ensures { ParsesAs expr_of result
-        (reader.other_branch_with (reader.below_at room) first.place (expr_of first.condition.value)
-        (expr_of first.then.value) (tokens_of tokens.now)) }
-{
-    let FirstBranch {
-        place,
-        condition,
-        then,
-    } = first;
-    let (_, rest) = expect(Sign::Colon, tokens)?;
-    let (otherwise, rest) = nested_assign(alloc, room, rest)?;
-    let otherwise = boxed(alloc, otherwise)?;
-    Ok((conditional(place, condition, then, otherwise), rest))
-}
-
-/// A condition with both its branches.
-fn conditional(place: Place, condition: Box<Expr>, then: Box<Expr>, otherwise: Box<Expr>) -> Expr
-    ensures { expr_of result ≡ Conditional place (expr_of condition.value) (expr_of then.value)
-        (expr_of otherwise.value) }
-{
-    Expr {
-        place,
-        kind: ExprKind::Conditional {
-            condition,
-            then,
-            otherwise,
-        },
-    }
-}
-
-fn boxed(alloc: Global, operand: Expr) -> Result<Box<Expr>, AllocError>
-    ensures { IfOk result (λ b. b.value ≡ operand) }
-{
-    Ok(Box::new(alloc, operand)?)
 }
 
 /// What operators up to this level join, from the tightest level on; without a level a `unary`.
@@ -318,90 +243,6 @@ fn index(alloc: Global, room: u32, tokens: &[Token]) -> ParseResult<'_, Suffix>
     let (value, rest) = nested_assign(alloc, room, tokens)?;
     let (_, rest) = expect(Sign::CloseBracket, rest)?;
     Ok((nodes::index(alloc, value)?, rest))
-}
-
-/// `NUMBER | "true" | "false" | "null" | "this" | NAME [args] | "(" assign ")" | prim "(" assign ")"`, or
-/// `"array" "<" elem ">" args | "cast" "<" NAME ">" "(" assign ")"`
-#[cycle(expressions)]
-#[tactic(auto, unfolding(crate::specs::ExpressionReader::primary_with))]
-fn primary(alloc: Global, room: u32, tokens: &[Token]) -> ParseResult<'_, Expr>
-    requires { room ≤ MAX_DEPTH }
-    ensures { ParsesAs expr_of result
-        (reader.primary_with (reader.below_at room) (tokens_of tokens.now)) }
-{
-    let Some((next, rest)) = tokens.split_first() else {
-        return Err(ParseError::Unexpected(tokens));
-    };
-    let place = place(next);
-    if let Some(to) = primitive(&next.kind) {
-        let (value, rest) = bracketed(alloc, room, rest)?;
-        return Ok((nodes::convert(alloc, place, to, value)?, rest));
-    }
-    let kind = match &next.kind {
-        TokenKind::Name(text) => return name_or_call(alloc, room, place, text.as_str(), rest),
-        TokenKind::Sign(Sign::OpenParenthesis) => {
-            let (inner, rest) = bracketed(alloc, room, tokens)?;
-            return Ok((nodes::brackets(alloc, place, inner)?, rest));
-        }
-        TokenKind::Reserved(ReservedWord::Array) => return new_array(alloc, room, place, rest),
-        TokenKind::Reserved(ReservedWord::Cast) => return cast(alloc, room, place, rest),
-        TokenKind::Number(value) => ExprKind::Number(*value),
-        TokenKind::Reserved(ReservedWord::True) => ExprKind::Bool(true),
-        TokenKind::Reserved(ReservedWord::False) => ExprKind::Bool(false),
-        TokenKind::Reserved(ReservedWord::Null) => ExprKind::Null,
-        TokenKind::Reserved(ReservedWord::This) => ExprKind::This,
-        _ => return Err(ParseError::Unexpected(tokens)),
-    };
-    Ok((Expr { place, kind }, rest))
-}
-
-/// `"<" elem ">" args`, after the word `array`
-#[cycle(expressions)]
-#[tactic(auto, unfolding(crate::specs::ExpressionReader::new_array_with))]
-fn new_array(alloc: Global, room: u32, place: Place, tokens: &[Token]) -> ParseResult<'_, Expr>
-    requires { room ≤ MAX_DEPTH }
-    ensures { ParsesAs expr_of result
-        (reader.new_array_with (reader.below_at room) place (tokens_of tokens.now)) }
-{
-    let (of, rest) = element(alloc, tokens)?;
-    let (arguments, rest) = arguments(alloc, room, rest)?;
-    Ok((nodes::new_array(alloc, place, of, arguments)?, rest))
-}
-
-/// `"<" NAME ">" "(" assign ")"`, after the word `cast`
-#[cycle(expressions)]
-#[tactic(auto, unfolding(crate::specs::ExpressionReader::cast_with))]
-fn cast(alloc: Global, room: u32, place: Place, tokens: &[Token]) -> ParseResult<'_, Expr>
-    requires { room ≤ MAX_DEPTH }
-    ensures { ParsesAs expr_of result
-        (reader.cast_with (reader.below_at room) place (tokens_of tokens.now)) }
-{
-    let (to, rest) = target(alloc, tokens)?;
-    let (value, rest) = bracketed(alloc, room, rest)?;
-    Ok((nodes::cast(alloc, place, to, value)?, rest))
-}
-
-/// `NAME [args]`, after the name
-#[cycle(expressions)]
-#[tactic(auto, unfolding(crate::specs::ExpressionReader::name_or_call_with))]
-fn name_or_call<'a>(
-    alloc: Global,
-    room: u32,
-    place: Place,
-    text: &str,
-    tokens: &'a [Token],
-) -> ParseResult<'a, Expr>
-    requires { room ≤ MAX_DEPTH }
-    ensures { ParsesAs expr_of result
-        (reader.name_or_call_with (reader.below_at room) place text.now (tokens_of tokens.now)) }
-{
-    let name = String::from_str(alloc, text)?;
-    if !next_is_sign(Sign::OpenParenthesis, tokens) {
-        let kind = ExprKind::Name(name);
-        return Ok((Expr { place, kind }, tokens));
-    }
-    let (arguments, rest) = arguments(alloc, room, tokens)?;
-    Ok((nodes::call(place, name, arguments), rest))
 }
 
 /// `"(" assign ")"`

@@ -7,9 +7,9 @@
 //! they have no tree. The tokens are read once, from left to right, and at most ten of them ahead.
 //!
 //! In reading order: `faults`; `parse`, the two calls; then one function for each phrase, with its production above it:
-//! `items`, `classes`, `interfaces`, `functions` and `declarations`; `statements`, `for_heads`, `labels` and
-//! `variables`; `expressions` and `data_types`; then `stmt_tokens` and `operators`, what a token begins; `cursor` and
-//! `error`, the next token and why reading stops.
+//! `items`, `classes`, `interfaces`, `functions` and `declarations`; `statements` with its `loops`, `for_heads`,
+//! `labels` and `variables`; `expressions` with its `conditionals` and `primaries`, and `data_types`; then
+//! `stmt_tokens` and `operators`, what a token begins; `cursor` and `error`, the next token and why reading stops.
 #![tactic(auto)]
 
 mod classes;

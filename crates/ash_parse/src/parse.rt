@@ -12,7 +12,8 @@ ghost use Rattle.ash_parse.specs.FirstFault.{FirstFault, FirstDeclarationFault, 
 ghost use Rattle.ash_parse.specs.Unique.{HasOneModule, HasOneFault, HasTreeOrFault, HasNotBoth};
 ghost use Rattle.ash_parse.specs.Unique.{HasOneDeclaration, HasOneDeclarationFault};
 ghost use Rattle.ash_parse.specs.Unique.{HasDeclarationOrFault, HasNotBothDeclared};
-ghost use Rattle.ash_parse.specs.Faults.{Reports, part_of, end_of, start, IsReported, whole_declaration_at};
+ghost use Rattle.ash_parse.specs.Faults.{Reports, part_of, end_of, start, IsReported};
+ghost use Rattle.ash_parse.specs.Faults.{whole_declaration_at};
 
 use crate::declarations::declaration;
 use crate::error::{ParseError, ParseResult};

@@ -14,14 +14,16 @@ ghost use Rattle.ash_parse.specs.StatementReader as reader;
 use crate::cursor::{expect, next_is_sign, place};
 use crate::data_types::is_vars;
 use crate::error::{ParseError, ParseResult};
-use crate::expressions::{MAX_DEPTH, assign, bracketed, expressions};
-use crate::for_heads::{first, test};
+use crate::expressions::{MAX_DEPTH, assign, bracketed};
 use crate::labels::label;
-use crate::stmt_tokens::{StmtToken, case_goes_on, expect_while, goes_on, limit, stmt_token};
+use crate::stmt_tokens::{StmtToken, case_goes_on, goes_on, limit, stmt_token};
 use crate::variables::vars_statement;
 use ash_lex::{Sign, Token};
 use ash_tree::{Case, Expr, Place, Stmt, StmtKind, nodes};
+use loops::{do_statement, for_statement, while_statement};
 use std::alloc::{AllocError, Global};
+
+mod loops;
 
 /// `[assign] ";"`, after `return`
 #[tactic(auto, unfolding(crate::specs::StatementReader::return_value_with))]
@@ -210,99 +212,6 @@ fn else_branch<'a>(
     }
     let (otherwise, rest) = inner(alloc, room, rest)?;
     Ok((if_else(place, condition, then, otherwise), rest))
-}
-
-/// `"(" assign ")" stmt`, after the `while`
-#[cycle(statements)]
-#[tactic(auto, unfolding(crate::specs::StatementReader::while_with))]
-fn while_statement<'a>(
-    alloc: Global,
-    room: u32,
-    place: Place,
-    tokens: &'a [Token],
-) -> ParseResult<'a, Stmt>
-    requires { room ≤ MAX_DEPTH }
-    ensures { ParsesAs stmt_of result
-        (reader.while_with (exprs.below_at room) (reader.nested_at room) place
-        (tokens_of tokens.now)) }
-{
-    let (condition, rest) = bracketed(alloc, room, tokens)?;
-    let (body, rest) = inner(alloc, room, rest)?;
-    let repeated = Stmt {
-        place,
-        kind: StmtKind::While { condition, body },
-    };
-    Ok((repeated, rest))
-}
-
-/// `stmt "while" "(" assign ")" ";"`, after the `do`
-#[cycle(statements)]
-#[tactic(auto, unfolding(crate::specs::StatementReader::do_with, crate::specs::StatementReader::do_end_with))]
-fn do_statement<'a>(
-    alloc: Global,
-    room: u32,
-    place: Place,
-    tokens: &'a [Token],
-) -> ParseResult<'a, Stmt>
-    requires { room ≤ MAX_DEPTH }
-    ensures { ParsesAs stmt_of result
-        (reader.do_with (exprs.below_at room) (reader.nested_at room) place
-        (tokens_of tokens.now)) }
-{
-    let (body, rest) = inner(alloc, room, tokens)?;
-    do_end(alloc, room, place, body, rest)
-}
-
-/// `"while" "(" assign ")" ";"`, after the body of a `do`
-#[tactic(auto, unfolding(crate::specs::StatementReader::do_end_with))]
-fn do_end<'a>(
-    alloc: Global,
-    room: u32,
-    place: Place,
-    body: Box<Stmt>,
-    tokens: &'a [Token],
-) -> ParseResult<'a, Stmt>
-    requires { room ≤ MAX_DEPTH }
-    ensures { ParsesAs stmt_of result
-        (reader.do_end_with (exprs.below_at room) place (stmt_of body.value)
-        (tokens_of tokens.now)) }
-{
-    let (_, rest) = expect_while(tokens)?;
-    let (condition, rest) = bracketed(alloc, room, rest)?;
-    let (_, rest) = expect(Sign::Semicolon, rest)?;
-    let repeated = Stmt {
-        place,
-        kind: StmtKind::DoWhile { body, condition },
-    };
-    Ok((repeated, rest))
-}
-
-/// `"(" [ vars | assign ] ";" [assign] ";" [ assign {"," assign} ] ")" stmt`, after the `for`
-#[cycle(statements)]
-#[tactic(auto, unfolding(crate::specs::StatementReader::for_with))]
-fn for_statement<'a>(
-    alloc: Global,
-    room: u32,
-    place: Place,
-    tokens: &'a [Token],
-) -> ParseResult<'a, Stmt>
-    requires { room ≤ MAX_DEPTH }
-    ensures { ParsesAs stmt_of result
-        (reader.for_with (exprs.below_at room) (reader.nested_at room) place
-        (tokens_of tokens.now)) }
-{
-    let (_, rest) = expect(Sign::OpenParenthesis, tokens)?;
-    let (first, rest) = first(alloc, room, rest)?;
-    let (condition, rest) = test(alloc, room, rest)?;
-    let (steps, rest) = expressions(alloc, room, rest)?;
-    let (_, rest) = expect(Sign::CloseParenthesis, rest)?;
-    let (body, rest) = nested(alloc, room, rest)?;
-    let head = nodes::ForHead {
-        first,
-        condition,
-        steps,
-    };
-    Ok((nodes::for_loop(alloc, place, head, body)?, rest))
 }
 
 /// `"(" assign ")" "{" { label { stmt } } "}"`, after the `switch`

@@ -10,5 +10,5 @@ pub mod Lives
 pub mod Numbers
 pub mod Departures
 pub mod Fits
-pub mod Taken
+pub mod AnswersInOrder
 pub mod Endings

@@ -10,9 +10,9 @@ pub record FreeBox : Type 0 where
   pub kind : ℕ
   pub state : List ℕ
 
--- What a run finds and what it leaves: the globals of the module that runs, the objects that something outside holds, as
--- the globals of other modules do, the objects, which know their modules by name, the last number that was given to one,
--- the states of the services, the pool, what hosts will still answer, and the events so far.
+-- What a run finds and what it leaves: the globals of the module that runs, the objects that something outside holds,
+-- as the globals of other modules do, the objects, which know their modules by name, the last number that was given to
+-- one, the states of the services, the pool, what hosts will still answer, and the events so far.
 pub record World : Type 0 where
   pub globals : List Word
   pub outside : List ℕ
@@ -23,8 +23,8 @@ pub record World : Type 0 where
   pub answers : List HostRecord
   pub events : List Event
 
--- The frame of a function that runs: its name, the line that it has come to, the object whose method it is, or null, its
--- locals by slot, and the objects that it holds until the full expression ends.
+-- The frame of a function that runs: its name, the line that it has come to, the object whose method it is, or null,
+-- its locals by slot, and the objects that it holds until the full expression ends.
 pub record Frame : Type 0 where
   pub function : List ℕ
   pub line : ℕ

@@ -1,4 +1,5 @@
--- What may be relied on of hosts: each answer is allowed by the object that gave it, and no state is longer than it may be.
+-- What may be relied on of hosts: each answer is allowed by the object that gave it, and no state is longer than it may
+-- be.
 use Rattle.std.specs.Prelude.{◌≡◌, ◌≤◌, ℕ, List, length, Some}
 use Rattle.std.specs.List.{AllByRecursion}
 use Rattle.ash_host.specs.declared.event.Target.{Target}
@@ -8,8 +9,8 @@ use Rattle.ash_host.specs.Objects.{Plain, Script, Array, Host, object_at}
 use Rattle.ash_host.specs.Records.{HostRecord, IsValidRecord}
 use Rattle.ash_phrases.specs.Activity.{FreeBox, World}
 
--- Who answers: the object of each number, and the service of each place. No call changes what an object allows, so that one
--- is enough for all its life.
+-- Who answers: the object of each number, and the service of each place. No call changes what an object allows, so that
+-- one is enough for all its life.
 abbrev pub Answerers : Type 0 → Type 0
 Answerers B = Target → B
 
@@ -26,9 +27,11 @@ ObjectFits (Script owner place fields) = Unit {0}
 ObjectFits (Array of elements) = Unit {0}
 ObjectFits (Host kind state) = StateFits state
 
--- What hosts answer is valid, and the states of host objects, of services and of free boxes are no longer than they may be.
+-- What hosts answer is valid, and the states of host objects, of services and of free boxes are no longer than they may
+-- be.
 pub record HostsFit {B : Type 0} (host : Ghosts B) (answerers : Answerers B) (world : World) : Type 0 where
   pub answers : AreValid host answerers world.answers
-  pub objects : (number : ℕ) (object : Plain (List ℕ)) → object_at number world.objects ≡ Some object → ObjectFits object
+  pub objects : (number : ℕ) (object : Plain (List ℕ)) → object_at number world.objects ≡ Some object
+      → ObjectFits object
   pub services : AllByRecursion StateFits world.services
   pub pool : AllByRecursion (λ (box : FreeBox). StateFits box.state) world.pool

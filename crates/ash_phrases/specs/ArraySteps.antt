@@ -1,9 +1,11 @@
 -- Steps on arrays.
-use Rattle.std.specs.Prelude.{ℕ, ◌-◌, ◌==◌, nat_lt, nat_le, List, [], ◌∷◌, ◌++◌, length, take, drop, replicate, unsigned_abs}
+use Rattle.std.specs.Prelude.{ℕ, ◌-◌, ◌==◌, nat_lt, nat_le, List, [], ◌∷◌, ◌++◌}
+use Rattle.std.specs.Prelude.{length, take, drop, replicate, unsigned_abs}
 use Rattle.std.specs.Option.{option_map_or}
 use Rattle.ash_host.specs.declared.word.Word.{Word}
 use Rattle.ash_host.specs.declared.word.Word.TheVariants as words
-use Rattle.ash_host.specs.Objects.{Plain, Array, Element, Bools, Ints, Uints, Int64s, Uint64s, Handles, Hosts, object_at}
+use Rattle.ash_host.specs.Objects.{Plain, Array, Element, Bools, Ints, Uints, Int64s}
+use Rattle.ash_host.specs.Objects.{Uint64s, Handles, Hosts, object_at}
 use Rattle.ash_host.specs.Limits.{max_elements}
 use Rattle.ash_integers.specs.Integers.{number_of}
 use Rattle.ash_integers.specs.declared.int_type.IntType.TheVariants as ints
@@ -32,7 +34,9 @@ natural_of word = unsigned_abs (number_of word)
 
 -- the index of an element that is there
 abbrev pub index_in : ℕ → Word → Run ℕ
-index_in number index = words_at number >>= (λ all. demand (nat_lt (natural_of index) (length all)) IndexOutOfBounds >> give (natural_of index))
+index_in number index =
+    words_at number >>= (λ all. demand (nat_lt (natural_of index) (length all)) IndexOutOfBounds
+    >> give (natural_of index))
 
 -- construction
 

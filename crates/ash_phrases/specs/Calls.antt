@@ -19,7 +19,8 @@ use Rattle.ash_phrases.specs.ObjectSteps.{demand_number, make}
 use Rattle.ash_phrases.specs.HostSteps.{invoke_host, construct_host}
 use Rattle.ash_phrases.specs.ArraySteps.{construct_array, invoke_array}
 use Rattle.ash_phrases.specs.Operators.{zero_of}
-use Rattle.ash_phrases.specs.Classes.{Program, class_of, implemented, is_object_of, element_of, Callee, FreeFunction, Method as ClassMethod, Construction, Entry, entry_of, place_of_class}
+use Rattle.ash_phrases.specs.Classes.{Program, class_of, implemented, is_object_of, element_of, Callee, FreeFunction}
+use Rattle.ash_phrases.specs.Classes.{Method as ClassMethod, Construction, Entry, entry_of, place_of_class}
 
 -- What phrases call: the module that runs, and what a frame does after the tick of its entry.
 pub record Calls : Type 0 where
@@ -57,7 +58,8 @@ construct calls class args =
 
 -- the class of an object
 abbrev pub class_at : Calls → ℕ → Run ℕ
-class_at calls number = look (λ activity. option_and_then (class_of calls.program) (object_at number activity.world.objects)) >>= found
+class_at calls number =
+    look (λ activity. option_and_then (class_of calls.program) (object_at number activity.world.objects)) >>= found
 
 -- Calls the object's own method for one that an interface declares.
 abbrev pub call_through : Calls → ℕ → ℕ → ℕ → List Word → Run Word
@@ -69,7 +71,8 @@ call_through calls interface method number args =
 -- of any object
 
 abbrev pub invoke : Calls → Method → ℕ → List Word → Run Word
-invoke calls (methods.Script class method result) number args = call calls (ClassMethod class method) (words.Object number) args
+invoke calls (methods.Script class method result) number args =
+    call calls (ClassMethod class method) (words.Object number) args
 invoke calls (methods.Interface interface method result) number args = call_through calls interface method number args
 invoke calls (methods.Host id result) number args = invoke_host (host_targets.Object number) id result args
 invoke calls (methods.Array method) number args = invoke_array method number args
@@ -83,7 +86,8 @@ call_target calls (targets.Array of) args = construct_array (element_of calls.pr
 
 -- A cast gives the object where it is of the type, and else null.
 abbrev pub cast_at : Program → ObjectType → ℕ → World → Word
-cast_at p to number world = if option_map_or (is_object_of p to) (object_at number world.objects) false then words.Object number else words.Null
+cast_at p to number world =
+    if option_map_or (is_object_of p to) (object_at number world.objects) false then words.Object number else words.Null
 
 abbrev pub cast : Program → ObjectType → Word → Run Word
 cast p to (words.Object number) = look (λ activity. cast_at p to number activity.world)

@@ -1,6 +1,7 @@
--- What the names of a module mean while it runs: the places of classes in its source, what class an object is of, and what
--- is entered by a call.
-use Rattle.std.specs.Prelude.{ℕ, ◌+◌, ◌==◌, Bool, false, if◌then◌else◌, nat_eq, nat_le, List, [], ◌++◌, codes, map, length, find, position, count_by, slice_get, Option, None, option_map, is_some}
+-- What the names of a module mean while it runs: the places of classes in its source, what class an object is of, and
+-- what is entered by a call.
+use Rattle.std.specs.Prelude.{ℕ, ◌+◌, ◌==◌, Bool, false, if◌then◌else◌, nat_eq, nat_le, List, [], ◌++◌, codes, map}
+use Rattle.std.specs.Prelude.{length, find, position, count_by, slice_get, Option, None, option_map, is_some}
 use Rattle.std.specs.List.{range_with_len}
 use Rattle.std.specs.Option.{option_map_or, option_and_then}
 use Rattle.std.specs.Str.{bytes_eq}
@@ -24,7 +25,8 @@ abbrev pub place_of_class : Module → ℕ → ℕ
 place_of_class m class = class + count_by (λ (i : Interface). nat_le i.classes_before class) m.interfaces
 
 abbrev pub place_of_interface : Module → ℕ → ℕ
-place_of_interface m interface = interface + option_map_or (λ (i : Interface). i.classes_before) (slice_get m.interfaces interface) 0
+place_of_interface m interface =
+    interface + option_map_or (λ (i : Interface). i.classes_before) (slice_get m.interfaces interface) 0
 
 abbrev pub places_of_classes : Module → List ℕ
 places_of_classes m = map (place_of_class m) (range_with_len 0 (length m.classes))
@@ -33,16 +35,20 @@ places_of_classes m = map (place_of_class m) (range_with_len 0 (length m.classes
 
 -- the class of an object, by its place among those of the module; none where it is of no class of this module
 abbrev pub class_of : Program → Plain (List ℕ) → Option ℕ
-class_of p (Script owner place fields) = if bytes_eq owner p.name then position (nat_eq place) (places_of_classes p.tree) else None
+class_of p (Script owner place fields) =
+    if bytes_eq owner p.name then position (nat_eq place) (places_of_classes p.tree) else None
 class_of p _ = None
 
 -- how a class implements an interface, where it lists it
 abbrev pub implementation_in : Module → ℕ → ℕ → Option Implementation
-implementation_in m class interface = option_and_then (λ (c : Class). find (λ (i : Implementation). nat_eq i.interface interface) c.interfaces) (slice_get m.classes class)
+implementation_in m class interface =
+    option_and_then (λ (c : Class). find (λ (i : Implementation). nat_eq i.interface interface) c.interfaces)
+    (slice_get m.classes class)
 
 -- the method that a class has for a method of an interface
 abbrev pub implemented : Module → ℕ → ℕ → ℕ → Option ℕ
-implemented m interface method class = option_and_then (λ (i : Implementation). slice_get i.methods method) (implementation_in m class interface)
+implemented m interface method class =
+    option_and_then (λ (i : Implementation). slice_get i.methods method) (implementation_in m class interface)
 
 -- whether the objects of a class are of this type
 abbrev pub is_class_of : Module → ObjectType → ℕ → Bool
@@ -92,9 +98,13 @@ entry_of_method c f = record { name = dotted c.name f.name; line = f.line; field
 
 -- A construction is entered at the line of the constructor's name, or of the class's where no constructor is written.
 abbrev pub entry_of_construction : Class → Entry
-entry_of_construction c = record { name = dotted c.name c.name; line = option_map_or (λ (f : Function). f.line) c.constructor c.line; fields = c.fields; body = option_map_or (λ (f : Function). f.body) c.constructor no_stmt }
+entry_of_construction c =
+    record { name = dotted c.name c.name; line = option_map_or (λ (f : Function). f.line) c.constructor c.line;
+    fields = c.fields; body = option_map_or (λ (f : Function). f.body) c.constructor no_stmt }
 
 abbrev pub entry_of : Module → Callee → Option Entry
 entry_of m (FreeFunction place) = option_map entry_of_function (slice_get m.functions place)
-entry_of m (Method class place) = option_and_then (λ (c : Class). option_map (entry_of_method c) (slice_get c.methods place)) (slice_get m.classes class)
+entry_of m (Method class place) =
+    option_and_then (λ (c : Class). option_map (entry_of_method c) (slice_get c.methods place))
+    (slice_get m.classes class)
 entry_of m (Construction class) = option_map entry_of_construction (slice_get m.classes class)

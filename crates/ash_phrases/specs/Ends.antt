@@ -1,7 +1,7 @@
 -- How a run of a function, or of the initializers of a module, ends, and what it leaves.
 --
--- A phrase makes progress: it is done, or ended by an interrupt, in some activity. The progress of a whole run has an end, as
--- a reply shows it, and the end with the world that is left is its outcome.
+-- A phrase makes progress: it is done, or ended by an interrupt, in some activity. The progress of a whole run has an
+-- end, as a reply shows it, and the end with the world that is left is its outcome.
 use Rattle.std.specs.Prelude.{ℕ, List, [], codes, map, Option, Some, None}
 use Rattle.std.specs.Option.{option_and_then}
 use Rattle.ash_host.specs.declared.word.Word.{Word}
@@ -17,7 +17,8 @@ use Rattle.ash_phrases.specs.Operators.{zero_of}
 use Rattle.ash_phrases.specs.Classes.{Program, FreeFunction, Entry, entry_of}
 use Rattle.ash_phrases.specs.Functions.{initialize_module, body, calls_within}
 
--- how a run ends: at its end, or by an exception or a refused tick, with the function and the line of the innermost frame
+-- how a run ends: at its end, or by an exception or a refused tick, with the function and the line of the innermost
+-- frame
 pub data End : Type 0 where
   Finished : (value : Option Word) → End
   Threw : (exception : Exception) (function : List ℕ) (line : ℕ) → End
@@ -52,7 +53,8 @@ call_entry program args budget world e =
     outcome_of ((tick e.line >> body program budget e) (begun world budget (frame_of e.name e.line Null args)))
 
 abbrev pub call_function : Program → ℕ → List Word → ℕ → World → Option Outcome
-call_function program place args budget world = option_and_then (call_entry program args budget world) (entry_of program.tree (FreeFunction place))
+call_function program place args budget world =
+    option_and_then (call_entry program args budget world) (entry_of program.tree (FreeFunction place))
 
 -- a module that is loaded: its globals are zero, `false` or null, then the initializers run in one frame without a tick
 -- of its own
@@ -65,4 +67,5 @@ init_frame = frame_of (codes "(init)") 1 Null []
 
 abbrev pub load_module : Program → ℕ → World → Option Outcome
 load_module program budget world =
-    outcome_of ((initialize_module (calls_within program budget) 0 (program.tree).globals >> give None) (begun (with_globals program.tree world) budget init_frame))
+    outcome_of ((initialize_module (calls_within program budget) 0 (program.tree).globals >> give None)
+    (begun (with_globals program.tree world) budget init_frame))

@@ -68,10 +68,12 @@ abbrev pub evaluate : Expr → Stmt
 evaluate e = Evaluate 1 e
 
 abbrev pub function : List ℕ → Option VarType → List VarType → List Stmt → Function
-function name result parameters body = record { name = name; line = 1; result = result; parameters = parameters; body = stmts body }
+function name result parameters body =
+    record { name = name; line = 1; result = result; parameters = parameters; body = stmts body }
 
 abbrev pub module_of : List Class → List Variables → List Function → Module
-module_of classes globals functions = record { interfaces = []; classes = classes; functions = functions; globals = globals }
+module_of classes globals functions =
+    record { interfaces = []; classes = classes; functions = functions; globals = globals }
 
 abbrev pub program : Module → Program
 program m = record { name = codes "m"; tree = m }
@@ -79,7 +81,8 @@ program m = record { name = codes "m"; tree = m }
 -- worlds, and what is compared of an outcome
 
 abbrev pub empty_world : World
-empty_world = record { globals = []; outside = []; objects = []; last = 0; services = []; pool = []; answers = []; events = [] }
+empty_world = record { globals = []; outside = []; objects = []; last = 0; services = []; pool = []; answers = [];
+    events = [] }
 
 abbrev pub end_of : Option Outcome → Option End
 end_of outcome = option_map (λ (o : Outcome). o.end) outcome
@@ -133,16 +136,20 @@ loaded p = option_map_or (λ (o : Outcome). o.world) (load_module p 9 empty_worl
 -- counters, which have kind 1
 
 abbrev pub with_counters : ℕ → List HostRecord → World → World
-with_counters count answers world = record world { pool = replicate count (record { kind = 1; state = int_bytes (pos 0) }); answers = answers }
+with_counters count answers world =
+    record world { pool = replicate count (record { kind = 1; state = int_bytes (pos 0) }); answers = answers }
 
 abbrev pub counters : ℕ → List HostRecord → World
 counters count answers = with_counters count answers empty_world
 
 abbrev pub started : ℕ → ℕ → HostRecord
-started object n = record { target = host_targets.Object object; call = calls.Start (words.Int (pos n) ∷ []); before = int_bytes (pos 0); answer = Nothing; after = int_bytes (pos n) }
+started object n = record { target = host_targets.Object object; call = calls.Start (words.Int (pos n) ∷ []);
+    before = int_bytes (pos 0); answer = Nothing; after = int_bytes (pos n) }
 
 abbrev pub added : ℕ → ℕ → ℕ → ℕ → HostRecord
-added object n old sum = record { target = host_targets.Object object; call = calls.Invoke 1 (words.Int (pos n) ∷ []); before = int_bytes (pos old); answer = Value (words.Int (pos sum)); after = int_bytes (pos sum) }
+added object n old sum =
+    record { target = host_targets.Object object; call = calls.Invoke 1 (words.Int (pos n) ∷ []);
+    before = int_bytes (pos old); answer = Value (words.Int (pos sum)); after = int_bytes (pos sum) }
 
 abbrev pub counter : VarType
 counter = handle_of_kind 1
@@ -159,10 +166,13 @@ counter_value object = Held object (members.Property 1 int)
 -- the service that adds: its functions 1, which adds, and 2, which gives the total
 
 abbrev pub tallied_by : ℕ → ℕ → ℕ → HostRecord
-tallied_by n old sum = record { target = host_targets.Service 0; call = calls.Invoke 1 (words.Int (pos n) ∷ []); before = int_bytes (pos old); answer = Value (words.Int (pos sum)); after = int_bytes (pos sum) }
+tallied_by n old sum =
+    record { target = host_targets.Service 0; call = calls.Invoke 1 (words.Int (pos n) ∷ []);
+    before = int_bytes (pos old); answer = Value (words.Int (pos sum)); after = int_bytes (pos sum) }
 
 abbrev pub totalled : ℕ → HostRecord
-totalled n = record { target = host_targets.Service 0; call = calls.Invoke 2 []; before = int_bytes (pos n); answer = Value (words.Int (pos n)); after = int_bytes (pos n) }
+totalled n = record { target = host_targets.Service 0; call = calls.Invoke 2 []; before = int_bytes (pos n);
+    answer = Value (words.Int (pos n)); after = int_bytes (pos n) }
 
 abbrev pub tally : ℕ → Expr
 tally n = Call (targets.Service 0 1 (Some int)) (int ∷ []) (exprs (number n ∷ []))

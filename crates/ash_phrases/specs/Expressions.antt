@@ -7,7 +7,9 @@ use Rattle.ash_typed.specs.declared.tree.operations.Calculation.{Calculation}
 use Rattle.ash_typed.specs.declared.tree.operations.IncrementOp.{IncrementOp}
 use Rattle.ash_typed.specs.declared.tree.operations.Lazy.{Lazy}
 use Rattle.ash_typed.specs.declared.tree.operations.Lazy.TheVariants as lazies
-use Rattle.ash_typed.specs.Tree.{Expr, Number, Truth, Null, This, Read, Invoke, Convert, Cast, Alter, Operate, Lazily, Conditional, Assign, Update, Count, Call, Place, Stored, Held, Indexed, Exprs, no_expr, expr}
+use Rattle.ash_typed.specs.Tree.{Expr, Number, Truth, Null, This, Read, Invoke, Convert, Cast}
+use Rattle.ash_typed.specs.Tree.{Alter, Operate, Lazily, Conditional, Assign, Update, Count}
+use Rattle.ash_typed.specs.Tree.{Call, Place, Stored, Held, Indexed, Exprs, no_expr, expr}
 use Rattle.ash_phrases.specs.Runs.{Run, give, ◌>>=◌, ◌>>◌}
 use Rattle.ash_phrases.specs.Releases.{give_held}
 use Rattle.ash_phrases.specs.ObjectSteps.{object_of}

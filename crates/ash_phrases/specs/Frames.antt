@@ -28,19 +28,24 @@ max_frames = 256
 
 -- Raises an exception in the frame that runs, unless fewer than the most frames are there, `(init)` among them.
 abbrev pub demand_frame : Run (Unit {0})
-demand_frame = look (λ activity. nat_lt (length activity.callers + 1) max_frames) >>= (λ room. demand room StackOverflow)
+demand_frame = look (λ activity. nat_lt (length activity.callers + 1) max_frames)
+    >>= (λ room. demand room StackOverflow)
 
 abbrev pub frame_of : List ℕ → ℕ → Word → List Word → Frame
-frame_of function line this locals = record { function = function; line = line; this = this; locals = locals; held = [] }
+frame_of function line this locals =
+    record { function = function; line = line; this = this; locals = locals; held = [] }
 
 -- Enters a frame.
 abbrev pub enter : List ℕ → ℕ → Word → List Word → Run (Unit {0})
-enter function line this locals = change (λ activity. record activity { frame = frame_of function line this locals; callers = activity.frame ∷ activity.callers })
+enter function line this locals =
+    change (λ activity. record activity { frame = frame_of function line this locals;
+    callers = activity.frame ∷ activity.callers })
 
 -- the activity of the nearest caller, which holds the result; the first frame of a run has none, and stays
 abbrev pub back_in : List Frame → Word → Activity → Activity
 back_in [] result activity = activity
-back_in (caller ∷ callers) result activity = record activity { frame = holding (handles (result ∷ [])) caller; callers = callers }
+back_in (caller ∷ callers) result activity =
+    record activity { frame = holding (handles (result ∷ [])) caller; callers = callers }
 
 -- Leaves a frame: the result passes into what the caller holds, then the whole frame is given up.
 unfoldable pub leave : Word → Run Word

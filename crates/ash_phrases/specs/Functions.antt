@@ -1,4 +1,5 @@
--- What frames do after the tick of their entry: constructions and bodies of functions, and the initializers of a module.
+-- What frames do after the tick of their entry: constructions and bodies of functions, and the initializers of a
+-- module.
 use Rattle.std.specs.Prelude.{ℕ, zero, suc, ◌+◌, List, [], ◌∷◌, length, Option, None}
 use Rattle.std.specs.Option.{option_map_or}
 use Rattle.ash_host.specs.declared.word.Word.{Word}
@@ -52,8 +53,8 @@ abbrev pub run_entry : Calls → ℕ → Entry → Run (Option Word)
 run_entry calls depth e =
     initialize_fields calls 0 e.fields >> statements calls depth e.body >>= (λ flow. give (value_of flow))
 
--- What a frame does, where calls go so deep at most, and loops take so many turns. Each call takes a tick first, so that
--- what has no more ticks than that never comes to the end of it: the depth is no part of the meaning.
+-- What a frame does, where calls go so deep at most, and loops take so many turns. Each call takes a tick first, so
+-- that what has no more ticks than that never comes to the end of it: the depth is no part of the meaning.
 abbrev pub body : Program → ℕ → Entry → Run (Option Word)
 body program zero e = out_of_ticks
 body program (suc depth) e = run_entry (record { program = program; body = body program depth }) depth e

@@ -1,5 +1,6 @@
 -- Calls of host objects and services, what is made of their answers, and boxes that are drawn from the pool.
-use Rattle.std.specs.Prelude.{ℕ, Bool, true, false, if◌then◌else◌, nat_eq, List, [], ◌∷◌, ◌++◌, remove, position, slice_get, slice_set, Option, Some, None}
+use Rattle.std.specs.Prelude.{ℕ, Bool, true, false, if◌then◌else◌, nat_eq, List, [], ◌∷◌, ◌++◌}
+use Rattle.std.specs.Prelude.{remove, position, slice_get, slice_set, Option, Some, None}
 use Rattle.std.specs.Option.{option_and_then}
 use Rattle.ash_host.specs.declared.word.Word.{Word}
 use Rattle.ash_host.specs.declared.word.Word.TheVariants as words
@@ -50,7 +51,8 @@ with_state (targets.Service index) state world = record world { services = slice
 
 -- the next of what hosts answer, with those after it, where it is of this call at the state that the target has
 abbrev pub next_answer : Target → HostCall → World → Option (HostRecord × List HostRecord)
-next_answer target call world = option_and_then (λ before. next_record target call before world.answers) (state_of target world)
+next_answer target call world =
+    option_and_then (λ before. next_record target call before world.answers) (state_of target world)
 
 -- what the host did stays, whatever it answers
 abbrev pub after_answer : Target → HostRecord → List HostRecord → World → World
@@ -85,7 +87,8 @@ accept result answers.NoMemory = no_step
 
 -- Runs a method of a host object, or a function of a service.
 abbrev pub invoke_host : Target → ℕ → Option VarType → List Word → Run Word
-invoke_host target id result args = call_host target (Invoke id args) >>= (λ answer. note (Called target id) >> accept result answer)
+invoke_host target id result args =
+    call_host target (Invoke id args) >>= (λ answer. note (Called target id) >> accept result answer)
 
 -- properties
 

@@ -19,7 +19,8 @@ use Rattle.ash_phrases.specs.Calls.{call, construct}
 use Rattle.ash_phrases.specs.Expressions.{expression, location, arguments}
 use Rattle.ash_phrases.specs.Statements.{Flow, statement}
 use Rattle.ash_phrases.specs.Functions.{body, calls_within, initialize_module}
-use Rattle.ash_phrases.specs.Ends.{End, Finished, Threw, Aborted, Outcome, begun, with_globals, init_frame, call_function, load_module}
+use Rattle.ash_phrases.specs.Ends.{End, Finished, Threw, Aborted, Outcome, begun, with_globals}
+use Rattle.ash_phrases.specs.Ends.{init_frame, call_function, load_module}
 pub use Rattle.ash_phrases.specs.Traces.{after_release}
 use Rattle.ash_phrases.specs.Traces.{Trace}
 use Rattle.ash_phrases.specs.Numbers.{numbering_of, Lives}
@@ -45,16 +46,16 @@ entered program depth e = tick e.line >> body program depth e
 abbrev pub initialized : Program → ℕ → Run (Unit {0})
 initialized program depth = initialize_module (calls_within program depth) 0 (program.tree).globals
 
--- The depth is no part of the meaning: from any depth at least the ticks left, a function, and the initializers of a module,
--- come to the same; and no ticks are gained.
+-- The depth is no part of the meaning: from any depth at least the ticks left, a function, and the initializers of a
+-- module, come to the same; and no ticks are gained.
 pub record DepthIsNoPart (program : Program) (ticks depth other : ℕ) : Type 0 where
   pub functions : (e : Entry) → AreSame ticks (entered program depth e) (entered program other e)
   pub initializers : AreSame ticks (initialized program depth) (initialized program other)
 
 -- release points
 
--- What a release point does to the world: what can be reached from the roots stays as it was, and all else goes; the host
--- objects among it are the last events, by ascending number; nothing else changes.
+-- What a release point does to the world: what can be reached from the roots stays as it was, and all else goes; the
+-- host objects among it are the last events, by ascending number; nothing else changes.
 pub record IsReleased (frames : List Frame) (old new : World) : Type 0 where
   pub swept : Swept (Contains (roots frames old)) old.objects new.objects (hosts_gone old.objects new.objects)
   pub events : new.events ≡ old.events ++ map Dropped (hosts_gone old.objects new.objects)
@@ -102,16 +103,18 @@ TakesTicks ticks _ = Unit {0}
 -- No phrase gains ticks, and a call or a construction that comes to its end has taken one at least.
 pub record TicksFall (program : Program) (depth : ℕ) : Type 0 where
   pub phrases : OfPhrases program depth (GainsNone depth)
-  pub calls : (callee : Callee) (this : Word) (args : List Word) (activity : Activity) → activity.ticks ≤ depth → TakesTicks activity.ticks (call (calls_within program depth) callee this args activity)
-  pub constructions : (class : ℕ) (args : List Word) (activity : Activity) → activity.ticks ≤ depth → TakesTicks activity.ticks (construct (calls_within program depth) class args activity)
+  pub calls : (callee : Callee) (this : Word) (args : List Word) (activity : Activity) → activity.ticks ≤ depth
+      → TakesTicks activity.ticks (call (calls_within program depth) callee this args activity)
+  pub constructions : (class : ℕ) (args : List Word) (activity : Activity) → activity.ticks ≤ depth
+      → TakesTicks activity.ticks (construct (calls_within program depth) class args activity)
 
 -- more ticks
 
 abbrev pub with_more : ℕ → Activity → Activity
 with_more more activity = record activity { ticks = activity.ticks + more }
 
--- What a phrase comes to from one activity, and from the same with more ticks: the same, with more ticks left; but where it
--- ended since no tick was left, it goes on from where it ended.
+-- What a phrase comes to from one activity, and from the same with more ticks: the same, with more ticks left; but
+-- where it ended since no tick was left, it goes on from where it ended.
 abbrev pub GoesOn : {A : Type 0} → ℕ → Progress A → Progress A → Type 0
 GoesOn more (Done value activity) other = other ≡ Done value (with_more more activity)
 GoesOn more (Ended (Raising exception) activity) other = other ≡ Ended (Raising exception) (with_more more activity)
@@ -119,7 +122,9 @@ GoesOn more (Ended OutOfTicks activity) other = ComesBy (with_more more activity
 GoesOn more NoStep other = other ≡ NoStep
 
 abbrev pub GoesOnWithMore : ℕ → (A : Type 0) → Run A → Type 0
-GoesOnWithMore depth A run = (more : ℕ) (activity : Activity) → activity.ticks + more ≤ depth → GoesOn more (run activity) (run (with_more more activity))
+GoesOnWithMore depth A run =
+    (more : ℕ) (activity : Activity) → activity.ticks + more ≤ depth
+    → GoesOn more (run activity) (run (with_more more activity))
 
 abbrev pub MoreTicksGoOn : Program → ℕ → Type 0
 MoreTicksGoOn program depth = OfPhrases program depth (GoesOnWithMore depth)
@@ -132,8 +137,8 @@ EndsIn last (Finished value) = Unit {0}
 EndsIn last (Threw exception function line) = (last.frame.function ≡ function) × (last.frame.line ≡ line)
 EndsIn last (Aborted function line) = (last.frame.function ≡ function) × (last.frame.line ≡ line) × (last.ticks ≡ 0)
 
--- However a run ends, what it did stays: the world that it leaves is that of its last activity, to which a trace leads, but
--- for the release point of all frames.
+-- However a run ends, what it did stays: the world that it leaves is that of its last activity, to which a trace leads,
+-- but for the release point of all frames.
 pub record EffectsStay (first : Activity) (outcome : Outcome) : Type 0 where
   pub last : Activity
   pub trace : Trace first last
@@ -150,8 +155,12 @@ first_of_load program budget world = begun (with_globals program.tree world) bud
 
 -- Whatever a call or a load comes to within a budget, its effects stay.
 pub record RunsStay (program : Program) (budget : ℕ) (world : World) : Type 0 where
-  pub calls : (place : ℕ) (args : List Word) (outcome : Outcome) → call_function program place args budget world ≡ Some outcome → (e : Entry) × (entry_of program.tree (FreeFunction place) ≡ Some e) × EffectsStay (first_of_call e args budget world) outcome
-  pub loads : (outcome : Outcome) → load_module program budget world ≡ Some outcome → EffectsStay (first_of_load program budget world) outcome
+  pub calls : (place : ℕ) (args : List Word) (outcome : Outcome)
+      → call_function program place args budget world ≡ Some outcome
+      → (e : Entry) × (entry_of program.tree (FreeFunction place) ≡ Some e)
+      × EffectsStay (first_of_call e args budget world) outcome
+  pub loads : (outcome : Outcome) → load_module program budget world ≡ Some outcome
+      → EffectsStay (first_of_load program budget world) outcome
 
 abbrev pub IsNotAborted : End → Type 0
 IsNotAborted (Aborted function line) = ⊥
@@ -167,13 +176,19 @@ pub record IsOnTheWay (more : ℕ) (outcome later : Outcome) : Type 0 where
   pub released : IsReleased [] last.world outcome.world
   pub goes_on : EffectsStay (with_more more last) later
 
--- A run that is not aborted comes to the same within any larger budget; one that is aborted is on the way to what it comes
--- to there.
+-- A run that is not aborted comes to the same within any larger budget; one that is aborted is on the way to what it
+-- comes to there.
 pub record BudgetSuffices (program : Program) (budget more : ℕ) (world : World) : Type 0 where
-  pub calls : (place : ℕ) (args : List Word) (outcome : Outcome) → call_function program place args budget world ≡ Some outcome → IsNotAborted outcome.end → call_function program place args (budget + more) world ≡ Some outcome
-  pub loads : (outcome : Outcome) → load_module program budget world ≡ Some outcome → IsNotAborted outcome.end → load_module program (budget + more) world ≡ Some outcome
-  pub aborted_calls : (place : ℕ) (args : List Word) (outcome later : Outcome) → call_function program place args budget world ≡ Some outcome → IsAborted outcome.end → call_function program place args (budget + more) world ≡ Some later → IsOnTheWay more outcome later
-  pub aborted_loads : (outcome later : Outcome) → load_module program budget world ≡ Some outcome → IsAborted outcome.end → load_module program (budget + more) world ≡ Some later → IsOnTheWay more outcome later
+  pub calls : (place : ℕ) (args : List Word) (outcome : Outcome)
+      → call_function program place args budget world ≡ Some outcome → IsNotAborted outcome.end
+      → call_function program place args (budget + more) world ≡ Some outcome
+  pub loads : (outcome : Outcome) → load_module program budget world ≡ Some outcome → IsNotAborted outcome.end
+      → load_module program (budget + more) world ≡ Some outcome
+  pub aborted_calls : (place : ℕ) (args : List Word) (outcome later : Outcome)
+      → call_function program place args budget world ≡ Some outcome → IsAborted outcome.end
+      → call_function program place args (budget + more) world ≡ Some later → IsOnTheWay more outcome later
+  pub aborted_loads : (outcome later : Outcome) → load_module program budget world ≡ Some outcome
+      → IsAborted outcome.end → load_module program (budget + more) world ≡ Some later → IsOnTheWay more outcome later
 
 -- objects and their numbers
 
@@ -193,7 +208,9 @@ pub record WentAtRelease (number : ℕ) (first last : Activity) : Type 0 where
   pub after : Trace (after_release point) last
 
 abbrev pub GoAtReleases : Activity → Activity → Type 0
-GoAtReleases first last = (number : ℕ) → LivesIn first.world.objects number → object_at number last.world.objects ≡ None → WentAtRelease number first last
+GoAtReleases first last =
+    (number : ℕ) → LivesIn first.world.objects number → object_at number last.world.objects ≡ None
+    → WentAtRelease number first last
 
 -- The answers of hosts are taken in order: along a trace the first of them, and the others are left.
 abbrev pub TakesInOrder : World → World → Type 0

@@ -13,7 +13,8 @@ use Rattle.ash_phrases.specs.Releases.{hold}
 use Rattle.ash_phrases.specs.ObjectSteps.{words_in, words_at, put_words}
 use Rattle.ash_phrases.specs.HostSteps.{get_property, set_property}
 
--- a local, a global, a field or an element by the number of its object and its place there, or a property of a host object
+-- a local, a global, a field or an element by the number of its object and its place there, or a property of a host
+-- object
 pub data Location : Type 0 where
   Local : (slot : ℕ) → Location
   Global : (place : ℕ) → Location
@@ -54,5 +55,6 @@ overwrite location store = read location >>= hold >> store
 abbrev pub write : Location → Word → Run (Unit {0})
 write (Local slot) word = overwrite (Local slot) (change (in_frame (with_local slot word)))
 write (Global place) word = overwrite (Global place) (change (in_world (with_global place word)))
-write (Part number place) word = overwrite (Part number place) (words_at number >>= (λ all. put_words number (slice_set all place word)))
+write (Part number place) word =
+    overwrite (Part number place) (words_at number >>= (λ all. put_words number (slice_set all place word)))
 write (Property number id of) word = set_property number id word

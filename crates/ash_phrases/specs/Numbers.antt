@@ -47,7 +47,8 @@ pub record Life (number : ℕ) (old : Numbering) (events : List Event) (new : Nu
   pub drawn_once : draws_of number events ≤ 1
   pub drawn_anew : 0 < draws_of number events → (old.last < number) × (number ≤ new.last)
   pub dropped_once : drops_of number events ≤ 1
-  pub dropped_after : (before after : List Event) → events ≡ before ++ after → drops_of number before ≤ hosts_at number old + draws_of number before
+  pub dropped_after : (before after : List Event) → events ≡ before ++ after
+      → drops_of number before ≤ hosts_at number old + draws_of number before
   pub balance : hosts_at number new + drops_of number events ≡ hosts_at number old + draws_of number events
 
 -- The numbers that were given stay given, and each number has its life.

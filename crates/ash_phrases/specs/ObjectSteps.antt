@@ -18,7 +18,8 @@ object_of _ = raise NullPointerAccess
 
 -- the objects with one of them changed
 abbrev pub change_at : ℕ → (Plain (List ℕ) → Plain (List ℕ)) → Objects (List ℕ) → Objects (List ℕ)
-change_at number how objects = option_map_or (λ object. with_at number (how object) objects) (object_at number objects) objects
+change_at number how objects =
+    option_map_or (λ object. with_at number (how object) objects) (object_at number objects) objects
 
 abbrev pub with_object : ℕ → (Plain (List ℕ) → Plain (List ℕ)) → World → World
 with_object number how world = record world { objects = change_at number how world.objects }

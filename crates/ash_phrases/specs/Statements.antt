@@ -1,5 +1,6 @@
 -- What statements do. A tick comes before each that is no block.
-use Rattle.std.specs.Prelude.{ℕ, zero, suc, Bool, true, false, if◌then◌else◌, ℤ, List, [], ◌∷◌, Option, Some, None, is_none}
+use Rattle.std.specs.Prelude.{ℕ, zero, suc, Bool, true, false, if◌then◌else◌}
+use Rattle.std.specs.Prelude.{ℤ, List, [], ◌∷◌, Option, Some, None, is_none}
 use Rattle.std.specs.Option.{option_map_or}
 use Rattle.std.specs.Ordering.{int_eq}
 use Rattle.ash_host.specs.declared.word.Word.{Word}
@@ -7,7 +8,10 @@ use Rattle.ash_integers.specs.Integers.{number_of}
 use Rattle.ash_typed.specs.declared.tree.statements.Test.{Test}
 use Rattle.ash_typed.specs.declared.tree.statements.Test.TheVariants as tests
 use Rattle.ash_typed.specs.Tree.{Expr}
-use Rattle.ash_typed.specs.StatementTree.{Initialization, Stmt, Empty, Declare, Evaluate, Block, If, Branch, no_branch, branch, Head, no_head, declared_head, evaluated_head, Repeat, For, Loop, repeated, Switch, Break, Continue, Return, Stmts, no_stmt, stmt, Case, labelled, Cases, no_case, next_case}
+use Rattle.ash_typed.specs.StatementTree.{Initialization, Stmt, Empty, Declare, Evaluate, Block, If, Branch}
+use Rattle.ash_typed.specs.StatementTree.{no_branch, branch, Head, no_head, declared_head, evaluated_head}
+use Rattle.ash_typed.specs.StatementTree.{Repeat, For, Loop, repeated, Switch, Break, Continue, Return, Stmts}
+use Rattle.ash_typed.specs.StatementTree.{no_stmt, stmt, Case, labelled, Cases, no_case, next_case}
 use Rattle.ash_typed.specs.SoundStatements.{constant_of}
 use Rattle.ash_phrases.specs.Runs.{Run, give, skip, ◌>>=◌, ◌>>◌, out_of_ticks}
 use Rattle.ash_phrases.specs.Frames.{tick}
@@ -16,8 +20,8 @@ use Rattle.ash_phrases.specs.Operators.{zero_of, is_true}
 use Rattle.ash_phrases.specs.Calls.{Calls}
 use Rattle.ash_phrases.specs.Expressions.{expression}
 
--- How a statement is left: on to the next, out of a loop or a `switch`, to the next turn of a loop, or out of the function,
--- with its value where it has one.
+-- How a statement is left: on to the next, out of a loop or a `switch`, to the next turn of a loop, or out of the
+-- function, with its value where it has one.
 pub data Flow : Type 0 where
   On : Flow
   Broke : Flow
@@ -170,7 +174,8 @@ abbrev mutual
 
   pub loop : Calls → ℕ → ℕ → Loop → Run Flow
   loop calls depth line (repeated test c es s) =
-      repeat test depth (record { line = line; condition = condition_or_true calls c; steps = evaluate_all calls es; body = statement calls depth s })
+      repeat test depth (record { line = line; condition = condition_or_true calls c; steps = evaluate_all calls es;
+      body = statement calls depth s })
 
   pub statements : Calls → ℕ → Stmts → Run Flow
   statements calls depth no_stmt = give On

@@ -39,11 +39,14 @@ number_made (Err fault) = Err fault
 
 -- what an operator on a type makes of each of these pairs
 abbrev pub made_of : Calculator → IntType → List (ℤ × ℤ) → List (Result ℤ DivisionFault)
-made_of operator kind pairs = map (λ (p : ℤ × ℤ). number_made (calculated_by operator kind (word_at kind p.0) (word_at kind p.1))) pairs
+made_of operator kind pairs =
+    map (λ (p : ℤ × ℤ). number_made (calculated_by operator kind (word_at kind p.0) (word_at kind p.1))) pairs
 
--- pairs of numbers of so many bits, signed and unsigned: the extremes, both signs, zero, and a shift by more than the width
+-- pairs of numbers of so many bits, signed and unsigned: the extremes, both signs, zero, and a shift by more than the
+-- width
 abbrev pub signed_pairs : ℕ → List (ℤ × ℤ)
-signed_pairs bits = (least, negsuc 0) ∷ (least, greatest) ∷ (greatest, greatest) ∷ (negsuc 6, pos 2) ∷ (pos 7, negsuc 1) ∷ (pos 5, pos 0) ∷ (pos 1, pos (bits + 1)) ∷ []
+signed_pairs bits = (least, negsuc 0) ∷ (least, greatest) ∷ (greatest, greatest) ∷ (negsuc 6, pos 2) ∷ (pos 7, negsuc 1)
+    ∷ (pos 5, pos 0) ∷ (pos 1, pos (bits + 1)) ∷ []
   where
     least : ℤ
     least = negsuc (2 ^ (bits - 1) - 1)
@@ -52,7 +55,9 @@ signed_pairs bits = (least, negsuc 0) ∷ (least, greatest) ∷ (greatest, great
     greatest = pos (2 ^ (bits - 1) - 1)
 
 abbrev pub unsigned_pairs : ℕ → List (ℤ × ℤ)
-unsigned_pairs bits = (greatest, greatest) ∷ (greatest, pos 2) ∷ (pos 7, pos 2) ∷ (pos 2, pos 7) ∷ (pos 0, greatest) ∷ (pos 5, pos 0) ∷ (pos 1, pos (bits + 1)) ∷ []
+unsigned_pairs bits =
+    (greatest, greatest) ∷ (greatest, pos 2) ∷ (pos 7, pos 2) ∷ (pos 2, pos 7) ∷ (pos 0, greatest) ∷ (pos 5, pos 0)
+    ∷ (pos 1, pos (bits + 1)) ∷ []
   where
     greatest : ℤ
     greatest = pos (2 ^ bits - 1)
@@ -104,7 +109,10 @@ changed_of kind numbers = map over (negated ∷ complemented ∷ raised ∷ lowe
 
 -- what a conversion to a type makes of words of each type
 abbrev pub conversions_to : IntType → List Word
-conversions_to kind = map (converted_to kind) (words.Int (negsuc 2147483647) ∷ words.Int (negsuc 0) ∷ words.Int (pos 2147483647) ∷ words.Uint 4294967295 ∷ words.Int64 (negsuc 9223372036854775807) ∷ words.Int64 (negsuc 2147483648) ∷ words.Int64 (pos 9223372036854775807) ∷ words.Uint64 18446744073709551615 ∷ words.Uint64 4294967303 ∷ [])
+conversions_to kind =
+    map (converted_to kind) (words.Int (negsuc 2147483647) ∷ words.Int (negsuc 0) ∷ words.Int (pos 2147483647)
+    ∷ words.Uint 4294967295 ∷ words.Int64 (negsuc 9223372036854775807) ∷ words.Int64 (negsuc 2147483648)
+    ∷ words.Int64 (pos 9223372036854775807) ∷ words.Uint64 18446744073709551615 ∷ words.Uint64 4294967303 ∷ [])
 
 -- ticks
 
@@ -128,7 +136,18 @@ conversions_to kind = map (converted_to kind) (words.Int (negsuc 2147483647) ∷
 -- `break; }`
 -- `return a; }`
 abbrev pub every_statement : Program
-every_statement = program (module_of [] [] (record { name = f; line = 1; result = Some int; parameters = []; body = stmts (Declare 2 (variable int (Some (number 0)) ∷ variable int (Some (number 1)) ∷ []) ∷ Empty 3 ∷ Evaluate 4 (Assign a (number 5)) ∷ Block 5 (stmts (Evaluate 5 (Assign a (number 6)) ∷ Empty 6 ∷ [])) ∷ If 7 (compare comparators.Equal a 6) (Evaluate 8 (Assign b (number 2))) (branch (Evaluate 9 (Assign b (number 3)))) ∷ Repeat 10 (repeated tests.First (Some (compare comparators.Less a 8)) [] (more 11 a)) ∷ Repeat 12 (repeated tests.Last (Some (compare comparators.Less a 9)) [] (more 13 a)) ∷ For 14 (declared_head (variable int (Some (number 0)) ∷ [])) (repeated tests.First (Some (compare comparators.Less i 1)) (Count i ints.Int steps.IncrementAfter ∷ []) (more 15 b)) ∷ Switch 16 ints.Int (Read a) (cases (labelled (labels.Case 9) (stmts (Break 17 ∷ [])) ∷ [])) ∷ Return 18 (Some (Read a)) ∷ []) } ∷ []))
+every_statement = program (module_of [] [] (record
+    { name = f; line = 1; result = Some int; parameters = [];
+    body = stmts (Declare 2 (variable int (Some (number 0)) ∷ variable int (Some (number 1)) ∷ []) ∷ Empty 3
+    ∷ Evaluate 4 (Assign a (number 5)) ∷ Block 5 (stmts (Evaluate 5 (Assign a (number 6)) ∷ Empty 6 ∷ []))
+    ∷ If 7 (compare comparators.Equal a 6) (Evaluate 8 (Assign b (number 2)))
+    (branch (Evaluate 9 (Assign b (number 3)))) ∷ Repeat 10
+    (repeated tests.First (Some (compare comparators.Less a 8)) [] (more 11 a))
+    ∷ Repeat 12 (repeated tests.Last (Some (compare comparators.Less a 9)) [] (more 13 a))
+    ∷ For 14 (declared_head (variable int (Some (number 0)) ∷ []))
+    (repeated tests.First (Some (compare comparators.Less i 1)) (Count i ints.Int steps.IncrementAfter ∷ [])
+    (more 15 b)) ∷ Switch 16 ints.Int (Read a) (cases (labelled (labels.Case 9) (stmts (Break 17 ∷ [])) ∷ []))
+    ∷ Return 18 (Some (Read a)) ∷ []) } ∷ []))
   where
     a : Place
     a = local 0 int
@@ -140,7 +159,8 @@ every_statement = program (module_of [] [] (record { name = f; line = 1; result 
     i = local 2 int
 
     compare : Comparator → Place → ℕ → Expr
-    compare operator place n = Operate (operations.Compare operator (operands.Integers ints.Int)) (Read place) (number n)
+    compare operator place n =
+        Operate (operations.Compare operator (operands.Integers ints.Int)) (Read place) (number n)
 
     more : ℕ → Place → Stmt
     more line place = Evaluate line (Count place ints.Int steps.IncrementAfter)
@@ -247,7 +267,8 @@ every_frame = program (module_of (b ∷ a ∷ []) [] (main ∷ []))
 
 -- how the function ends with each budget below this one
 abbrev pub ends_within : Program → ℕ → List (Option End)
-ends_within p budgets = map (λ (budget : ℕ). end_of (call_function p 0 [] budget empty_world)) (range_with_len 0 budgets)
+ends_within p budgets =
+    map (λ (budget : ℕ). end_of (call_function p 0 [] budget empty_world)) (range_with_len 0 budgets)
 
 abbrev pub aborted_at : List ℕ → List (Option End)
 aborted_at lines = map (λ (line : ℕ). Some (Aborted f line)) lines

@@ -14,9 +14,11 @@ ghost use Rattle.ash_phrases.specs.ObjectExamples as objects;
 ghost use Rattle.ash_phrases.specs.ObjectExamples.{with_answer, with_object_of};
 ghost use Rattle.ash_phrases.specs.ReleaseExamples as releases;
 ghost use Rattle.ash_phrases.specs.ReleaseExamples.{value_read, one_counter};
-ghost use Rattle.ash_phrases.specs.ExampleParts.{FinishesWith, Throws, Aborts, HasNoStep, HasEvents, HasServices};
+ghost use Rattle.ash_phrases.specs.ExampleParts.{FinishesWith, Throws, Aborts, HasNoStep};
+ghost use Rattle.ash_phrases.specs.ExampleParts.{HasEvents, HasServices};
 ghost use Rattle.ash_phrases.specs.ExampleParts.{ThrowsAt, AbortsAt};
-ghost use Rattle.ash_phrases.specs.ExampleParts.{empty_world, loaded, counters, with_counters, started, added, f};
+ghost use Rattle.ash_phrases.specs.ExampleParts.{empty_world, loaded, counters, with_counters};
+ghost use Rattle.ash_phrases.specs.ExampleParts.{started, added, f};
 
 /// What functions of integers come to, with loops, `switch` and calls.
 pub fn worked_examples()

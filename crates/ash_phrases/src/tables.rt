@@ -1,5 +1,6 @@
 //! Tables of integers and of ticks, computed from the definitions. These functions do nothing when they run.
-ghost use Rattle.std.specs.Prelude.{◌≡◌, [], ◌∷◌, ◌++◌, true, false, pos, negsuc, codes, Some, Ok, Err};
+ghost use Rattle.std.specs.Prelude.{◌≡◌, [], ◌∷◌, ◌++◌, true, false, pos};
+ghost use Rattle.std.specs.Prelude.{negsuc, codes, Some, Ok, Err};
 ghost use Rattle.ash_host.specs.declared.word.Word.{Word};
 ghost use Rattle.ash_integers.specs.declared.arithmetic.DivisionFault.{DivisionFault};
 ghost use Rattle.ash_integers.specs.declared.int_type.IntType.{IntType};
@@ -7,8 +8,10 @@ ghost use Rattle.ash_typed.specs.declared.tree.operations.Calculator.{Calculator
 ghost use Rattle.ash_typed.specs.declared.tree.operations.Comparator.{Comparator};
 ghost use Rattle.ash_phrases.specs.Ends.{Finished};
 ghost use Rattle.ash_phrases.specs.ExampleParts.{f};
-ghost use Rattle.ash_phrases.specs.Tables.{made_of, signed_pairs, unsigned_pairs, conversions_to, every_statement};
-ghost use Rattle.ash_phrases.specs.Tables.{compared_of, compared_truths, changed_of, every_jump, every_frame};
+ghost use Rattle.ash_phrases.specs.Tables.{made_of, signed_pairs, unsigned_pairs};
+ghost use Rattle.ash_phrases.specs.Tables.{conversions_to, every_statement};
+ghost use Rattle.ash_phrases.specs.Tables.{compared_of, compared_truths, changed_of};
+ghost use Rattle.ash_phrases.specs.Tables.{every_jump, every_frame};
 ghost use Rattle.ash_phrases.specs.Tables.{ends_within, aborted_at, aborted_in};
 
 /// Every operator on `int`, at its extremes.

@@ -5,8 +5,10 @@ ghost use Rattle.std.specs.Prelude.{◌≡◌, ◌++◌, IfOk, OnOk, drop, repli
 ghost use Rattle.std.specs.Option.{option_map_or};
 ghost use Rattle.ash_host.specs.declared.word.Word.TheVariants.{Null};
 ghost use Rattle.ash_host.specs.Objects.{object_at};
-ghost use Rattle.ash_phrases.specs.ArraySteps.{zero_element, natural_of, index_in, count_in, construct_array};
-ghost use Rattle.ash_phrases.specs.ArraySteps.{resized, resize, insert_last, remove_last, invoke_array, zero_in};
+ghost use Rattle.ash_phrases.specs.ArraySteps.{zero_element, natural_of, index_in};
+ghost use Rattle.ash_phrases.specs.ArraySteps.{count_in, construct_array};
+ghost use Rattle.ash_phrases.specs.ArraySteps.{resized, resize, insert_last, remove_last};
+ghost use Rattle.ash_phrases.specs.ArraySteps.{invoke_array, zero_in};
 ghost use Rattle.ash_phrases.specs.Expressions.{element_at};
 ghost use Rattle.ash_plain_data.specs.ObjectViews.{element_seen, object_seen};
 ghost use Rattle.ash_plain_data.specs.Running.{RunsAs};
@@ -15,7 +17,7 @@ ghost use Rattle.ash_plain.specs.Views.{activity_seen};
 
 use crate::activity::Activity;
 use crate::locations::Location;
-use ash_host::Word;
+use ash_host::{MAX_ELEMENTS, Word};
 use ash_integers::number;
 use ash_phrases::Exception;
 use ash_plain_data::object::{Element, Object};
@@ -23,9 +25,6 @@ use ash_plain_data::operators::zero_of;
 use ash_plain_data::run_error::{RunError, RunResult};
 use ash_typed::{ArrayMethod, IntType, VarType};
 use std::alloc::{AllocError, Global};
-
-/// How many elements an array has at most.
-pub const MAX_ELEMENTS: u64 = 4096;
 
 /// What an element is before anything is written to it.
 fn zero_element(of: &Element) -> Word
@@ -135,7 +134,7 @@ impl Activity {
     {
         self.demand_number()?;
         let count = count_in(args);
-        if count > MAX_ELEMENTS {
+        if count > MAX_ELEMENTS as u64 {
             return Err(RunError::Raising(Exception::ArrayLimit));
         }
         let mut elements = Vec::new(self.alloc);
@@ -160,7 +159,7 @@ impl Activity {
         ensures { RunsAs (λ _. tt) result (activity_seen self.new)
             (resize number count (activity_seen self.old)) }
     {
-        if count > MAX_ELEMENTS {
+        if count > MAX_ELEMENTS as u64 {
             return Err(RunError::Raising(Exception::ArrayLimit));
         }
         let zero = self.zero_at(number);
@@ -177,7 +176,7 @@ impl Activity {
             (insert_last number word (activity_seen self.old)) }
     {
         let old = self.words_at(number);
-        if old.len() as u64 >= MAX_ELEMENTS {
+        if old.len() >= MAX_ELEMENTS {
             return Err(RunError::Raising(Exception::ArrayLimit));
         }
         let mut words = Vec::from_slice(self.alloc, old)?;

@@ -1,12 +1,15 @@
 //! Calls of host objects and services, what is made of their answers, and boxes that are drawn from the pool.
 #![tactic(auto, unfolding(crate::specs::Views::activity_seen))]
 
-ghost use Rattle.std.specs.Prelude.{◌≡◌, ◌<◌, Some, OnOk, IfSome, map, length, option_map, nat_eq, slice_get};
+ghost use Rattle.std.specs.Prelude.{◌≡◌, ◌<◌, Some, OnOk, IfSome, map, length};
+ghost use Rattle.std.specs.Prelude.{option_map, nat_eq, slice_get};
 ghost use Rattle.std.specs.Prelude.{slice_set, vec_len};
 ghost use Rattle.std.specs.List.{position_from};
 ghost use Rattle.ash_phrases.specs.Activity.{in_world};
-ghost use Rattle.ash_phrases.specs.HostSteps.{with_event, state_of, with_state, call_host, is_of as is_of_type};
-ghost use Rattle.ash_phrases.specs.HostSteps.{accept, invoke_host, get_property, set_property, place_of_kind};
+ghost use Rattle.ash_phrases.specs.HostSteps.{with_event, state_of, with_state};
+ghost use Rattle.ash_phrases.specs.HostSteps.{call_host, is_of as is_of_type};
+ghost use Rattle.ash_phrases.specs.HostSteps.{accept, invoke_host, get_property};
+ghost use Rattle.ash_phrases.specs.HostSteps.{set_property, place_of_kind};
 ghost use Rattle.ash_phrases.specs.HostSteps.{without_box, draw, construct_host};
 ghost use Rattle.ash_plain_data.specs.CallViews.{call_seen};
 ghost use Rattle.ash_plain_data.specs.Running.{RunsAs};

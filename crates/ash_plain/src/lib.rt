@@ -20,6 +20,4 @@ pub mod objects;
 mod releases;
 mod stores;
 
-pub use array_steps::MAX_ELEMENTS;
 pub use frames::MAX_FRAMES;
-pub use object_steps::MAX_OBJECTS;

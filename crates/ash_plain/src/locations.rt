@@ -5,7 +5,8 @@ ghost use Rattle.std.specs.Prelude.{◌≡◌, IfOk, OnOk, slice_index_or, slice
 ghost use Rattle.ash_host.specs.declared.word.Word.TheVariants.{Null};
 ghost use Rattle.ash_phrases.specs.Activity.{in_frame, in_world};
 ghost use Rattle.ash_phrases.specs.ObjectSteps.{words_in};
-ghost use Rattle.ash_phrases.specs.Locations.{location_of_variable, location_of_member, read, with_local};
+ghost use Rattle.ash_phrases.specs.Locations.{location_of_variable, location_of_member};
+ghost use Rattle.ash_phrases.specs.Locations.{read, with_local};
 ghost use Rattle.ash_phrases.specs.Locations.{with_global, write};
 ghost use Rattle.ash_plain_data.specs.Running.{RunsAs};
 ghost use Rattle.ash_plain.specs.Views.{activity_seen};

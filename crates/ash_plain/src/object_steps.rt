@@ -3,21 +3,19 @@
 
 ghost use Rattle.std.specs.Prelude.{◌≡◌, ◌<◌, OnOk};
 ghost use Rattle.ash_phrases.specs.Activity.{in_world};
-ghost use Rattle.ash_phrases.specs.ObjectSteps.{object_of, words_in, with_object, with_words, demand_number};
+ghost use Rattle.ash_phrases.specs.ObjectSteps.{object_of, words_in, with_object};
+ghost use Rattle.ash_phrases.specs.ObjectSteps.{with_words, demand_number};
 ghost use Rattle.ash_phrases.specs.ObjectSteps.{max_number, make};
 ghost use Rattle.ash_plain_data.specs.ObjectViews.{object_seen};
 ghost use Rattle.ash_plain_data.specs.Running.{RunsAs};
 ghost use Rattle.ash_plain.specs.Views.{activity_seen};
 
 use crate::activity::Activity;
-use ash_host::Word;
+use ash_host::{MAX_OBJECTS, Word};
 use ash_phrases::Exception;
 use ash_plain_data::object::Object;
 use ash_plain_data::run_error::{RunError, RunResult};
 use std::alloc::AllocError;
-
-/// How many objects live at most.
-pub const MAX_OBJECTS: usize = 4096;
 
 impl Activity {
     /// The object of a handle; null has none.

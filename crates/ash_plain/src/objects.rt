@@ -1,6 +1,7 @@
 //! The objects that live, and the sweep.
 
-ghost use Rattle.std.specs.Prelude.{◌≡◌, ◌++◌, ℕ, [], map, length, filter, option_map, IfOk, OnOk, IsSome};
+ghost use Rattle.std.specs.Prelude.{◌≡◌, ◌++◌, ℕ, [], map, length, filter};
+ghost use Rattle.std.specs.Prelude.{option_map, IfOk, OnOk, IsSome};
 ghost use Rattle.std.specs.List.{list_any};
 ghost use Rattle.std.specs.Option.{option_map_or};
 ghost use Rattle.ash_host.specs.declared.event.Event.TheVariants.{Dropped};

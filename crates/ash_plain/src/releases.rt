@@ -4,7 +4,8 @@
 ghost use Rattle.std.specs.Prelude.{◌≡◌, [], ◌∷◌, ◌++◌, map, length, flat_map, IfOk, OnOk};
 ghost use Rattle.ash_host.specs.Objects.{handles};
 ghost use Rattle.ash_phrases.specs.Activity.{in_frame};
-ghost use Rattle.ash_phrases.specs.Releases.{holding, give_held, roots_of_frame, roots, sweep, release};
+ghost use Rattle.ash_phrases.specs.Releases.{holding, give_held, roots_of_frame};
+ghost use Rattle.ash_phrases.specs.Releases.{roots, sweep, release};
 ghost use Rattle.ash_phrases.specs.Releases.{end_expression, declaring, keeping};
 ghost use Rattle.ash_plain_data.specs.Running.{RunsAs};
 ghost use Rattle.ash_plain.specs.Views.{world_seen, frame_seen, activity_seen};

@@ -1,15 +1,19 @@
 //! What the names of a module mean while it runs: places of classes, what class an object is of, what a call enters.
 
-ghost use Rattle.std.specs.Prelude.{◌≡◌, map, option_map, slice_get, count_by, nat_le, nat_eq, find, position};
+ghost use Rattle.std.specs.Prelude.{◌≡◌, map, option_map, slice_get, count_by};
+ghost use Rattle.std.specs.Prelude.{nat_le, nat_eq, find, position};
 ghost use Rattle.std.specs.Prelude.{string_bytes, IfOk};
 ghost use Rattle.std.specs.List.{position_from, range_with_len};
 ghost use Rattle.ash_host.specs.Objects.{Handles};
-ghost use Rattle.ash_typed.specs.Modules.{function_of, interface_of, implementation_of, class_of as class_seen};
+ghost use Rattle.ash_typed.specs.Modules.{function_of, interface_of, implementation_of};
+ghost use Rattle.ash_typed.specs.Modules.{class_of as class_seen};
 ghost use Rattle.ash_typed.specs.Modules.{module_of};
 ghost use Rattle.ash_typed.specs.BodyViews.{value_of};
-ghost use Rattle.ash_phrases.specs.Classes.{dotted, entry_of_function, entry_of_method, entry_of_construction};
+ghost use Rattle.ash_phrases.specs.Classes.{dotted, entry_of_function, entry_of_method};
+ghost use Rattle.ash_phrases.specs.Classes.{entry_of_construction};
 ghost use Rattle.ash_phrases.specs.Classes.{entry_of, place_of_class, place_of_interface, class_of};
-ghost use Rattle.ash_phrases.specs.Classes.{implementation_in, implemented, is_class_of, is_object_of, element_of};
+ghost use Rattle.ash_phrases.specs.Classes.{implementation_in, implemented, is_class_of};
+ghost use Rattle.ash_phrases.specs.Classes.{is_object_of, element_of};
 ghost use Rattle.ash_phrases.specs.Classes.{places_of_classes};
 ghost use Rattle.ash_phrases.specs.Operators.{zero_of};
 ghost use Rattle.ash_phrases.specs.Calls.{blank};

@@ -1,11 +1,13 @@
 //! The line of an accepted registration.
 ghost use Rattle.std.specs.Prelude.{◌≡◌, [], ◌∷◌, ◌++◌, codes, string_bytes, IfOk, OnOk};
-ghost use Rattle.ash_registrations.specs.Registrations.{registration_of, operation_of, TypeRegistration};
+ghost use Rattle.ash_registrations.specs.Registrations.{registration_of, operation_of};
+ghost use Rattle.ash_registrations.specs.Registrations.{TypeRegistration};
 ghost use Rattle.ash_registrations.specs.Registrations.{FactoryRegistration, MethodRegistration};
 ghost use Rattle.ash_registrations.specs.Registrations.{PropertyRegistration};
 ghost use Rattle.ash_registrations.specs.Registrations.{ServiceRegistration, FunctionRegistration};
 ghost use Rattle.std.specs.List.{concat};
-ghost use Rattle.ash_registrations.specs.Text.{primitive_text, result_text, more_parameters, parameters_text};
+ghost use Rattle.ash_registrations.specs.Text.{primitive_text, result_text, more_parameters};
+ghost use Rattle.ash_registrations.specs.Text.{parameters_text};
 ghost use Rattle.ash_registrations.specs.Text.{operation_text, line_of};
 
 use crate::{Operation, Registration};

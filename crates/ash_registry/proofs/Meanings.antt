@@ -6,7 +6,7 @@ use Rattle.std.proofs.lemmas.Bool.{cases_lt}
 use Rattle.std.proofs.lemmas.Bool.Decides.{nat_tests}
 use Rattle.std.proofs.lemmas.List.{append_assoc, append-nil, length-append, nil_from_length}
 use Rattle.ash_lex.specs.Tokens.{Meaning, name, number, sign, reserved, unsupported, Lexeme, lexeme_of, lexemes}
-use Rattle.ash_lex.specs.Tokens.{lexeme_at, Means, Reads, marked, unmarked, gap, token}
+use Rattle.ash_lex.specs.Tokens.{lexeme_at, Means, Reads, marked, unmarked, gap, token, max_source_bytes}
 use Rattle.ash_lex.specs.declared.tokens.Token.{Token}
 use Rattle.ash_lex.proofs.OneReading.{tokens_agree, tokens_or_fault}
 use Rattle.ash_lex.proofs.EveryText.{HasReading, every_text}
@@ -185,12 +185,12 @@ one_class text OtherText ReservedText h k = absurd (h.1 k)
 one_class text OtherText OtherText h k = refl
 
 -- each text has tokens, or none
-cut_by : (text : List ℕ) → length text ≤ 65536 → HasReading text → (c : Option (List Lexeme)) × IsCut text c
+cut_by : (text : List ℕ) → length text ≤ max_source_bytes → HasReading text → (c : Option (List Lexeme)) × IsCut text c
 cut_by text short (inl h) = (Some h.0, record { short = short; lexed = h.1 })
 cut_by text short (inr h) = (None, λ ts cut. tokens_or_fault text ts h.0 cut.lexed h.1)
 
 a_cut : (text : List ℕ) → (c : Option (List Lexeme)) × IsCut text c
-a_cut text = elim (cases_lt 65536 (length text)) [
+a_cut text = elim (cases_lt max_source_bytes (length text)) [
   | inl long ↦ (None, λ ts cut. let short = cut.short in omega arith)
   | inr short ↦ cut_by text short (every_text text)
 ]

@@ -1,15 +1,15 @@
 -- These definitions say what the texts of a registration mean: the name of a type, and what is declared.
 use Rattle.std.specs.Prelude.{ℕ, ◌≤◌, ◌⊎◌, List, [], ◌∷◌, Option, Some, None, map, length}
-use Rattle.ash_lex.specs.Tokens.{Meaning, name, reserved, unsupported, Lexeme, lexeme_at, Spells}
+use Rattle.ash_lex.specs.Tokens.{Meaning, name, reserved, unsupported, Lexeme, lexeme_at, Spells, max_source_bytes}
 use Rattle.ash_lex.specs.declared.words.ReservedWord.{ReservedWord}
 use Rattle.ash_lex.specs.declared.words.UnsupportedWord.{UnsupportedWord}
 use Rattle.ash_tree.specs.declared.tree.places.Place.{Place}
 use Rattle.ash_tree.specs.Tree.{Declaration}
 use Rattle.ash_tree.specs.Grammar.{Declares}
 
--- The text has at most 65,536 bytes, and these are its tokens.
+-- The text has at most as many bytes as a source, and these are its tokens.
 pub record IsCutInto (text : List ℕ) (tokens : List Lexeme) : Type 0 where
-  pub short : length text ≤ 65536
+  pub short : length text ≤ max_source_bytes
   pub lexed : Spells text tokens
 
 -- The text has these tokens, or it has none since it is too long or has a lexical fault.

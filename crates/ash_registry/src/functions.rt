@@ -1,16 +1,21 @@
 //! The calls that register functions of services.
-ghost use Rattle.std.specs.Prelude.{◌≡◌, ◌||◌, false, [], ◌∷◌, Option, count_by, nat_le, string_bytes};
+ghost use Rattle.std.specs.Prelude.{◌≡◌, ◌||◌, false, [], ◌∷◌, Option};
+ghost use Rattle.std.specs.Prelude.{count_by, nat_le, string_bytes};
 ghost use Rattle.std.specs.List.{list_any};
 ghost use Rattle.std.specs.Option.{option_map};
 ghost use Rattle.ash_tree.specs.Tree.{Declaration as DeclarationTree};
 ghost use Rattle.ash_tree.specs.Views.{declaration_of, signature_of};
-ghost use Rattle.ash_registrations.specs.Registrations.{FunctionRegistration, is_service, is_function};
+ghost use Rattle.ash_registrations.specs.Registrations.{FunctionRegistration, is_service};
+ghost use Rattle.ash_registrations.specs.Registrations.{is_function};
 ghost use Rattle.ash_registrations.specs.Registrations.{takes_function, takes_name};
 ghost use Rattle.ash_registry.specs.declared.fault.RegistryFault.TheVariants.{NoService};
 ghost use Rattle.ash_registry.specs.Registered.{registered};
-ghost use Rattle.ash_registry.specs.Refusals.{RegisteredIf, RefusedWithoutAllocating, cause_of_many};
-ghost use Rattle.ash_registry.specs.Refusals.{refusal_of_function, refusal_of_declared_function, refusal_of_operation};
-ghost use Rattle.ash_registry.specs.Refusals.{primitive_operation, function_registration, max_registered_functions};
+ghost use Rattle.ash_registry.specs.Refusals.{RegisteredIf, RefusedWithoutAllocating};
+ghost use Rattle.ash_registry.specs.Refusals.{cause_of_many};
+ghost use Rattle.ash_registry.specs.Refusals.{refusal_of_function, refusal_of_declared_function};
+ghost use Rattle.ash_registry.specs.Refusals.{refusal_of_operation};
+ghost use Rattle.ash_registry.specs.Refusals.{primitive_operation, function_registration};
+ghost use Rattle.ash_registry.specs.Refusals.{max_registered_functions};
 ghost use Rattle.ash_registry.specs.Texts.{IsDeclared};
 
 use crate::signatures::{names_object, operation};

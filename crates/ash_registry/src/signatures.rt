@@ -2,7 +2,8 @@
 ghost use Rattle.std.specs.Prelude.{◌≡◌, IfOk, Some, map};
 ghost use Rattle.std.specs.List.{list_any, filter_map};
 ghost use Rattle.ash_registrations.specs.Registrations.{operation_of};
-ghost use Rattle.ash_registry.specs.Refusals.{is_unknown, is_unknown_element, is_object, primitive_of};
+ghost use Rattle.ash_registry.specs.Refusals.{is_unknown, is_unknown_element};
+ghost use Rattle.ash_registry.specs.Refusals.{is_object, primitive_of};
 ghost use Rattle.ash_registry.specs.Refusals.{primitive_operation, types_of, gives_handle_of};
 ghost use Rattle.std.specs.Option.{option_map};
 ghost use Rattle.ash_registry.specs.Registered.{registered};

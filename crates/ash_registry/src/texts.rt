@@ -7,7 +7,8 @@ ghost use Rattle.ash_tree.specs.Views.{declaration_of};
 ghost use Rattle.ash_registry.specs.declared.fault.RegistryFault.TheVariants.{NoMemory};
 ghost use Rattle.ash_registry.specs.Texts.{IsCut, HasNameClass, IsDeclared};
 ghost use Rattle.ash_registry.specs.Texts as spec;
-ghost use Rattle.ash_registry.specs.NameClasses.{class_of_meaning, name_class_of, class_of_token, class_of_tokens};
+ghost use Rattle.ash_registry.specs.NameClasses.{class_of_meaning, name_class_of};
+ghost use Rattle.ash_registry.specs.NameClasses.{class_of_token, class_of_tokens};
 
 use crate::RegistryFault;
 use ash_lex::{LexFault, Token, TokenKind, lex};

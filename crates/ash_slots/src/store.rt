@@ -1,11 +1,13 @@
 //! Objects in slots, found by their numbers.
 ghost use Rattle.std.specs.Prelude.{◌≡◌, ◌≤◌, ◌+◌, ◌↔◌, []};
 ghost use Rattle.std.specs.Prelude.{IsTrue, ℕ, true, false, length, option_map};
-ghost use Rattle.std.specs.Prelude.{nat_eq, IsSomeAnd, IfSome, IfNone, OnSome, IfOk, IfErr, OnErr, Some, None};
+ghost use Rattle.std.specs.Prelude.{nat_eq, IsSomeAnd, IfSome, IfNone, OnSome};
+ghost use Rattle.std.specs.Prelude.{IfOk, IfErr, OnErr, Some, None};
 ghost use Rattle.std.specs.Map.{remove_entry};
 ghost use Rattle.ash_host.specs.Objects.{object_at, with_at, IsInOrder};
 ghost use Rattle.std.specs.Borrow.{sem};
-ghost use Rattle.ash_slots.specs.Store.{IsIn, IsOccupied, AreStored, IsIdle, NoneWaits, change_in, with_waiting};
+ghost use Rattle.ash_slots.specs.Store.{IsIn, IsOccupied, AreStored, IsIdle};
+ghost use Rattle.ash_slots.specs.Store.{NoneWaits, change_in, with_waiting};
 
 use crate::entry::{Entry, Item};
 use slab::Slab;
@@ -36,7 +38,8 @@ impl<B> Model for Store<B> {
       vacant = s.entries.vacant_key;
     } };
 
-    ghost invariant = { λ s. IsStored s.entries s.index.entries s.idle.items (vec_capacity s.idle) };
+    ghost invariant = { λ s. IsStored s.entries s.index.entries s.idle.items
+        (vec_capacity s.idle) };
 }
 
 impl<B> Store<B> {

@@ -1,5 +1,5 @@
--- Why a source has no typed tree, without where names lie in memory; the code by which that is reported; and how reading
--- a source fails.
+-- Why a source has no typed tree, without where names lie in memory; the code by which that is reported; and how
+-- reading a source fails.
 use Rattle.std.specs.Prelude.{◌≡◌, ℕ, List, map, string_bytes, Result, Ok, Err, codes}
 use Rattle.ash_lex.specs.FaultCodes as lexical
 use Rattle.ash_lex.specs.declared.faults.LexFault.{LexFault}

@@ -35,9 +35,9 @@ abbrev pub admitted_as : AdmittedScripts → TypedResult → TypedResult → Typ
 admitted_as scripts.All typed alone = typed
 admitted_as scripts.UsingNothingRegistered typed alone = unless_untyped typed alone
 
--- The typed tree that a source is read as, or the fault for which it is none. Where only those scripts are admitted that
--- use nothing registered, the fault that checking comes to is the first; a source with none has the typed tree that it
--- has with nothing registered, or is one that can't be run so far.
+-- The typed tree that a source is read as, or the fault for which it is none. Where only those scripts are admitted
+-- that use nothing registered, the fault that checking comes to is the first; a source with none has the typed tree
+-- that it has with nothing registered, or is one that can't be run so far.
 abbrev pub read_typed : SourceRules → List ℕ → TypedResult
 read_typed rules source =
     admitted_as rules.admitted (typed_source rules.registered source) (typed_source [] source)

@@ -20,8 +20,8 @@ use Rattle.ash_sources.specs.SourceFaults.{SourceFault, Typing}
 abbrev pub TypedResult : Type 0
 TypedResult = Result Module SourceFault
 
--- The source has tokens, the grammar derives a script from them, the rules give it this typed tree, and no class reaches
--- itself.
+-- The source has tokens, the grammar derives a script from them, the rules give it this typed tree, and no class
+-- reaches itself.
 pub record IsTypedSource (registered : List Registration) (source : List ℕ) (typed : Module) : Type 0 where
   pub tokens : List Lexeme
   pub lexed : Lexes source (Ok tokens)

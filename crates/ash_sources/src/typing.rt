@@ -48,7 +48,8 @@ pub fn typing_has_one_result()
     ensures by_rules { (registrations : List Registration) (source : List ℕ) (typed : Typed) →
         (typed_source registrations source ≡ Ok typed) ↔ IsTypedSource registrations source typed }
     ensures refused { (registrations : List Registration) (source : List ℕ) (fault : Fault) →
-        (typed_source registrations source ≡ Err fault) ↔ (checked_source registrations source ≡ Err fault) }
+        (typed_source registrations source ≡ Err fault)
+        ↔ (checked_source registrations source ≡ Err fault) }
     ensures sound { (registrations : List Registration) (source : List ℕ) (typed : Typed) →
         typed_source registrations source ≡ Ok typed → IsSound (offered registrations) typed }
 {}

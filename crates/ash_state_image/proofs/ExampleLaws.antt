@@ -11,7 +11,7 @@ use Rattle.ash_host.proofs.ObjectLaws.{reach_is_decided}
 use Rattle.ash_state_image.specs.declared.version.Version.{Version}
 use Rattle.ash_state_image.specs.Fields.{number, text, ◌>>=◌, pair_at, number_at, whole}
 use Rattle.ash_state_image.specs.Snapshots.{Loaded, Snapshot}
-use Rattle.ash_state_image.specs.Image.{FitsText, max_text_bytes, version_number}
+use Rattle.ash_state_image.specs.Image.{FitsText, max_registered_text_bytes, version_number}
 use Rattle.ash_state_image.specs.ImageReading.{is_text, registered_at, modules_at, services_at, objects_at, snapshot_at, image_at}
 use Rattle.ash_state_image.specs.Rules.{IsImage, AreReached, held_by, is_whole}
 use Rattle.ash_state_image.specs.Examples.{IsSomeImage, IsDamaged}
@@ -42,7 +42,7 @@ ascii_are [] e i = omega arith
 ascii_are (c ∷ more) e zero = ltb-true c 128 (both (ltb c 128) (are_ascii more) e).0
 ascii_are (c ∷ more) e (suc i) = ascii_are more (both (ltb c 128) (are_ascii more) e).1 i
 
-pub ascii_fits : (t : List ℕ) → are_ascii t ≡ true → leb (length t) max_text_bytes ≡ true → FitsText t
+pub ascii_fits : (t : List ℕ) → are_ascii t ≡ true → leb (length t) max_registered_text_bytes ≡ true → FitsText t
 ascii_fits t ascii short = record { utf8 = IsUtf8-from_ascii t (ascii_are t ascii); short = leb-true _ _ short }
 
 -- ---- what keeps the rules

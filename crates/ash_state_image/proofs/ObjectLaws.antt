@@ -7,7 +7,7 @@ use Rattle.ash_host.specs.Limits.{max_elements, max_state_bytes}
 use Rattle.ash_host.specs.Objects.{Element, Bools, Ints, Uints, Int64s, Uint64s, Handles, Hosts, Plain, Script, Array, Host}
 use Rattle.ash_state_image.specs.Fields.{number, text, items}
 use Rattle.ash_state_image.specs.Words.{word, FitsWord}
-use Rattle.ash_state_image.specs.ObjectBytes.{max_fields, element, plain, FitsElement, FitsHost}
+use Rattle.ash_state_image.specs.ObjectBytes.{max_class_members, element, plain, FitsElement, FitsHost}
 use Rattle.ash_state_image.specs.ObjectBytes.{FitsPlain, element_case, element_at, fields_at, elements_at, state_at}
 use Rattle.ash_state_image.specs.ObjectBytes.{kind_and_state_at, script_at, array_at, plain_case, plain_at, host}
 use Rattle.ash_state_image.proofs.Numbers.{IsBytes}
@@ -62,11 +62,11 @@ element_field = tagged_field element_takes element_again
 
 -- ---- words of an object
 
-pub fields_field : IsField (items 1 word) (λ fields. (length fields ≤ max_fields) × AllByRecursion FitsWord fields)
+pub fields_field : IsField (items 1 word) (λ fields. (length fields ≤ max_class_members) × AllByRecursion FitsWord fields)
     fields_at
 unfolding fields_at
 fields_field =
-    refit_field (items_field 1 (checked_field (λ n. leb n max_fields) (number_field 1)) word_field) (items 1 word) _
+    refit_field (items_field 1 (checked_field (λ n. leb n max_class_members) (number_field 1)) word_field) (items 1 word) _
     (λ fields. refl)
     (λ fields h. (leb-true _ _ h.0.1, h.1))
     (λ fields h. ((omega (arith, h.0), le-leb _ _ h.0), h.1))

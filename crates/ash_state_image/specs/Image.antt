@@ -1,5 +1,6 @@
 -- The image of a state, byte for byte, in both versions, and which snapshots have one.
-use Rattle.std.specs.Prelude.{◌≡◌, ℕ, ◌<◌, ◌≤◌, ◌^◌, ◌==◌, ◌&&◌, ◌||◌, nat_le, nat_lt, Bool, true, false, List, [], ◌∷◌, ◌++◌, length, map}
+use Rattle.std.specs.Prelude.{◌≡◌, ℕ, ◌<◌, ◌≤◌, ◌^◌, ◌==◌, ◌&&◌, ◌||◌, nat_le, nat_lt}
+use Rattle.std.specs.Prelude.{Bool, true, false, List, [], ◌∷◌, ◌++◌, length, map}
 use Rattle.std.specs.declared.cmp.Ordering.{Ordering}
 use Rattle.std.specs.Bool.{IsTrue}
 use Rattle.std.specs.Cmp.Lexicographic.{slice_cmp}
@@ -68,11 +69,11 @@ is_name [] = false
 is_name (code ∷ more) = is_name_start code && list_all is_name_part more
 
 -- the most bytes of a name
-abbrev pub max_name_bytes : ℕ
-max_name_bytes = 64
+abbrev pub max_module_name_bytes : ℕ
+max_module_name_bytes = 64
 
 abbrev pub is_module_name : List ℕ → Bool
-is_module_name name = is_name name && nat_le (length name) max_name_bytes
+is_module_name name = is_name name && nat_le (length name) max_module_name_bytes
 
 -- order
 
@@ -97,8 +98,8 @@ do_rise (n ∷ next ∷ more) = nat_lt n next && do_rise (next ∷ more)
 -- limits of what an image has, where no crate below names them
 
 -- the most bytes of the text of what is registered
-abbrev pub max_text_bytes : ℕ
-max_text_bytes = 1048576
+abbrev pub max_registered_text_bytes : ℕ
+max_registered_text_bytes = 1048576
 
 -- the most bytes of a source
 abbrev pub max_source_bytes : ℕ
@@ -121,7 +122,7 @@ max_services = 16
 -- a text of what is registered that is text, and within its limit
 pub record FitsText (registered : List ℕ) : Type 0 where
   pub utf8 : IsUtf8 registered
-  pub short : length registered ≤ max_text_bytes
+  pub short : length registered ≤ max_registered_text_bytes
 
 -- a module whose name is one, within its limits
 pub record FitsModule (m : Loaded) : Type 0 where

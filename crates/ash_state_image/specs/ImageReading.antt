@@ -10,7 +10,8 @@ use Rattle.ash_state_image.specs.Fields.{◌>>=◌, as_at, checked_at, pair_at, 
 use Rattle.ash_state_image.specs.Words.{word_at}
 use Rattle.ash_state_image.specs.ObjectBytes.{kind_and_state_at, plain_at}
 use Rattle.ash_state_image.specs.Snapshots.{Loaded, Snapshot}
-use Rattle.ash_state_image.specs.Image.{is_module_name, are_ascending, names_of, do_rise, has_version, max_text_bytes}
+use Rattle.ash_state_image.specs.Image.{is_module_name, are_ascending, names_of, do_rise}
+use Rattle.ash_state_image.specs.Image.{has_version, max_registered_text_bytes}
 use Rattle.ash_state_image.specs.Image.{max_source_bytes, max_globals, max_modules, max_services}
 
 -- modules
@@ -60,7 +61,7 @@ objects_at version = checked_at (λ objects. do_rise (numbers objects))
 
 -- the bytes are a text, and within the limit of what is registered
 abbrev pub is_text : List ℕ → Bool
-is_text bytes = nat_le (length bytes) max_text_bytes && is_utf8 bytes
+is_text bytes = nat_le (length bytes) max_registered_text_bytes && is_utf8 bytes
 
 -- the text of what is registered
 unfoldable pub registered_at : List ℕ → Option (List ℕ × List ℕ)
@@ -69,7 +70,8 @@ registered_at = checked_at is_text (text_at 4)
 -- what follows the version
 unfoldable pub snapshot_at : Version → List ℕ → Option (Snapshot × List ℕ)
 snapshot_at version = as_at (λ (x : List ℕ × (ℕ × (ℕ × (List (ℕ × List ℕ) × (List Loaded × List (ℕ × Plain ℕ)))))).
-    record { registered = x.0; seq = x.1.0; last = x.1.1.0; services = x.1.1.1.0; modules = x.1.1.1.1.0; objects = x.1.1.1.1.1 })
+    record { registered = x.0; seq = x.1.0; last = x.1.1.0; services = x.1.1.1.0; modules = x.1.1.1.1.0;
+    objects = x.1.1.1.1.1 })
     (pair_at registered_at (pair_at (number_at 8) (pair_at (number_at 8)
     (pair_at services_at (pair_at modules_at (objects_at version))))))
 

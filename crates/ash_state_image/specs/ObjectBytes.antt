@@ -4,13 +4,15 @@ use Rattle.std.specs.Prelude.{ℕ, zero, suc, ◌<◌, ◌≤◌, ◌^◌, nat_l
 use Rattle.std.specs.List.{AllByRecursion}
 use Rattle.ash_host.specs.declared.word.Word.{Word}
 use Rattle.ash_host.specs.Limits.{max_elements, max_state_bytes}
-use Rattle.ash_host.specs.Objects.{Element, Bools, Ints, Uints, Int64s, Uint64s, Handles, Hosts, Plain, Script, Array, Host}
-use Rattle.ash_state_image.specs.Fields.{number, text, items, as_at, checked_at, pair_at, number_at, text_at, items_at, tagged_at}
+use Rattle.ash_host.specs.Objects.{Element, Bools, Ints, Uints, Int64s, Uint64s}
+use Rattle.ash_host.specs.Objects.{Handles, Hosts, Plain, Script, Array, Host}
+use Rattle.ash_state_image.specs.Fields.{number, text, items, as_at, checked_at, pair_at}
+use Rattle.ash_state_image.specs.Fields.{number_at, text_at, items_at, tagged_at}
 use Rattle.ash_state_image.specs.Words.{word, FitsWord, word_at}
 
 -- the most fields of an object, as a class has at most so many members
-abbrev pub max_fields : ℕ
-max_fields = 32
+abbrev pub max_class_members : ℕ
+max_class_members = 32
 
 -- the spelling
 
@@ -52,7 +54,7 @@ FitsElement _ = ⊤
 pub record FitsScript (owner class : ℕ) (fields : List Word) : Type 0 where
   pub owner_fits : owner < 2 ^ 8
   pub class_fits : class < 2 ^ 16
-  pub few : length fields ≤ max_fields
+  pub few : length fields ≤ max_class_members
   pub words : AllByRecursion FitsWord fields
 
 pub record FitsHost (kind : ℕ) (state : List ℕ) : Type 0 where
@@ -88,7 +90,7 @@ element_at = tagged_at element_case
 
 -- a count that fields may have, and so many words
 unfoldable pub fields_at : List ℕ → Option (List Word × List ℕ)
-fields_at = items_at (checked_at (λ n. nat_le n max_fields) (number_at 1)) word_at
+fields_at = items_at (checked_at (λ n. nat_le n max_class_members) (number_at 1)) word_at
 
 -- a count that elements may have, and so many words
 unfoldable pub elements_at : List ℕ → Option (List Word × List ℕ)

@@ -1,6 +1,7 @@
 -- What the code's objects represent.
 use Rattle.std.specs.Prelude.{ℕ, List}
-use Rattle.ash_host.specs.Objects.{Element, Bools, Ints, Uints, Int64s, Uint64s, Handles, Hosts, Plain, Script, Array, Host}
+use Rattle.ash_host.specs.Objects.{Element, Bools, Ints, Uints, Int64s, Uint64s}
+use Rattle.ash_host.specs.Objects.{Handles, Hosts, Plain, Script, Array, Host}
 use Rattle.ash_state_image.specs.declared.stored.ElementType.{ElementType}
 use Rattle.ash_state_image.specs.declared.stored.ElementType.TheVariants as elements
 use Rattle.ash_state_image.specs.declared.stored.StoredBody.{StoredBody}

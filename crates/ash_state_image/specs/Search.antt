@@ -1,5 +1,6 @@
 -- The search for what is reachable: each object is marked once, and waits until its handles are followed.
-use Rattle.std.specs.Prelude.{◌≡◌, ◌⊎◌, ℕ, ◌+◌, ◌<◌, if◌then◌else◌, Bool, true, false, List, [], ◌∷◌, ◌++◌, length, get_or, set, Contains}
+use Rattle.std.specs.Prelude.{◌≡◌, ◌⊎◌, ℕ, ◌+◌, ◌<◌, if◌then◌else◌, Bool, true, false}
+use Rattle.std.specs.Prelude.{List, [], ◌∷◌, ◌++◌, length, get_or, set, Contains}
 use Rattle.ash_host.specs.Objects.{Objects, numbers, references}
 use Rattle.ash_host.specs.Reach.{ReachableIn, is_among}
 use Rattle.ash_state_image.specs.declared.reaching.Search.{Search}
@@ -14,7 +15,8 @@ IsMarked s i = get_or s.marked i false ≡ true
 
 -- with an index marked, and waiting, if it was not marked
 abbrev pub with_marked : ℕ → Progress → Progress
-with_marked i s = if get_or s.marked i false then s else record { marked = set s.marked i true; pending = s.pending ++ i ∷ [] }
+with_marked i s = if get_or s.marked i false then s
+    else record { marked = set s.marked i true; pending = s.pending ++ i ∷ [] }
 
 abbrev pub IsPending : Progress → ℕ → Type 0
 IsPending s i = is_among s.pending i ≡ true
@@ -31,7 +33,8 @@ pub record Visited (alive wanted : List ℕ) (old new : Progress) : Type 0 where
   pub same : length new.marked ≡ length old.marked
   pub count : unmarked new.marked + length new.pending ≡ unmarked old.marked + length old.pending
   pub grows : (i : ℕ) → IsMarked old i → IsMarked new i
-  pub fresh : (i : ℕ) → IsMarked new i → IsMarked old i ⊎ (IsPending new i × (is_among wanted (get_or alive i 0) ≡ true))
+  pub fresh : (i : ℕ) → IsMarked new i → IsMarked old i
+      ⊎ (IsPending new i × (is_among wanted (get_or alive i 0) ≡ true))
   pub waits : (i : ℕ) → IsPending old i → IsPending new i
   pub waiting : (i : ℕ) → IsPending new i → IsPending old i ⊎ IsMarked new i
   pub all : (i : ℕ) → i < length alive → is_among wanted (get_or alive i 0) ≡ true → IsMarked new i
@@ -44,7 +47,8 @@ pub record Searches (held : List ℕ) (objects : Objects ℕ) (s : Progress) : T
   pub sound : (i : ℕ) → IsMarked s i → ReachableIn (Contains held) objects (get_or (numbers objects) i 0)
   pub roots : (i : ℕ) → i < length objects → is_among held (get_or (numbers objects) i 0) ≡ true → IsMarked s i
   pub closed : (i : ℕ) → IsMarked s i → IsPending s i ⊎ ((j : ℕ) → j < length objects
-      → is_among (references objects (get_or (numbers objects) i 0)) (get_or (numbers objects) j 0) ≡ true → IsMarked s j)
+      → is_among (references objects (get_or (numbers objects) i 0)) (get_or (numbers objects) j 0) ≡ true
+      → IsMarked s j)
 
 -- how far the code has come
 abbrev pub progress_of : Search → Progress

@@ -9,8 +9,8 @@ pub record Loaded : Type 0 where
   pub source : List ℕ
   pub globals : List Word
 
--- The text of what was registered, how many requests had been answered, the last number that was given to an object, the
--- kind and the state of each service in order of registration, the modules by ascending name, and the objects by
+-- The text of what was registered, how many requests had been answered, the last number that was given to an object,
+-- the kind and the state of each service in order of registration, the modules by ascending name, and the objects by
 -- ascending number. An object knows its module by the module's index.
 pub record Snapshot : Type 0 where
   pub registered : List ℕ

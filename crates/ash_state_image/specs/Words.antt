@@ -1,5 +1,6 @@
 -- Words in an image: how each is spelled, which have a spelling, and how one is read.
-use Rattle.std.specs.Prelude.{ℕ, zero, suc, ◌==◌, ◌<◌, ◌^◌, nat_lt, Bool, true, false, FitsSigned, List, ◌++◌, Option, Some, None, ⊤}
+use Rattle.std.specs.Prelude.{ℕ, zero, suc, ◌==◌, ◌<◌, ◌^◌, nat_lt, Bool, true, false}
+use Rattle.std.specs.Prelude.{FitsSigned, List, ◌++◌, Option, Some, None, ⊤}
 use Rattle.std.specs.Int.{w32, w64, cast_signed, cast_unsigned}
 use Rattle.ash_host.specs.declared.word.Word.{Word}
 use Rattle.ash_host.specs.declared.word.Word.TheVariants as words

@@ -15,13 +15,17 @@
 //!     tag            u8     1, it leads from every state to that of the image
 //!     image                 all of the bytes after the tag
 
-ghost use Rattle.std.specs.Prelude.{◌≡◌, ◌++◌, ◌≤◌, ◌<◌, ◌^◌, ◌∷◌, length, drop, string_bytes, Some, None};
-ghost use Rattle.std.specs.Prelude.{if◌then◌else◌, OnOk, IfOk, IfSome, IsOk, IsOkUnless, ℕ, List, option_map};
+ghost use Rattle.std.specs.Prelude.{◌≡◌, ◌++◌, ◌≤◌, ◌<◌, ◌^◌, ◌∷◌, length};
+ghost use Rattle.std.specs.Prelude.{drop, string_bytes, Some, None};
+ghost use Rattle.std.specs.Prelude.{if◌then◌else◌, OnOk, IfOk, IfSome, IsOk};
+ghost use Rattle.std.specs.Prelude.{IsOkUnless, ℕ, List, option_map};
 ghost use Rattle.ash_state_image.specs.Fields.{ReturnsField, text, whole};
 ghost use Rattle.ash_state_image.specs.Snapshots.{Snapshot};
-ghost use Rattle.ash_state_image.specs.Image.{Fits, Spells, image, image_of, image_v1_of, max_text_bytes};
+ghost use Rattle.ash_state_image.specs.Image.{Fits, Spells, image, image_of, image_v1_of};
+ghost use Rattle.ash_state_image.specs.Image.{max_registered_text_bytes};
 ghost use Rattle.ash_state_image.specs.Rules.{KeepsRules, IsShaped, IsImage, IsBody, image_tag};
-ghost use Rattle.ash_state_image.specs.ImageReading.{is_text, registered_at, snapshot_at, version_at, image_at};
+ghost use Rattle.ash_state_image.specs.ImageReading.{is_text, registered_at, snapshot_at};
+ghost use Rattle.ash_state_image.specs.ImageReading.{version_at, image_at};
 ghost use Rattle.ash_state_image.specs.Views.{snapshot_of, image_read, snapshot_in};
 ghost use Rattle.ash_state_image.specs.declared.version.Version.{Version};
 ghost use Rattle.ash_state_image.specs.declared.version.Version.TheVariants.{One, Two};
@@ -31,7 +35,7 @@ use crate::fields::{
     ReadError, prefix, u16_at, u32_at, u64_at, write_u8, write_u16, write_u32, write_u64,
 };
 use crate::lengths::image_length;
-use crate::limits::MAX_TEXT_BYTES;
+use crate::limits::MAX_REGISTERED_TEXT_BYTES;
 use crate::modules::{modules_of, write_modules};
 use crate::numbered::{objects_of, write_objects};
 use crate::parts::StateParts;
@@ -52,7 +56,7 @@ fn as_text(alloc: Global, bytes: &[u8]) -> Result<String, ReadError>
     ensures { ReturnsField (λ text. string_bytes text) result
         (if is_text bytes.now then Some bytes.now else None) }
 {
-    if bytes.len() > MAX_TEXT_BYTES {
+    if bytes.len() > MAX_REGISTERED_TEXT_BYTES {
         return Err(ReadError::Damaged);
     }
     let Ok(text) = str::from_utf8(bytes) else {
@@ -190,7 +194,7 @@ pub fn image_of_one_state()
         → IsImage bytes v s → IsImage bytes w t → (v ≡ w) × (s ≡ t) }
 {}
 
-/// What is spelled is read, where the rules are kept. This function does nothing when it runs.
+/// What is spelled is read, where the rules hold. This function does nothing when it runs.
 pub fn images_are_read()
     ensures again { (version : Version) (s : Snapshot) → Fits version s → KeepsRules s
         → IsImage (image version s) version s }
@@ -208,7 +212,7 @@ pub fn version_one_moves()
 
 /// A length, and the text of what is registered.
 fn write_registered(out: &mut Vec<u8>, registered: &str) -> Result<(), AllocError>
-    requires { length registered.now ≤ max_text_bytes }
+    requires { length registered.now ≤ max_registered_text_bytes }
     ensures { OnOk result (out.new.items ≡ out.old.items ++ text 4 registered.now) }
 {
     write_u32(out, registered.len() as u32)?;
@@ -233,7 +237,7 @@ pub fn write_image(alloc: Global, state: StateParts<'_>) -> Result<Vec<u8>, Allo
     // The state has an image.
     requires fits { Fits Two (snapshot_in state) }
     ensures written { IfOk result (λ image. image.items ≡ image_of (snapshot_in state.entry)) }
-    // Where the rules are kept, it is read again.
+    // Where the rules hold, it is read again.
     ensures read { KeepsRules (snapshot_in state.entry)
         → IfOk result (λ image. IsImage image.items Two (snapshot_in state.entry)) }
     // It fits into a record.
@@ -251,7 +255,7 @@ pub fn write_body(alloc: Global, state: StateParts<'_>) -> Result<Vec<u8>, Alloc
     requires fits { Fits Two (snapshot_in state) }
     ensures written { IfOk result (λ body.
         body.items ≡ image_tag ∷ image_of (snapshot_in state.entry)) }
-    // Where the rules are kept, it is read again.
+    // Where the rules hold, it is read again.
     ensures read { KeepsRules (snapshot_in state.entry)
         → IfOk result (λ body. IsBody body.items Two (snapshot_in state.entry)) }
     // It fits into a record.

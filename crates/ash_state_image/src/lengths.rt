@@ -6,8 +6,10 @@ ghost use Rattle.ash_state_image.specs.Words.{word};
 ghost use Rattle.ash_state_image.specs.ObjectBytes.{element, host, plain, FitsHost, FitsPlain};
 ghost use Rattle.ash_state_image.specs.ObjectViews.{element_of, plain_in};
 ghost use Rattle.ash_state_image.specs.Image.{loaded_module, service, object, image_of};
-ghost use Rattle.ash_state_image.specs.Image.{FitsModule, FitsObject, FitServices, FitModules, FitObjects, Fits};
-ghost use Rattle.ash_state_image.specs.Views.{services_in, module_in, modules_in, object_in, objects_in, snapshot_in};
+ghost use Rattle.ash_state_image.specs.Image.{FitsModule, FitsObject, FitServices};
+ghost use Rattle.ash_state_image.specs.Image.{FitModules, FitObjects, Fits};
+ghost use Rattle.ash_state_image.specs.Views.{services_in, module_in, modules_in};
+ghost use Rattle.ash_state_image.specs.Views.{object_in, objects_in, snapshot_in};
 ghost use Rattle.ash_state_image.specs.declared.version.Version.TheVariants.{Two};
 
 use crate::parts::{BodyParts, HostParts, ModuleParts, ObjectParts, StateParts};

@@ -1,7 +1,7 @@
 //! The limits of an image that no crate below names. Those of the live objects are `ash_host`'s.
 
 /// The most bytes of the text of what is registered.
-pub const MAX_TEXT_BYTES: usize = 1_048_576;
+pub const MAX_REGISTERED_TEXT_BYTES: usize = 1_048_576;
 
 /// The most services.
 pub const MAX_SERVICES: u16 = 16;
@@ -10,7 +10,7 @@ pub const MAX_SERVICES: u16 = 16;
 pub const MAX_MODULES: u8 = 16;
 
 /// The most bytes of a module's name.
-pub const MAX_NAME_BYTES: usize = 64;
+pub const MAX_MODULE_NAME_BYTES: usize = 64;
 
 /// The most bytes of a source.
 pub const MAX_SOURCE_BYTES: usize = 65_536;
@@ -18,5 +18,5 @@ pub const MAX_SOURCE_BYTES: usize = 65_536;
 /// The most globals of a module.
 pub const MAX_GLOBALS: u16 = 256;
 
-/// The most fields of an object, as a class has at most so many members.
-pub const MAX_FIELDS: u8 = 32;
+/// The most members of a class, so many fields has an object at most.
+pub const MAX_CLASS_MEMBERS: u8 = 32;

@@ -7,10 +7,12 @@
 //!
 //! Names ascend byte by byte, so no two modules have one name.
 
-ghost use Rattle.std.specs.Prelude.{◌≡◌, ◌++◌, string_bytes, Some, None, if◌then◌else◌, OnOk, IsOkUnless};
+ghost use Rattle.std.specs.Prelude.{◌≡◌, ◌++◌, string_bytes, Some, None};
+ghost use Rattle.std.specs.Prelude.{if◌then◌else◌, OnOk, IsOkUnless};
 ghost use Rattle.std.specs.List.{flat_map, AllByRecursion};
 ghost use Rattle.ash_state_image.specs.Fields.{ReturnsField, times_at, items};
-ghost use Rattle.ash_state_image.specs.Image.{is_module_name, loaded_module, FitsModule, FitModules};
+ghost use Rattle.ash_state_image.specs.Image.{is_module_name, loaded_module};
+ghost use Rattle.ash_state_image.specs.Image.{FitsModule, FitModules};
 ghost use Rattle.ash_state_image.specs.ImageReading.{name_at, source_at, module_at, modules_at};
 ghost use Rattle.ash_state_image.specs.Views.{module_of, modules_of, module_in, modules_in};
 ghost use Rattle.ash_state_image.specs.declared.fields.ReadError.TheVariants.{Damaged};

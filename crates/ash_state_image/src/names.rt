@@ -6,7 +6,7 @@ ghost use Rattle.ash_state_image.specs.Image.{are_ascending, names_of};
 ghost use Rattle.ash_state_image.specs.Image.{is_name_start, is_name_part, is_name, is_module_name};
 ghost use Rattle.ash_state_image.specs.Views.{modules_of};
 
-use crate::limits::MAX_NAME_BYTES;
+use crate::limits::MAX_MODULE_NAME_BYTES;
 use crate::stored::StoredModule;
 
 /// A letter or `_`.
@@ -48,7 +48,7 @@ fn all_name_parts(bytes: &[u8]) -> bool
 pub fn is_module_name(name: &[u8]) -> bool
     ensures exact { result ≡ is_module_name name.now }
 {
-    is_name(name) && name.len() <= MAX_NAME_BYTES
+    is_name(name) && name.len() <= MAX_MODULE_NAME_BYTES
 }
 
 /// Whether each module's name comes before the next one's, byte by byte.

@@ -19,13 +19,15 @@ ghost use Rattle.std.specs.Prelude.{◌≡◌, ◌++◌, OnOk, IsOkUnless};
 ghost use Rattle.ash_state_image.specs.Fields.{ReturnsField};
 ghost use Rattle.ash_state_image.specs.ObjectBytes.{plain, element, script, host, array, FitsPlain};
 ghost use Rattle.ash_state_image.specs.ObjectBytes.{FitsScript, FitsHost, FitsArray};
-ghost use Rattle.ash_state_image.specs.ObjectBytes.{element_at, kind_and_state_at, script_at, array_at};
+ghost use Rattle.ash_state_image.specs.ObjectBytes.{element_at, kind_and_state_at};
+ghost use Rattle.ash_state_image.specs.ObjectBytes.{script_at, array_at};
 ghost use Rattle.ash_state_image.specs.ObjectBytes.{plain_at};
-ghost use Rattle.ash_state_image.specs.ObjectViews.{element_of, script_of, service_of, array_of, plain_of, plain_in};
+ghost use Rattle.ash_state_image.specs.ObjectViews.{element_of, script_of, service_of};
+ghost use Rattle.ash_state_image.specs.ObjectViews.{array_of, plain_of, plain_in};
 ghost use Rattle.ash_state_image.specs.declared.fields.ReadError.TheVariants.{Damaged};
 
 use crate::fields::{ReadError, prefix, u8_at, u16_at, write_u8, write_u16};
-use crate::limits::MAX_FIELDS;
+use crate::limits::MAX_CLASS_MEMBERS;
 use crate::parts::{ArrayParts, BodyParts, HostParts, ScriptParts};
 use crate::stored::{ElementType, StoredArray, StoredBody, StoredHost, StoredScript};
 use crate::words::{words_of, write_words};
@@ -65,7 +67,7 @@ fn script_of(alloc: Global, bytes: &[u8]) -> Result<(StoredScript, &[u8]), ReadE
     let (owner, rest) = u8_at(bytes)?;
     let (class, rest) = u16_at(rest)?;
     let (count, rest) = u8_at(rest)?;
-    if count > MAX_FIELDS {
+    if count > MAX_CLASS_MEMBERS {
         return Err(ReadError::Damaged);
     }
     let (fields, rest) = words_of(alloc, u16::from(count), rest)?;

@@ -21,7 +21,7 @@ use Rattle.ash_states.specs.Indexes.{index_in, plain_indexed, entry_indexed, sna
 use Rattle.ash_states.specs.Writing.{AreListed}
 use Rattle.ash_states.proofs.Lists.{all_more, all_map}
 use Rattle.ash_states.proofs.Fitting.{modules_fit, objects_fit}
-use Rattle.ash_states.proofs.Kept.{IsWritten, each_written, rules, same_state}
+use Rattle.ash_states.proofs.SnapshotRules.{IsWritten, each_written, rules, same_state}
 
 module _ (s : HostState) (h : IsAdmitted s) where
   short : (source : List ℕ) (tree : Module) → (embedding_for s.registered).read source ≡ Ok tree → length source ≤ 65536

@@ -6,11 +6,11 @@ pub mod Formed
 pub mod Restored
 pub mod Indexed
 pub mod Fitting
-pub mod Kept
+pub mod SnapshotRules
 pub mod NoServices
 pub mod Admitted
 pub mod Depicted
 pub mod OneImage
-pub mod Taken
+pub mod StepsTaken
 pub mod Placed
 pub mod Typed

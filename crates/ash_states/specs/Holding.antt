@@ -24,6 +24,9 @@ pub record IsHeld (registered : List Registration) (s : PlainState) : Type 0 whe
 
 -- A step of the code is one of the definitions, and leaves a state of which the same is known. Where it gives an error,
 -- the request changes the state and has no end.
-abbrev pub IsStepOf : List Registration → ℕ → Request → PlainState → Result (code_step.Step code_fault.SourceFault) StepError → Type 0
-IsStepOf registered budget request old (Ok one) = Steps budget request (held_with registered old) (reply_seen fault_of one.reply) (held_with registered one.state) × IsHeld registered one.state
+abbrev pub IsStepOf : List Registration → ℕ → Request → PlainState
+    → Result (code_step.Step code_fault.SourceFault) StepError → Type 0
+IsStepOf registered budget request old (Ok one) =
+    Steps budget request (held_with registered old) (reply_seen fault_of one.reply) (held_with registered one.state)
+    × IsHeld registered one.state
 IsStepOf registered budget request old (Err error) = HasNoEnd budget request (held_with registered old) error

@@ -1,7 +1,8 @@
 -- The image of the state of a host. In an image each object knows its module by the module's index, in a state by name.
 use Rattle.std.specs.Prelude.{◌≡◌, ℕ, List, [], ◌∷◌, map, slice_get, Option, Some, None}
 use Rattle.std.specs.Option.{option_map_or}
-use Rattle.ash_host.specs.Objects.{Element, Bools, Ints, Uints, Int64s, Uint64s, Handles, Hosts, Plain, Script, Array, Host}
+use Rattle.ash_host.specs.Objects.{Element, Bools, Ints, Uints, Int64s, Uint64s}
+use Rattle.ash_host.specs.Objects.{Handles, Hosts, Plain, Script, Array, Host}
 use Rattle.ash_registry.specs.Registrations.{Registration}
 use Rattle.ash_registry.specs.Text.{text_of}
 use Rattle.ash_steps.specs.States.{LoadedModule, State}
@@ -72,13 +73,17 @@ IsBodyIn version body s = (image : List ℕ) × (body ≡ 1 ∷ image) × IsImag
 
 -- No host with these registrations may be in the state of the snapshot.
 abbrev pub IsRefused : List Registration → Snapshot → Type 0
-IsRefused registered snapshot = (s : HostState) → s.registered ≡ registered → state_of snapshot ≡ s.state → snapshot.services ≡ [] → IsAdmitted s → ⊥
+IsRefused registered snapshot =
+    (s : HostState) → s.registered ≡ registered → state_of snapshot ≡ s.state → snapshot.services ≡ [] → IsAdmitted s
+    → ⊥
 
 -- What is restored of a snapshot with these registrations: the one state that it is of, where a host may be in it.
 abbrev pub IsRestored : List Registration → Snapshot → Option HostState → Type 0
-IsRestored registered snapshot (Some s) = (s.registered ≡ registered) × (state_of snapshot ≡ s.state) × (snapshot.services ≡ []) × IsAdmitted s
+IsRestored registered snapshot (Some s) =
+    (s.registered ≡ registered) × (state_of snapshot ≡ s.state) × (snapshot.services ≡ []) × IsAdmitted s
 IsRestored registered snapshot None = IsRefused registered snapshot
 
 -- Bytes are the image of one state where these are the registrations, whoever reads them.
 abbrev pub IsImageOfOneState : Type 0
-IsImageOfOneState = (bytes : List ℕ) (s t : HostState) → IsImageOf bytes s → IsImageOf bytes t → s.registered ≡ t.registered → s ≡ t
+IsImageOfOneState = (bytes : List ℕ) (s t : HostState) → IsImageOf bytes s → IsImageOf bytes t
+    → s.registered ≡ t.registered → s ≡ t

@@ -1,7 +1,8 @@
 -- The snapshot that is written of a state: each module by its index.
 use Rattle.std.specs.Prelude.{ℕ, ◌<◌, ◌^◌, List, [], map, position, unwrap_or}
 use Rattle.std.specs.List.{AllByRecursion}
-use Rattle.ash_host.specs.Objects.{Element, Bools, Ints, Uints, Int64s, Uint64s, Handles, Hosts, Plain, Script, Array, Host}
+use Rattle.ash_host.specs.Objects.{Element, Bools, Ints, Uints, Int64s, Uint64s}
+use Rattle.ash_host.specs.Objects.{Handles, Hosts, Plain, Script, Array, Host}
 use Rattle.ash_registry.specs.Text.{text_of}
 use Rattle.ash_steps.specs.States.{LoadedModule, has_name}
 use Rattle.ash_state_image.specs.Snapshots.{Loaded, Snapshot}
@@ -80,7 +81,8 @@ HasKind (Host kind state) = kind < 2 ^ 16
 abbrev pub HaveKinds : {M : Type 0} → List (ℕ × Plain M) → Type 0
 HaveKinds {M} objects = AllByRecursion (λ (e : ℕ × Plain M). HasKind e.1) objects
 
--- Each state that a host may be in has an image in version 2, where the text of what is registered has a spelling, and so
--- have the kinds that objects name.
+-- Each state that a host may be in has an image in version 2, where the text of what is registered has a spelling, and
+-- so have the kinds that objects name.
 abbrev pub HaveImages : Type 0
-HaveImages = (s : HostState) → IsAdmitted s → FitsText (text_of s.registered) → HaveKinds (s.state).objects → (bytes : List ℕ) × IsImageIn Two bytes s
+HaveImages = (s : HostState) → IsAdmitted s → FitsText (text_of s.registered) → HaveKinds (s.state).objects
+    → (bytes : List ℕ) × IsImageIn Two bytes s

@@ -23,8 +23,10 @@ ReadsModule embedding stored (Some m) = (loaded_seen m ≡ loaded_of stored) × 
 ReadsModule embedding stored None = HasTree embedding stored → ⊥
 
 -- the modules that were stored are read again, or the source of one of them has no typed tree
-abbrev pub ReadsModules : {Fault : Type 0} → Embedding Fault → List Loaded → Option (List code_module.LoadedModule) → Type 0
-ReadsModules embedding stored (Some ms) = (modules_seen ms ≡ loaded_modules_of stored) × AllByRecursion (IsRead embedding) ms
+abbrev pub ReadsModules : {Fault : Type 0} → Embedding Fault → List Loaded → Option (List code_module.LoadedModule)
+    → Type 0
+ReadsModules embedding stored (Some ms) =
+    (modules_seen ms ≡ loaded_modules_of stored) × AllByRecursion (IsRead embedding) ms
 ReadsModules embedding stored None = AllByRecursion (HasTree embedding) stored → ⊥
 
 -- these objects, with others put at their numbers one after another
@@ -34,5 +36,6 @@ with_all objects (e ∷ more) = with_all (with_at e.0 e.1 objects) more
 
 -- the state of a snapshot, where a host may be in it
 abbrev pub RestoresState : List Registration → Snapshot → Option PlainState → Type 0
-RestoresState registered snapshot (Some s) = (state_seen s ≡ state_of snapshot) × (snapshot.services ≡ []) × IsHeld registered s
+RestoresState registered snapshot (Some s) =
+    (state_seen s ≡ state_of snapshot) × (snapshot.services ≡ []) × IsHeld registered s
 RestoresState registered snapshot None = IsRefused registered snapshot

@@ -35,7 +35,8 @@ outcome_of registered one = (one.reply, record { registered = registered; state 
 
 -- The step of one request, with so many ticks. There is none where a run calls a host object.
 abbrev pub step : ℕ → Request → HostState → Option (Reply SourceFault × HostState)
-step budget request s = option_map (outcome_of s.registered) (steps.step (embedding_for s.registered) budget request s.state no_hosts)
+step budget request s =
+    option_map (outcome_of s.registered) (steps.step (embedding_for s.registered) budget request s.state no_hosts)
 
 -- Memory was refused to a request that takes it, before the state changed: the reply says so, and all is as it was. It
 -- replaces no cause that is found without memory.
@@ -57,7 +58,8 @@ HasNoEnd budget request old errors.NoStep = IsChange (task_of request old) × (s
 
 -- What the code gives for a request. Where it gives an error, the state is lost, and nothing but what is registered is
 -- left of it.
-abbrev pub Handled : ℕ → Request → HostState → Result (code_reply.Reply code_fault.SourceFault) StepError → HostState → Type 0
+abbrev pub Handled : ℕ → Request → HostState → Result (code_reply.Reply code_fault.SourceFault) StepError → HostState
+    → Type 0
 Handled budget request old (Ok reply) new = Steps budget request old (reply_seen fault_of reply) new
 Handled budget request old (Err error) new = HasNoEnd budget request old error × (new ≡ empty old.registered)
 

@@ -7,8 +7,10 @@ ghost use Rattle.ash_plain_data.specs.ObjectViews.{element_seen, object_seen};
 ghost use Rattle.ash_plain_steps.specs.StateViews.{loaded_seen, modules_seen};
 ghost use Rattle.ash_state_image.specs.ObjectViews.{element_of, plain_in};
 ghost use Rattle.ash_state_image.specs.Views.{modules_in, objects_in};
-ghost use Rattle.ash_states.specs.Indexes.{index_in, element_indexed, plain_indexed, entry_indexed, stored_modules_of};
-ghost use Rattle.ash_states.specs.Indexes.{IsElementIndexed, IsPlainIndexed, HasElementKind, HasKind};
+ghost use Rattle.ash_states.specs.Indexes.{index_in, element_indexed, plain_indexed};
+ghost use Rattle.ash_states.specs.Indexes.{entry_indexed, stored_modules_of};
+ghost use Rattle.ash_states.specs.Indexes.{IsElementIndexed, IsPlainIndexed};
+ghost use Rattle.ash_states.specs.Indexes.{HasElementKind, HasKind};
 ghost use Rattle.ash_states.specs.Writing.{HavePartKinds};
 
 use ash_plain::objects::Objects;

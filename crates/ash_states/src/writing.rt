@@ -27,7 +27,8 @@ fn state_parts<'a>(
     requires held { IsHeld (registered registry.now) state.now }
     requires listed { AreListed (held_with (registered registry.now) state.now)
         modules.now objects.now }
-    ensures same { snapshot_in result ≡ snapshot_for (held_with (registered registry.now) state.now) }
+    ensures same { snapshot_in result
+        ≡ snapshot_for (held_with (registered registry.now) state.now) }
     ensures fits { Fits Two (snapshot_in result) }
 {
     StateParts {

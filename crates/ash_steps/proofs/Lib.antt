@@ -5,4 +5,4 @@ mod Determined
 mod Numbers
 mod Fits
 mod Budgets
-mod Taken
+mod AnswersInOrder

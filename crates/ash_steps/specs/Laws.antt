@@ -16,11 +16,13 @@ CountsAnswers old _ new = new ≡ old
 
 -- the step was put off
 abbrev pub WasPutOff : {Fault : Type 0} → Request → State → Hosts → Step Fault → Type 0
-WasPutOff {Fault} request state hosts one = (refusal : Refusal Fault) × IsPutOff request refusal × (one ≡ replied (Refused refusal) state hosts)
+WasPutOff {Fault} request state hosts one =
+    (refusal : Refusal Fault) × IsPutOff request refusal × (one ≡ replied (Refused refusal) state hosts)
 
 -- two steps of one request are one, but where one of them was put off
 abbrev pub AreOneUnlessPutOff : {Fault : Type 0} → Request → State → Hosts → Step Fault → Step Fault → Type 0
-AreOneUnlessPutOff request state hosts one other = (one ≡ other) ⊎ (WasPutOff request state hosts one ⊎ WasPutOff request state hosts other)
+AreOneUnlessPutOff request state hosts one other =
+    (one ≡ other) ⊎ (WasPutOff request state hosts one ⊎ WasPutOff request state hosts other)
 
 -- the events of requests, one after another
 abbrev pub events_of_reply : {Fault : Type 0} → Reply Fault → List Event
@@ -30,7 +32,8 @@ events_of_reply _ = []
 abbrev pub events_of : {Fault : Type 0} → History Fault → List Event
 events_of history = flat_map events_of_reply history.replies
 
--- Over requests each number has its life: it is drawn at most once, and dropped at most once and only after it was drawn.
+-- Over requests each number has its life: it is drawn at most once, and dropped at most once and only after it was
+-- drawn.
 abbrev pub NumbersLiveOnce : {Fault : Type 0} → State → History Fault → Type 0
 NumbersLiveOnce old history = Lives (numbering_of old) (events_of history) (numbering_of history.state)
 

@@ -18,18 +18,21 @@ use Rattle.ash_typed.specs.declared.tree.operations.Operation.TheVariants as ope
 use Rattle.ash_typed.specs.Tree.{Expr, Null, This, Read, Invoke, Cast, Operate, Assign, Call, Place, Held, exprs}
 use Rattle.ash_typed.specs.StatementTree.{Initialization, Stmt, Declare}
 use Rattle.ash_typed.specs.Modules.{Function, Interface, Class, Module}
-use Rattle.ash_phrases.specs.ExampleParts.{int, handle_of_class, number, local, global, variable, named, alone, returning, evaluate, function, module_of, counter, new_counter, f}
+use Rattle.ash_phrases.specs.ExampleParts.{int, handle_of_class, number, local, global, variable, named, alone}
+use Rattle.ash_phrases.specs.ExampleParts.{returning, evaluate, function, module_of, counter, new_counter, f}
 use Rattle.ash_steps.specs.States.{State}
 use Rattle.ash_steps.specs.Requests.{Fields, Elements, Shown}
 use Rattle.ash_steps.specs.IntegerRuns.{functions}
 
 -- `void f() { Counter c(1); }`
 abbrev pub drawing : Module
-drawing = functions (function f None [] (Declare 1 (variable (vars.Object (objects.Host 1)) (Some (new_counter 1)) ∷ []) ∷ []) ∷ [])
+drawing = functions (function f None [] (Declare 1 (variable (vars.Object (objects.Host 1)) (Some (new_counter 1)) ∷ [])
+    ∷ []) ∷ [])
 
 -- `void f() { Counter@ a = Counter(1); Counter@ b = Counter(2); @a = null; Counter@ c = Counter(3); }`
 abbrev pub let_go_early : Module
-let_go_early = functions (function f None [] (declared 1 ∷ declared 2 ∷ evaluate (Assign (local 0 counter) Null) ∷ declared 3 ∷ []) ∷ [])
+let_go_early = functions (function f None [] (declared 1 ∷ declared 2 ∷ evaluate (Assign (local 0 counter) Null)
+    ∷ declared 3 ∷ []) ∷ [])
   where
     declared : ℕ → Stmt
     declared n = Declare 1 (variable counter (Some (new_counter n)) ∷ [])
@@ -38,7 +41,9 @@ let_go_early = functions (function f None [] (declared 1 ∷ declared 2 ∷ eval
 -- `int f() { A@ a = A(); a.k = 3; @g = a; return g.v(); } int h() { @g = B(); return g.v(); }`
 -- `bool c() { A@ a = cast<A>(g); return a is null; }`
 abbrev pub through_an_interface : Module
-through_an_interface = record { interfaces = i ∷ []; classes = a ∷ b ∷ []; functions = main ∷ other ∷ test ∷ []; globals = alone (named (codes "g") of_i None) ∷ [] }
+through_an_interface =
+    record { interfaces = i ∷ []; classes = a ∷ b ∷ []; functions = main ∷ other ∷ test ∷ [];
+    globals = alone (named (codes "g") of_i None) ∷ [] }
   where
     of_i : VarType
     of_i = vars.Handle (objects.Interface 0)
@@ -50,10 +55,13 @@ through_an_interface = record { interfaces = i ∷ []; classes = a ∷ b ∷ [];
     g = global 0 of_i
 
     i : Interface
-    i = record { name = codes "I"; line = 1; classes_before = 0; methods = record { name = codes "v"; result = Some int; parameters = [] } ∷ [] }
+    i = record { name = codes "I"; line = 1; classes_before = 0;
+        methods = record { name = codes "v"; result = Some int; parameters = [] } ∷ [] }
 
     class_of : List ℕ → List Initialization → Expr → Class
-    class_of name fields e = record { name = name; line = 1; interfaces = record { interface = 0; methods = 0 ∷ [] } ∷ []; fields = fields; constructor = None; methods = function (codes "v") (Some int) [] (returning e ∷ []) ∷ [] }
+    class_of name fields e =
+        record { name = name; line = 1; interfaces = record { interface = 0; methods = 0 ∷ [] } ∷ []; fields = fields;
+        constructor = None; methods = function (codes "v") (Some int) [] (returning e ∷ []) ∷ [] }
 
     a : Class
     a = class_of (codes "A") (named (codes "k") int None ∷ []) (Read (Held (This 0) (members.Field 0 0 int)))
@@ -68,17 +76,24 @@ through_an_interface = record { interfaces = i ∷ []; classes = a ∷ b ∷ [];
     called = returning (Invoke (Read g) (methods.Interface 0 0 (Some int)) [] (exprs []))
 
     main : Function
-    main = function f (Some int) [] (Declare 1 (variable of_a (Some (new 0)) ∷ []) ∷ evaluate (Assign (Held (Read (local 0 of_a)) (members.Field 0 0 int)) (number 3)) ∷ evaluate (Assign g (Read (local 0 of_a))) ∷ called ∷ [])
+    main = function f (Some int) [] (Declare 1 (variable of_a (Some (new 0)) ∷ [])
+        ∷ evaluate (Assign (Held (Read (local 0 of_a)) (members.Field 0 0 int)) (number 3))
+        ∷ evaluate (Assign g (Read (local 0 of_a))) ∷ called ∷ [])
 
     other : Function
     other = function (codes "h") (Some int) [] (evaluate (Assign g (new 1)) ∷ called ∷ [])
 
     test : Function
-    test = function (codes "c") (Some vars.Bool) [] (Declare 1 (variable of_a (Some (Cast (objects.Class 0) (Read g))) ∷ []) ∷ returning (Operate (operations.Compare comparators.Is operands.Handles) (Read (local 0 of_a)) Null) ∷ [])
+    test = function (codes "c") (Some vars.Bool) []
+        (Declare 1 (variable of_a (Some (Cast (objects.Class 0) (Read g))) ∷ [])
+        ∷ returning (Operate (operations.Compare comparators.Is operands.Handles) (Read (local 0 of_a)) Null) ∷ [])
 
 -- `array<int> a; void f(uint n) { a.resize(n); }`
 abbrev pub resizing : Module
-resizing = module_of [] (alone (named (codes "a") of (Some (Call (targets.Array (elements.Integer ints.Int)) [] (exprs [])))) ∷ []) (function f None (uint ∷ []) (evaluate (Invoke (Read (global 0 of)) (methods.Array arrays.Resize) (uint ∷ []) (exprs (Read (local 0 uint) ∷ []))) ∷ []) ∷ [])
+resizing = module_of [] (alone (named (codes "a") of
+    (Some (Call (targets.Array (elements.Integer ints.Int)) [] (exprs [])))) ∷ [])
+    (function f None (uint ∷ []) (evaluate (Invoke (Read (global 0 of)) (methods.Array arrays.Resize) (uint ∷ [])
+    (exprs (Read (local 0 uint) ∷ []))) ∷ []) ∷ [])
   where
     of : VarType
     of = vars.Object (objects.Array (elements.Integer ints.Int))
@@ -89,10 +104,12 @@ resizing = module_of [] (alone (named (codes "a") of (Some (Call (targets.Array 
 -- objects as they are shown
 
 abbrev pub class_shown : ℕ → List ℕ → ℕ → List (List ℕ × Word) → Shown
-class_shown number name count fields = record { number = number; type_name = name; count = count; contents = Fields fields }
+class_shown number name count fields =
+    record { number = number; type_name = name; count = count; contents = Fields fields }
 
 abbrev pub array_shown : ℕ → ℕ → List Word → Shown
-array_shown number count elements = record { number = number; type_name = codes "array"; count = count; contents = Elements elements }
+array_shown number count elements =
+    record { number = number; type_name = codes "array"; count = count; contents = Elements elements }
 
 -- states at the limits
 
@@ -102,4 +119,6 @@ numbers_spent state = record state { last = 18446744073709551615 }
 
 -- a module `m` is loaded, which declares no global, and this many objects live
 abbrev pub with_objects : ℕ → State → State
-with_objects count state = record state { modules = record { name = codes "m"; source = 0 ∷ []; globals = [] } ∷ []; objects = map (λ (n : ℕ). (n, Script (codes "k") 0 [])) (range_with_len 1 count); last = count }
+with_objects count state =
+    record state { modules = record { name = codes "m"; source = 0 ∷ []; globals = [] } ∷ [];
+    objects = map (λ (n : ℕ). (n, Script (codes "k") 0 [])) (range_with_len 1 count); last = count }

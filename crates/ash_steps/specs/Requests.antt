@@ -14,8 +14,9 @@ pub data Request : Type 0 where
   Seq : Request
   Snapshot : Request
 
--- Why a request is refused; a source is refused for its first fault. The last four causes are not in the state: the host
--- must be opened again, a disk failed, memory was refused, or the number of the store's generation is the greatest.
+-- Why a request is refused; a source is refused for its first fault. The last four causes are not in the state: the
+-- host must be opened again, a disk failed, memory was refused, or the number of the store's generation is the
+-- greatest.
 pub data Refusal (Fault : Type 0) : Type 0 where
   SequenceSpent : Refusal Fault
   BadName : Refusal Fault
@@ -39,8 +40,8 @@ pub data ObjectContents : Type 0 where
   HostState : (state : List ℕ) → ObjectContents
   Elements : (elements : List Word) → ObjectContents
 
--- An object as a reply shows it: its number, the name of its type, its count and what is in it. A class has the name of its
--- module before its own, `m.C`.
+-- An object as a reply shows it: its number, the name of its type, its count and what is in it. A class has the name of
+-- its module before its own, `m.C`.
 pub record Shown : Type 0 where
   pub number : ℕ
   pub type_name : List ℕ

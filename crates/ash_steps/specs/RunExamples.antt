@@ -24,7 +24,9 @@ begin = empty (int_bytes (pos 0) ∷ [])
 -- these requests are answered so, from a state, within a budget of ticks for each, by so many free counters and these
 -- answers of hosts
 abbrev pub RepliesFrom : State → List Module → ℕ → List Request → ℕ → List HostRecord → List (Reply (Unit {0})) → Type 0
-RepliesFrom state modules budget requests count answers replies = option_map (λ (h : History (Unit {0})). h.replies) (run (embedding_of modules) budget requests state (hosts count answers)) ≡ Some replies
+RepliesFrom state modules budget requests count answers replies =
+    option_map (λ (h : History (Unit {0})). h.replies)
+    (run (embedding_of modules) budget requests state (hosts count answers)) ≡ Some replies
 
 -- the same before any request, with 20 ticks
 abbrev pub RepliesOf : List Module → List Request → ℕ → List HostRecord → List (Reply (Unit {0})) → Type 0

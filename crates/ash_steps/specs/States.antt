@@ -1,5 +1,6 @@
 -- What outlives a request, and what hosts bring to one.
-use Rattle.std.specs.Prelude.{ℕ, ◌+◌, Bool, not, if◌then◌else◌, List, [], ◌∷◌, map, filter, find, flat_map, Option, Result}
+use Rattle.std.specs.Prelude.{ℕ, ◌+◌, Bool, not, if◌then◌else◌, List, [], ◌∷◌}
+use Rattle.std.specs.Prelude.{map, filter, find, flat_map, Option, Result}
 use Rattle.std.specs.declared.cmp.Ordering.{Ordering}
 use Rattle.std.specs.Ordering.{is_lt, nat_cmp}
 use Rattle.std.specs.Cmp.Lexicographic.{slice_cmp}
@@ -35,8 +36,8 @@ pub record Hosts : Type 0 where
   pub pool : List FreeBox
   pub answers : List HostRecord
 
--- What the embedding program has registered, as far as requests see it: the typed tree that a source is checked to be, or
--- the first fault for which it is none, and the name of the type of each kind.
+-- What the embedding program has registered, as far as requests see it: the typed tree that a source is checked to be,
+-- or the first fault for which it is none, and the name of the type of each kind.
 pub record Embedding (Fault : Type 0) : Type 0 where
   pub read : List ℕ → Result Module Fault
   pub name_of_kind : ℕ → List ℕ
@@ -64,7 +65,8 @@ without_module name ms = filter (λ m. not (has_name name m)) ms
 
 -- the modules with what a run left in the globals of the one of this name
 abbrev pub update_globals : List ℕ → List Word → List LoadedModule → List LoadedModule
-update_globals name globals ms = map (λ (m : LoadedModule). if has_name name m then record m { globals = globals } else m) ms
+update_globals name globals ms =
+    map (λ (m : LoadedModule). if has_name name m then record m { globals = globals } else m) ms
 
 -- the globals of all modules
 abbrev pub globals_of : List LoadedModule → List Word
@@ -72,13 +74,17 @@ globals_of ms = flat_map (λ (m : LoadedModule). m.globals) ms
 
 -- states and worlds
 
--- what a run finds, where a module has these globals and there are these others: what their globals hold is held outside
+-- what a run finds, where a module has these globals and there are these others: what their globals hold is held
+-- outside
 abbrev pub world_of : List Word → List LoadedModule → State → Hosts → World
-world_of globals others state hosts = record { globals = globals; outside = handles (globals_of others); objects = state.objects; last = state.last; services = state.services; pool = hosts.pool; answers = hosts.answers; events = [] }
+world_of globals others state hosts =
+    record { globals = globals; outside = handles (globals_of others); objects = state.objects; last = state.last;
+    services = state.services; pool = hosts.pool; answers = hosts.answers; events = [] }
 
 -- the state that a run leaves, with these modules: one request more is answered
 abbrev pub state_after : List LoadedModule → World → State → State
-state_after ms world old = record { modules = ms; objects = world.objects; services = world.services; last = world.last; seq = old.seq + 1 }
+state_after ms world old =
+    record { modules = ms; objects = world.objects; services = world.services; last = world.last; seq = old.seq + 1 }
 
 -- the objects of a state by their numbers, and the last number that was given
 abbrev pub numbering_of : State → Numbering

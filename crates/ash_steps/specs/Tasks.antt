@@ -1,5 +1,7 @@
 -- What a request asks for, once all that it names is found, or the first cause for which it is refused.
-use Rattle.std.specs.Prelude.{ℕ, ◌-◌, ◌^◌, ◌==◌, ◌&&◌, ◌||◌, nat_le, nat_lt, Bool, true, false, not, if◌then◌else◌, List, [], ◌∷◌, codes, length, map, zip, position, slice_get, Option, Some, None, is_some, option_map, Result, Ok, Err}
+use Rattle.std.specs.Prelude.{ℕ, ◌-◌, ◌^◌, ◌==◌, ◌&&◌, ◌||◌, nat_le, nat_lt, Bool, true, false, not}
+use Rattle.std.specs.Prelude.{if◌then◌else◌, List, [], ◌∷◌, codes, length, map, zip, position, slice_get}
+use Rattle.std.specs.Prelude.{Option, Some, None, is_some, option_map, Result, Ok, Err}
 use Rattle.std.specs.List.{list_all}
 use Rattle.std.specs.Option.{option_map_or, option_and_then}
 use Rattle.std.specs.Ordering.{int_eq}
@@ -19,9 +21,14 @@ use Rattle.ash_phrases.specs.Classes.{places_of_classes, dotted}
 use Rattle.ash_steps.specs.declared.argument.Argument.{Argument}
 use Rattle.ash_steps.specs.declared.argument.Argument.TheVariants as arguments
 use Rattle.ash_steps.specs.States.{LoadedModule, State, Embedding, find_module, globals_of}
-use Rattle.ash_steps.specs.Requests.{Request, Load, Call, Discard, Get, Object, Seq, Snapshot, Refusal, SequenceSpent, BadName, ModuleTaken, TooManyModules, BadSource, NoModule, NoFunction, NotCallable, BadArguments, NoGlobal, NoObject, ObjectContents, Fields, HostState, Elements, Shown}
+use Rattle.ash_steps.specs.Requests.{Request, Load, Call, Discard, Get, Object, Seq, Snapshot, Refusal}
+use Rattle.ash_steps.specs.Requests.{SequenceSpent, BadName, ModuleTaken, TooManyModules, BadSource}
+use Rattle.ash_steps.specs.Requests.{NoModule, NoFunction, NotCallable, BadArguments, NoGlobal}
+use Rattle.ash_steps.specs.Requests.{NoObject, ObjectContents, Fields, HostState, Elements, Shown}
 
--- names of modules: a letter or `_`, then letters, digits and `_`, at most 64 bytes
+-- names of modules: a letter or `_`, then letters, digits and `_`, at most so many bytes
+abbrev pub max_module_name_bytes : ℕ
+max_module_name_bytes = 64
 
 abbrev pub is_between : ℕ → ℕ → ℕ → Bool
 is_between low high code = nat_le low code && nat_le code high
@@ -39,7 +46,7 @@ is_name [] = false
 is_name (code ∷ more) = is_name_start code && list_all is_name_part more
 
 abbrev pub is_module_name : List ℕ → Bool
-is_module_name name = is_name name && nat_le (length name) 64
+is_module_name name = is_name name && nat_le (length name) max_module_name_bytes
 
 -- how many modules there are at most, and how many requests are answered at most
 abbrev pub max_modules : ℕ
@@ -57,7 +64,8 @@ option_cons _ _ = None
 -- an argument as a word of a parameter's type, where the type holds it
 abbrev pub argument_of : VarType → Argument → Option Word
 argument_of vars.Bool (arguments.Truth b) = Some (words.Bool b)
-argument_of (vars.Integer int_type) (arguments.Number z) = if int_eq (reduced int_type z) z then Some (word_at int_type z) else None
+argument_of (vars.Integer int_type) (arguments.Number z) =
+    if int_eq (reduced int_type z) z then Some (word_at int_type z) else None
 argument_of _ _ = None
 
 -- as many arguments as parameters, each of its type
@@ -127,11 +135,15 @@ module _ {Fault : Type 0} where
 
 -- what a global of a module holds
 abbrev pub word_named : List ℕ → Module → List Word → Option Word
-word_named name tree globals = option_and_then (λ place. slice_get globals place) (position (λ other. bytes_eq other name) (names_of_globals tree.globals))
+word_named name tree globals =
+    option_and_then (λ place. slice_get globals place)
+    (position (λ other. bytes_eq other name) (names_of_globals tree.globals))
 
 -- the class at a place in the source of a module
 abbrev pub class_placed : ℕ → Module → Option Class
-class_placed place tree = option_and_then (λ class. slice_get tree.classes class) (position (λ other. other == place) (places_of_classes tree))
+class_placed place tree =
+    option_and_then (λ class. slice_get tree.classes class)
+    (position (λ other. other == place) (places_of_classes tree))
 
 abbrev pub name_of : Initialization → List ℕ
 name_of v = v.name
@@ -140,8 +152,8 @@ abbrev pub shown_fields : Class → List Word → List (List ℕ × Word)
 shown_fields c fields = zip (map name_of c.fields) fields
 
 module _ {Fault : Type 0} (embedding : Embedding Fault) where
-  -- The typed tree of a module that is loaded. In every state that requests lead to there is one, since the source had one
-  -- when it was loaded; so no request is refused since there is none.
+  -- The typed tree of a module that is loaded. In every state that requests lead to there is one, since the source had
+  -- one when it was loaded; so no request is refused since there is none.
   abbrev pub tree_of : LoadedModule → Option Module
   tree_of m = tree_in (embedding.read m.source)
 
@@ -167,16 +179,20 @@ module _ {Fault : Type 0} (embedding : Embedding Fault) where
 
   -- the class of an object, by the name of its module and the place in its source
   abbrev pub class_named : List ℕ → ℕ → State → Option Class
-  class_named owner place state = option_and_then (class_placed place) (option_and_then tree_of (find_module owner state))
+  class_named owner place state =
+      option_and_then (class_placed place) (option_and_then tree_of (find_module owner state))
 
   -- the name of the type of an object, and what is in it
   abbrev pub described : Plain (List ℕ) → State → Option (List ℕ × ObjectContents)
-  described (Script owner place fields) state = option_map (λ (c : Class). (dotted owner c.name, Fields (shown_fields c fields))) (class_named owner place state)
+  described (Script owner place fields) state =
+      option_map (λ (c : Class). (dotted owner c.name, Fields (shown_fields c fields))) (class_named owner place state)
   described (Array of elements) state = Some (codes "array", Elements elements)
   described (Host kind bytes) state = Some (embedding.name_of_kind kind, HostState bytes)
 
   abbrev pub shown : ℕ → State → List ℕ × ObjectContents → Shown
-  shown number state of = record { number = number; type_name = of.0; count = count_of number (globals_of state.modules) state.objects; contents = of.1 }
+  shown number state of =
+      record { number = number; type_name = of.0; count = count_of number (globals_of state.modules) state.objects;
+      contents = of.1 }
 
   abbrev pub showing : ℕ → State → TaskResult Fault
   showing number state =
@@ -184,8 +200,8 @@ module _ {Fault : Type 0} (embedding : Embedding Fault) where
       (λ object. require_some (described object state) NoObject
       (λ of. Ok (Show (shown number state of))))
 
-  -- The task of a request in a state, or the first cause for which it is refused. No budget, no free box, no answer of a
-  -- host and no memory has a part in it.
+  -- The task of a request in a state, or the first cause for which it is refused. No budget, no free box, no answer of
+  -- a host and no memory has a part in it.
   abbrev pub task_of : Request → State → TaskResult Fault
   task_of (Load name source) state = numbered state (loading name source state)
   task_of (Call name function args) state = numbered state (calling name function args state)

@@ -14,10 +14,10 @@ use std::alloc::{AllocError, Global};
 pub const AT_THE_LIMIT: usize = 62_835;
 
 /// As many bytes of records as there are in such a file.
-pub const LIMIT: u64 = 16_777_216;
+pub const FULL_RECORD_BYTES: u64 = 16_777_216;
 
-/// How long a source is at the most.
-const MAX_SOURCE: usize = 65_536;
+/// The most bytes of a source.
+const MAX_SOURCE_BYTES: usize = 65_536;
 
 static NAMES: [&str; 16] = [
     "A", "B", "C", "D", "E", "F", "G", "H", "I", "J", "K", "L", "M", "N", "O", "P",
@@ -31,7 +31,7 @@ pub fn spaces(alloc: Global, count: usize) -> Result<Vec<u8>, AllocError> {
 /// The image of a host with sixteen modules, whose sources are spaces: so many of the last, and as many as there may be
 /// of the others.
 fn large_image(alloc: Global, seq: u64, last: usize) -> Result<Vec<u8>, AllocError> {
-    let longest = spaces(alloc, MAX_SOURCE)?;
+    let longest = spaces(alloc, MAX_SOURCE_BYTES)?;
     let source = longest.as_slice();
     let mut modules = Vec::new(alloc);
     for name in &NAMES {
@@ -63,7 +63,7 @@ fn small_image(alloc: Global, seq: u64) -> Result<Vec<u8>, AllocError> {
 pub fn full_file(alloc: Global, number: u64, last: usize) -> Result<Vec<u8>, AllocError> {
     let mut file = generation(alloc, number, &image(alloc, 0, &[])?)?;
     for seq in 1..16 {
-        add_record(&mut file, &large_image(alloc, seq, MAX_SOURCE)?)?;
+        add_record(&mut file, &large_image(alloc, seq, MAX_SOURCE_BYTES)?)?;
     }
     add_record(&mut file, &large_image(alloc, 16, last)?)?;
     add_record(&mut file, &small_image(alloc, 17)?)?;

@@ -235,7 +235,7 @@ pub fn state<D: Disk>(host: &mut Host<D>) -> State {
 }
 
 /// A host with a new store on such disks and nothing registered.
-pub fn made(alloc: Global, a: &[u8], b: &[u8]) -> Result<Host<MemoryDisk>, Fail> {
+pub fn new_host(alloc: Global, a: &[u8], b: &[u8]) -> Result<Host<MemoryDisk>, Fail> {
     let (a, b) = (disk(alloc, a)?, disk(alloc, b)?);
     Ok(created(alloc, a, b, Registry::new(alloc))?)
 }
@@ -257,7 +257,7 @@ pub fn found_state(alloc: Global, a: &[u8], b: &[u8]) -> Result<Result<State, St
 
 /// A host that has answered two requests, after which `n` is 7.
 pub fn used(alloc: Global) -> Result<Host<MemoryDisk>, Fail> {
-    let mut host = made(alloc, &[], &[])?;
+    let mut host = new_host(alloc, &[], &[])?;
     need(alloc, load(&mut host, SOURCE))?;
     need(alloc, add(&mut host, 5))?;
     Ok(host)
@@ -265,7 +265,7 @@ pub fn used(alloc: Global) -> Result<Host<MemoryDisk>, Fail> {
 
 /// A host with a module without source for each of these names, loaded in this order.
 pub fn with_modules(alloc: Global, names: &[&str]) -> Result<Host<MemoryDisk>, Fail> {
-    let mut host = made(alloc, &[], &[])?;
+    let mut host = new_host(alloc, &[], &[])?;
     for name in names {
         need(alloc, load_as(&mut host, name, b""))?;
     }

@@ -6,7 +6,7 @@ use ash_durable::Host;
 use ash_plain_steps::request::Request;
 use ash_steps::Argument;
 use ash_store_fixtures::hosts::{
-    SOURCE, call, line_for, line_of, lines_for, load, made, need, seq, shown,
+    SOURCE, call, line_for, line_of, lines_for, load, need, new_host, seq, shown,
 };
 use ash_store_fixtures::lives::{File, Run, Start, Step};
 use std::alloc::Global;
@@ -79,7 +79,7 @@ const REPLIES: &str =
 
 #[test]
 fn each_request(rt: HostRuntime) -> Result<(), Fail> {
-    let mut host = made(rt.alloc(), &[], &[])?;
+    let mut host = new_host(rt.alloc(), &[], &[])?;
     let found = line_for(rt.alloc(), &mut host, &REQUESTS[0])?;
     check_text(&rt, found.as_str(), "ok seq 1\n", "the first request");
     let found = lines_for(rt.alloc(), &mut host, &REQUESTS)?;
@@ -113,7 +113,7 @@ fn check_refused(
 
 /// A host that has loaded a module.
 fn loaded(alloc: Global) -> Result<Host<MemoryDisk>, Fail> {
-    let mut host = made(alloc, &[], &[])?;
+    let mut host = new_host(alloc, &[], &[])?;
     need(alloc, load(&mut host, SOURCE))?;
     Ok(host)
 }

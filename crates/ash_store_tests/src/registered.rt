@@ -84,7 +84,7 @@ enum Damage {
     Word(usize, &'static [u8], usize, u8),
 }
 
-fn put(file: &mut Vec<u8>, place: usize, byte: u8) {
+fn set_byte(file: &mut Vec<u8>, place: usize, byte: u8) {
     if let Some(old) = file.get_mut(place) {
         *old = byte;
     }
@@ -104,14 +104,14 @@ fn damaged(alloc: Global, file: &[u8], damage: Damage) -> Result<Vec<u8>, AllocE
     let mut changed = Vec::from_slice(alloc, file)?;
     match damage {
         Damage::Cut(length) => changed.truncate(length),
-        Damage::Byte(place, byte) => put(&mut changed, place, byte),
+        Damage::Byte(place, byte) => set_byte(&mut changed, place, byte),
         Damage::Two(first, second, byte) => {
-            put(&mut changed, first, byte);
-            put(&mut changed, second, byte);
+            set_byte(&mut changed, first, byte);
+            set_byte(&mut changed, second, byte);
         }
         Damage::Word(at, word, place, length) => {
             changed = with_word(alloc, file, at, word)?;
-            put(&mut changed, place, length);
+            set_byte(&mut changed, place, length);
         }
     }
     Ok(changed)

@@ -29,7 +29,7 @@ fn disk(alloc: Global, bytes: &[u8]) -> Result<MemoryDisk, AllocError> {
 }
 
 /// A new store with the program's registrations.
-fn made(alloc: Global) -> Result<Host<MemoryDisk>, Fail> {
+fn registered_host(alloc: Global) -> Result<Host<MemoryDisk>, Fail> {
     Ok(new_host(alloc, registrations(alloc)?)?)
 }
 
@@ -60,7 +60,7 @@ fn reopened(host: Host<MemoryDisk>) -> Result<Host<MemoryDisk>, StoreFault> {
 /// The disks of a store with the program's registrations and a module, which were handed back where it was opened with
 /// one method more.
 fn refused_disks(rt: &impl Abort, alloc: Global) -> Result<(MemoryDisk, MemoryDisk), Fail> {
-    let mut host = made(alloc)?;
+    let mut host = registered_host(alloc)?;
     replies(alloc, &mut host, b"load m 10\nint n = 2;\n")?;
     let (first, second) = closed(host);
     match Host::open(alloc, first, second, one_more(alloc)?) {
@@ -105,7 +105,7 @@ fn one_more_method_is_another_interface(rt: HostRuntime) -> Result<(), Fail> {
 
 #[test]
 fn a_host_that_is_opened_again_has_what_was_registered(rt: HostRuntime) -> Result<(), Fail> {
-    let mut host = reopened(made(rt.alloc())?)?;
+    let mut host = reopened(registered_host(rt.alloc())?)?;
     let found = replies(rt.alloc(), &mut host, b"load m 14\nint tally = 1;\n")?;
     check_text(
         &rt,

@@ -29,15 +29,15 @@ use Rattle.ash_tree.specs.Tree.{Unary, Conditional, Assign, Suffix, Field, Metho
 use Rattle.ash_tree.specs.Tree.{Operation, place_of, exprs, chained, suffixed}
 use Rattle.ash_tree.specs.Tokens.{Tokens}
 use Rattle.ash_tree.specs.Types.{IsElement}
-use Rattle.ash_tree.specs.Operators.{primitive, unary_operator, binary_operator, level, LEVELS, assign_operator}
+use Rattle.ash_tree.specs.Operators.{primitive, unary_operator, binary_operator, level, max_level, assign_operator}
 
 -- No token is deeper than this.
-abbrev pub DEPTH : ℕ
-DEPTH = 64
+abbrev pub max_depth : ℕ
+max_depth = 64
 
 -- A phrase of this depth may begin here: the limit does not hold for the last `free` tokens.
 abbrev pub Within : ℕ → ℕ → Tokens → Type 0
-Within free depth from = free < length from → depth ≤ DEPTH
+Within free depth from = free < length from → depth ≤ max_depth
 
 mutual
   -- The `assign` is one deeper than what it is in.
@@ -70,16 +70,16 @@ mutual
     no_assign : {free depth : ℕ} {from left : Tokens} {e : Expr} → IsCond free depth from e left
         → IsAssign free depth from e left
     assign : {free depth : ℕ} {m : Meaning} {p : Place} {from after left : Tokens} {target value : Expr}
-        {operator : AssignOp} → IsBinary free depth LEVELS from target ((m, p) ∷ after)
+        {operator : AssignOp} → IsBinary free depth max_level from target ((m, p) ∷ after)
         → assign_operator m ≡ Some operator → IsInner free depth after value left
         → IsAssign free depth from (Assign (place_of target) target operator value) left
 
   -- cond = binary [ "?" assign ":" assign ]
   pub data IsCond : ℕ → ℕ → Tokens → Expr → Tokens → Type 0 where
-    no_branch : {free depth : ℕ} {from left : Tokens} {e : Expr} → IsBinary free depth LEVELS from e left
+    no_branch : {free depth : ℕ} {from left : Tokens} {e : Expr} → IsBinary free depth max_level from e left
         → IsCond free depth from e left
     branches : {free depth : ℕ} {p q : Place} {from first second left : Tokens} {c a b : Expr}
-        → IsBinary free depth LEVELS from c ((sign signs.Question, p) ∷ first)
+        → IsBinary free depth max_level from c ((sign signs.Question, p) ∷ first)
         → IsInner free depth first a ((sign signs.Colon, q) ∷ second) → IsInner free depth second b left
         → IsCond free depth from (Conditional (place_of c) c a b) left
 

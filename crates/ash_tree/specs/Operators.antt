@@ -90,9 +90,9 @@ level binary.Xor = 8
 level binary.And = 9
 level binary.Or = 10
 
--- `LEVELS` is the loosest level.
-abbrev pub LEVELS : ℕ
-LEVELS = 10
+-- `max_level` is the loosest level.
+abbrev pub max_level : ℕ
+max_level = 10
 
 -- `assign_operator m` is the operator that a token is after what it writes to.
 unfoldable pub assign_operator : Meaning → Option AssignOp

@@ -1,8 +1,10 @@
 //! Nodes that hold lists.
 
 ghost use Rattle.std.specs.Prelude.{◌≡◌, map, option_map, string_bytes, IfOk};
-ghost use Rattle.ash_tree.specs.Tree.{Call, Brackets, Convert, NewArray, Cast, Unary, Assign, Method, Index};
-ghost use Rattle.ash_tree.specs.Tree.{Evaluate, Declare, Block, Switch, For, place_of, place_of_type};
+ghost use Rattle.ash_tree.specs.Tree.{Call, Brackets, Convert, NewArray, Cast};
+ghost use Rattle.ash_tree.specs.Tree.{Unary, Assign, Method, Index};
+ghost use Rattle.ash_tree.specs.Tree.{Evaluate, Declare, Block, Switch};
+ghost use Rattle.ash_tree.specs.Tree.{For, place_of, place_of_type};
 ghost use Rattle.ash_tree.specs.Tree.{exprs, chained, suffixed, stmts, labelled, cases};
 ghost use Rattle.ash_tree.specs.Views.{expr_of, suffix_of, operation_of, stmt_of, case_of, vars_of};
 ghost use Rattle.ash_tree.specs.Views.{type_of, element_of, type_name_of};

@@ -3,9 +3,11 @@
 ghost use Rattle.std.specs.Prelude.{◌≡◌, [], ◌∷◌, ◌++◌, map, option_map, IfOk, Box, box_value};
 ghost use Rattle.std.specs.declared.alloc.Global.{Global};
 ghost use Rattle.ash_typed.specs.declared.tree.expressions.Expr.{Expr as IndexExpr};
-ghost use Rattle.ash_typed.specs.Tree.{Read, Held, Indexed, Invoke, Cast, Alter, Lazily, Conditional, Assign, Update};
+ghost use Rattle.ash_typed.specs.Tree.{Read, Held, Indexed, Invoke, Cast, Alter};
+ghost use Rattle.ash_typed.specs.Tree.{Lazily, Conditional, Assign, Update};
 ghost use Rattle.ash_typed.specs.Tree.{Count, Call, exprs, converted};
-ghost use Rattle.ash_typed.specs.StatementTree.{Block, Repeat, For, repeated, Switch, labelled, cases};
+ghost use Rattle.ash_typed.specs.StatementTree.{Block, Repeat, For, repeated};
+ghost use Rattle.ash_typed.specs.StatementTree.{Switch, labelled, cases};
 ghost use Rattle.ash_typed.specs.Views.{expr_of, place_of, linked, chained};
 ghost use Rattle.ash_typed.specs.BodyViews.{stmt_of, head_of, loop_of, case_of, body_of};
 ghost use Rattle.ash_typed.specs.Flat.{base_of, links_of, first_of, operands_of, others_of};

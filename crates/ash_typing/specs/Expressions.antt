@@ -265,7 +265,8 @@ call_typed env at name arguments =
     callee_at at (callee_in env name) >>= λ callee. arguments
     >>= λ ts. called env.declarations.classes at callee ts callee.parameters
 
-abbrev pub invocation_typed : Environment → TypedExpr → ℕ → List ℕ → TypingResult (List TypedExpr) → TypingResult TypedExpr
+abbrev pub invocation_typed : Environment → TypedExpr → ℕ → List ℕ → TypingResult (List TypedExpr)
+    → TypingResult TypedExpr
 invocation_typed env t at name arguments =
     method_of env t t.ty at name >>= λ m. arguments >>= λ ts. invoked env.declarations.classes t at ts m
 

@@ -43,7 +43,8 @@ use Rattle.ash_tree.specs.Items.{Routine, classes_of, interfaces_of}
 use Rattle.ash_typing.specs.FaultPlaces.{breaks_at}
 use Rattle.ash_typing.specs.Mismatches.{counts_after, Mismatches}
 use Rattle.ash_typing.specs.Phrases.{names_before, names_of_members, names_of_methods, names_listed, Phrase, Expression}
-use Rattle.ash_typing.specs.Phrases.{Suffixes, Initializer, Locals, Statement, Cases, Parameters, RoutinePhrase, Variables}
+use Rattle.ash_typing.specs.Phrases.{Suffixes, Initializer, Locals, Statement, Cases}
+use Rattle.ash_typing.specs.Phrases.{Parameters, RoutinePhrase, Variables}
 use Rattle.ash_typing.specs.Phrases.{Methods, Interfaces, ClassMembers, Items, Occurs}
 
 -- `argument_count es` is how many arguments there are.
@@ -182,7 +183,8 @@ pub data IsWrong (registrations : List Registration) (script : List written.Item
       → object_of t.ty ≡ Some o
       → member_in env o text ≡ None
       → IsWrong registrations script rules.UnknownName p.at (name text)
-  no_method : {env : Environment} {t : TypedExpr} {p : Place} {text : List ℕ} {es : written.Exprs} {ss : written.Suffixes}
+  no_method : {env : Environment} {t : TypedExpr} {p : Place} {text : List ℕ} {es : written.Exprs}
+      {ss : written.Suffixes}
       {o : ObjectType}
       → Occurs registrations script (Suffixes env t (written.suffix (written.Method p text es) ss))
       → object_of t.ty ≡ Some o

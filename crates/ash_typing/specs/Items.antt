@@ -277,7 +277,8 @@ pub record Walked : Type 0 where
 -- A module has at most `max_module_types` classes and interfaces.
 unfoldable pub room_for_type : ℕ → Module → TypingResult ℕ
 room_for_type at m =
-    if nat_le max_module_types (length m.classes + length m.interfaces) then broken TooMany at else Ok (length m.classes)
+    if nat_le max_module_types (length m.classes + length m.interfaces) then broken TooMany at
+    else Ok (length m.classes)
 
 abbrev pub with_interface : Module → Interface → Module
 with_interface m i =
@@ -326,7 +327,8 @@ abbrev pub module_walked : Walked → Module
 module_walked w = w.typed
 
 abbrev pub module_by : List host.Registration → ModuleDeclarations → List written.Item → TypingResult Module
-module_by registrations h is = items_typed (module_environment registrations h) (nothing registrations) is >>= λ w. Ok (module_walked w)
+module_by registrations h is =
+    items_typed (module_environment registrations h) (nothing registrations) is >>= λ w. Ok (module_walked w)
 
 unfoldable pub module_typed : List host.Registration → List written.Item → TypingResult Module
 module_typed registrations is = module_by registrations (declarations registrations is) is

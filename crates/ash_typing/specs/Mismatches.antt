@@ -115,7 +115,8 @@ pub data Mismatches (registrations : List Registration) (script : List written.I
       → all_typed env es ≡ Ok ts
       → IsUnfit env.declarations.classes parameters ts at
       → Mismatches registrations script at
-  of_method : {env : Environment} {t : TypedExpr} {p : Place} {text : List ℕ} {es : written.Exprs} {ss : written.Suffixes}
+  of_method : {env : Environment} {t : TypedExpr} {p : Place} {text : List ℕ} {es : written.Exprs}
+      {ss : written.Suffixes}
       {o : ObjectType} {m : Invoked} {ts : List TypedExpr} {at : ℕ}
       → Occurs registrations script (Suffixes env t (written.suffix (written.Method p text es) ss))
       → object_of t.ty ≡ Some o
@@ -189,7 +190,8 @@ pub data Mismatches (registrations : List Registration) (script : List written.I
       → operator_of op ≡ None
       → fits env.declarations.classes t.ty u.ty ≡ false
       → Mismatches registrations script u.at
-  updated : {env : Environment} {p : Place} {op : AssignOp} {c : Calculator} {e v : written.Expr} {t u : TypedExpr} {at : ℕ}
+  updated : {env : Environment} {p : Place} {op : AssignOp} {c : Calculator} {e v : written.Expr} {t u : TypedExpr}
+      {at : ℕ}
       → Occurs registrations script (Expression env (written.Assign p e op v))
       → typed env (is_assign op) e ≡ Ok t
       → typed env false v ≡ Ok u

@@ -30,7 +30,8 @@ use Rattle.ash_typing.specs.TypedModules.{signature_name, listed_name, environme
 -- module.
 abbrev pub names_before : List Registration → List written.Item → Names
 names_before registrations before =
-    record { registered = registrations; taken = item_names before; room = max_globals - length (variable_names (globals_of before)) }
+    record { registered = registrations; taken = item_names before;
+    room = max_globals - length (variable_names (globals_of before)) }
 
 -- Those of the members before. There are at most `max_class_members` fields and methods in a class.
 abbrev pub names_of_members : List written.Member → Names
@@ -39,7 +40,8 @@ names_of_members before =
 
 -- Those of the methods before. There are at most `max_class_members` in an interface.
 abbrev pub names_of_methods : List written.InterfaceMethod → Names
-names_of_methods before = record { registered = []; taken = map signature_name before; room = max_class_members - length before }
+names_of_methods before =
+    record { registered = []; taken = map signature_name before; room = max_class_members - length before }
 
 -- Those of the interfaces that a class lists before.
 abbrev pub names_listed : List written.TypeName → Names

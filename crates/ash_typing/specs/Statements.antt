@@ -18,7 +18,8 @@ use Rattle.ash_typed.specs.StatementTree.{branch, Head, no_head, declared_head, 
 use Rattle.ash_typed.specs.StatementTree.{Switch, Break, Continue, Return, Stmts, no_stmt, stmt, labelled, Cases}
 use Rattle.ash_typed.specs.StatementTree.{no_case, next_case}
 use Rattle.ash_typing.specs.Environment.{Declared, Class, Environment}
-use Rattle.ash_typing.specs.Expressions.{TypedExpr, typed, all_typed, coerced_for_assignment, integer_of, bool_of, is_void}
+use Rattle.ash_typing.specs.Expressions.{TypedExpr, typed, all_typed, coerced_for_assignment}
+use Rattle.ash_typing.specs.Expressions.{integer_of, bool_of, is_void}
 use Rattle.ash_typing.specs.ModuleDeclarations.{declared, ty_in}
 use Rattle.ash_typing.specs.Declarations.{at_type, known_ty, decl_typed}
 use Rattle.ash_typing.specs.Switches.{integer_type_in, label_typed}

@@ -180,7 +180,8 @@ pub record IsTyped (registrations : List host.Registration) (is : List written.I
   pub free : AllByRecursion (IsFree registrations) (item_names is)
   pub few_types : length (classes_of is) + length (interfaces_of is) ≤ max_module_types
   pub few_globals : length (variable_names (globals_of is)) ≤ max_globals
-  pub interfaces : AreInterfaces (environment registrations is) (interfaces_of is) (classes_before 0 is) typed.interfaces
+  pub interfaces : AreInterfaces (environment registrations is) (interfaces_of is) (classes_before 0 is)
+      typed.interfaces
   pub classes : AreClasses (environment registrations is) 0 (classes_of is) typed.classes
   pub functions : AllZip (IsFunction (environment registrations is)) (functions_of is) typed.functions
   pub globals : AllZip (AreVariables (environment registrations is)) (globals_of is) typed.globals

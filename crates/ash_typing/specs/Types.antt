@@ -319,10 +319,12 @@ assumed_type _ _ t = t
 
 -- `common_operands s t u` is what an operator takes operands of these types for, where it takes them: what both become.
 abbrev pub common_operands : OperatorClass → Ty → Ty → Option Operands
-common_operands operator_class.Arithmetic (ty.Integer j) (ty.Integer k) = Some (operands.Integers (common_integer_type j k))
+common_operands operator_class.Arithmetic (ty.Integer j) (ty.Integer k) =
+    Some (operands.Integers (common_integer_type j k))
 common_operands operator_class.Shift (ty.Integer j) (ty.Integer k) = Some (operands.Integers j)
 common_operands operator_class.Order (ty.Integer j) (ty.Integer k) = Some (operands.Integers (common_integer_type j k))
-common_operands operator_class.Equality (ty.Integer j) (ty.Integer k) = Some (operands.Integers (common_integer_type j k))
+common_operands operator_class.Equality (ty.Integer j) (ty.Integer k) =
+    Some (operands.Integers (common_integer_type j k))
 common_operands operator_class.Equality ty.Bool ty.Bool = Some operands.Bools
 common_operands operator_class.Identity a b = if agrees a b then Some operands.Handles else None
 common_operands operator_class.Logic ty.Bool ty.Bool = Some operands.Bools

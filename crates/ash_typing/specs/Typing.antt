@@ -86,7 +86,8 @@ pub record IsKnown (env : Environment) : Type 0 where
 -- The operator takes the two terms, each adapted to the other, for these operands.
 abbrev pub AreUnified : BinaryOp → Term → Term → Operands → Type 0
 AreUnified op t u o =
-    common_operands (operator_class_of op) (adapted_to (operator_class_of op) u t).ty (adapted_to (operator_class_of op) t u).ty
+    common_operands (operator_class_of op) (adapted_to (operator_class_of op) u t).ty
+    (adapted_to (operator_class_of op) t u).ty
     ≡ Some o
 
 -- `left_of` is what becomes of the left operand.

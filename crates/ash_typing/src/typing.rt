@@ -5,13 +5,15 @@ ghost use Rattle.ash_tree.specs.Tree as written;
 ghost use Rattle.ash_typing.specs.declared.types.Ty.{Ty};
 ghost use Rattle.ash_typing.specs.declared.types.Ty.TheVariants.{Unknown};
 ghost use Rattle.ash_typing.specs.Environment.{Environment};
-ghost use Rattle.ash_typing.specs.Expressions.{TypedExpr, typed, all_typed, first_at, placed, all_placed, term_of};
+ghost use Rattle.ash_typing.specs.Expressions.{TypedExpr, typed, all_typed, first_at};
+ghost use Rattle.ash_typing.specs.Expressions.{placed, all_placed, term_of};
 ghost use Rattle.ash_typing.specs.Declarations.{Initialization, initialized, decl_typed};
 ghost use Rattle.ash_typed.specs.Tree.{Expr};
 ghost use Rattle.ash_typed.specs.TypeOf.{type_of};
 ghost use Rattle.ash_typed.specs.declared.types.VarType.{VarType};
 ghost use Rattle.ash_typing.specs.Types.{var_type, ty_of_var, value_type};
-ghost use Rattle.ash_typing.specs.Typing.{IsKnown, IsVariableType, HasType, AllHaveType, BeginsWith, IsDeclared};
+ghost use Rattle.ash_typing.specs.Typing.{IsKnown, IsVariableType, HasType, AllHaveType};
+ghost use Rattle.ash_typing.specs.Typing.{BeginsWith, IsDeclared};
 ghost use Rattle.ash_typing.specs.Typing.{IsReadWherePlace};
 ghost use Rattle.ash_typing.specs.Terms.{Term};
 

@@ -66,7 +66,7 @@ returned_is_no_end : {v : Option Word} → Returned v ≡ On → ⊥
 returned_is_no_end e = cc
 
 module _ (calls : Calls) (depth : ℕ) where
-  -- a `break` that leaves a statement stands in it
+  -- a `break` that leaves a statement is in it
 
   after_break_yields : (flow : Flow) (a : Activity) → Yields (λ f. f ≡ Broke → ⊥) (after_break flow a)
   after_break_yields On a = yields (λ e. cc)

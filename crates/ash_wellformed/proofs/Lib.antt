@@ -22,6 +22,6 @@ pub mod Flows
 pub mod Widening
 pub mod Bodies
 pub mod Ends
-pub mod Kept
+pub mod SoundStaysSound
 pub mod Modules
 pub mod SourceOrder

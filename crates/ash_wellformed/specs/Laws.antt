@@ -23,8 +23,11 @@ use Rattle.ash_phrases.specs.Calls.{value_or_null, invoke, call_target}
 use Rattle.ash_phrases.specs.Expressions.{expression}
 use Rattle.ash_phrases.specs.Statements.{Flow, On, Broke, Continued, Returned, statement, statements}
 use Rattle.ash_phrases.specs.Functions.{calls_within}
-use Rattle.ash_phrases.specs.Ends.{End, Finished, Outcome, with_globals as with_zero_globals, call_function, load_module}
-use Rattle.ash_wellformed.specs.WellFormed.{Known, Context, declared, Shape, OfClass, OfElements, shape_at, IsOf, AreValues, IsGiven, AreObjects, AllLive, Follows, IsWorld, IsWellFormed, IsSafe}
+use Rattle.ash_phrases.specs.Ends.{End, Finished, Outcome, with_globals as with_zero_globals}
+use Rattle.ash_phrases.specs.Ends.{call_function, load_module}
+use Rattle.ash_wellformed.specs.WellFormed.{Known, Context, declared, Shape, OfClass, OfElements}
+use Rattle.ash_wellformed.specs.WellFormed.{shape_at, IsOf, AreValues, IsGiven, AreObjects}
+use Rattle.ash_wellformed.specs.WellFormed.{AllLive, Follows, IsWorld, IsWellFormed, IsSafe}
 
 -- The frame goes on in this environment, with the object and the callers that it had.
 pub record Passes (c : Context) (env : Environment) (envs : List Environment) (a b : Activity) : Type 0 where
@@ -50,7 +53,8 @@ pub data Leaves {A : Type 0} (c : Context) (Left : A → Activity → Type 0) : 
   no_step : Leaves c Left NoStep
 
 -- an expression gives a value of its type, and the frame goes on
-pub record Evaluates (c : Context) (env : Environment) (envs : List Environment) (of : ValueType) (a : Activity) (word : Word) (b : Activity) : Type 0 where
+pub record Evaluates (c : Context) (env : Environment) (envs : List Environment) (of : ValueType) (a : Activity)
+    (word : Word) (b : Activity) : Type 0 where
   pub goes : Goes c env envs a b
   pub carried : IsCarried c of b word
 
@@ -64,15 +68,18 @@ pub data IsLeftBy (c : Context) (gives : Option VarType) (breaks continues : Boo
   by_itself : IsLeftBy c gives breaks continues a On
   by_break : breaks ≡ true → IsLeftBy c gives breaks continues a Broke
   by_continue : continues ≡ true → IsLeftBy c gives breaks continues a Continued
-  by_return : {v : Option Word} → IsCarried c (value_of_result gives) a (value_or_null v) → IsLeftBy c gives breaks continues a (Returned v)
+  by_return : {v : Option Word} → IsCarried c (value_of_result gives) a (value_or_null v)
+      → IsLeftBy c gives breaks continues a (Returned v)
 
 -- a statement leads on in its environment
-pub record Leads (c : Context) (env : Environment) (gives : Option VarType) (breaks continues : Bool) (envs : List Environment) (a : Activity) (flow : Flow) (b : Activity) : Type 0 where
+pub record Leads (c : Context) (env : Environment) (gives : Option VarType) (breaks continues : Bool)
+    (envs : List Environment) (a : Activity) (flow : Flow) (b : Activity) : Type 0 where
   pub passes : Passes c env envs a b
   pub left : IsLeftBy c gives breaks continues b flow
 
 -- the statements of a block may have declared more locals
-pub record LeadsOn (c : Context) (env : Environment) (gives : Option VarType) (breaks continues : Bool) (envs : List Environment) (a : Activity) (flow : Flow) (b : Activity) : Type 0 where
+pub record LeadsOn (c : Context) (env : Environment) (gives : Option VarType) (breaks continues : Bool)
+    (envs : List Environment) (a : Activity) (flow : Flow) (b : Activity) : Type 0 where
   pub types : List VarType
   pub leads : Leads c (with_locals env types) gives breaks continues envs a flow b
 
@@ -94,7 +101,8 @@ IsNoObjectResult (Some of) = IsPrimitive of
 
 -- a function that gives no object comes to its end with a value of its type
 abbrev pub GivesItsResult : Context → Function → End → Type 0
-GivesItsResult c f (Finished v) = IsNoObjectResult f.result → IsGiven c.program [] (value_of_result f.result) (value_or_null v)
+GivesItsResult c f (Finished v) =
+    IsNoObjectResult f.result → IsGiven c.program [] (value_of_result f.result) (value_or_null v)
 GivesItsResult c f end = Unit {0}
 
 -- the laws, at each depth
@@ -114,7 +122,8 @@ module _ (c : Context) (depth : ℕ) where
       → (scope.env).signatures ≡ declared c
       → IsStmt scope s
       → IsWellFormed c scope.env envs a
-      → Leaves c (Leads c scope.env scope.result scope.may_break scope.may_continue envs a) (statement (calls_within c.program depth) depth s a)
+      → Leaves c (Leads c scope.env scope.result scope.may_break scope.may_continue envs a)
+      (statement (calls_within c.program depth) depth s a)
 
   abbrev pub BlocksKeep : Type 0
   BlocksKeep =
@@ -122,27 +131,32 @@ module _ (c : Context) (depth : ℕ) where
       → (scope.env).signatures ≡ declared c
       → AreStmts scope ss
       → IsWellFormed c scope.env envs a
-      → Leaves c (LeadsOn c scope.env scope.result scope.may_break scope.may_continue envs a) (statements (calls_within c.program depth) depth ss a)
+      → Leaves c (LeadsOn c scope.env scope.result scope.may_break scope.may_continue envs a)
+      (statements (calls_within c.program depth) depth ss a)
 
   -- functions, services, and constructions of objects and of arrays
   abbrev pub CallsKeep : Type 0
   CallsKeep =
-      (env : Environment) (envs : List Environment) (target : Target) (parameters : List VarType) (result : Option VarType) (args : List Word) (a : Activity)
+      (env : Environment) (envs : List Environment) (target : Target) (parameters : List VarType)
+      (result : Option VarType) (args : List Word) (a : Activity)
       → IsTarget (declared c) target parameters result
       → IsWellFormed c env envs a
       → AreCarried c parameters a args
-      → Leaves c (Evaluates c env envs (value_of_result result) a) (call_target (calls_within c.program depth) target args a)
+      → Leaves c (Evaluates c env envs (value_of_result result) a)
+      (call_target (calls_within c.program depth) target args a)
 
   -- methods of classes, through interfaces, of host objects and of arrays
   abbrev pub MethodsKeep : Type 0
   MethodsKeep =
-      (env : Environment) (envs : List Environment) (o : ObjectType) (method : Method) (parameters : List VarType) (result : Option VarType) (number : ℕ) (shape : Shape) (args : List Word) (a : Activity)
+      (env : Environment) (envs : List Environment) (o : ObjectType) (method : Method) (parameters : List VarType)
+      (result : Option VarType) (number : ℕ) (shape : Shape) (args : List Word) (a : Activity)
       → IsMethod (declared c) o method parameters result
       → IsWellFormed c env envs a
       → shape_at number (a.world).objects ≡ Some shape
       → IsOf c.program o shape
       → AreValues c.program (a.world).objects parameters args
-      → Leaves c (Evaluates c env envs (value_of_result result) a) (invoke (calls_within c.program depth) method number args a)
+      → Leaves c (Evaluates c env envs (value_of_result result) a)
+      (invoke (calls_within c.program depth) method number args a)
 
 module _ (c : Context) where
   -- a call from outside, whatever it ends by
@@ -191,7 +205,8 @@ abbrev pub FewerModulesKeep : Type 0
 FewerModulesKeep =
     (modules fewer : Known) (held : List ℕ) (all : Objects (List ℕ))
     → KnowsAll fewer modules
-    → ((number : ℕ) (shape : Shape) → Contains held number → shape_at number all ≡ Some shape → IsKnownShape fewer shape)
+    → ((number : ℕ) (shape : Shape) → Contains held number → shape_at number all ≡ Some shape
+    → IsKnownShape fewer shape)
     → ((number : ℕ) → Lives all number → ReachableIn (Contains held) all number)
     → AreObjects modules all
     → AreObjects fewer all
@@ -199,7 +214,8 @@ FewerModulesKeep =
 -- what values of a module refer to is of no other module
 abbrev pub ValuesAreOfTheirModule : Type 0
 ValuesAreOfTheirModule =
-    (p : Program) (modules : Known) (all : Objects (List ℕ)) (types : List VarType) (ws : List Word) (number : ℕ) (shape : Shape)
+    (p : Program) (modules : Known) (all : Objects (List ℕ)) (types : List VarType) (ws : List Word) (number : ℕ)
+    (shape : Shape)
     → IsSome (modules p.name)
     → AreValues p all types ws
     → Contains (handles ws) number

@@ -1,6 +1,7 @@
--- Well-formed worlds and activities: what lives has a shape that never changes (store typing), each word that is stored is
--- of the type of its place (value typing), and frames have the locals that their code sees (frame typing).
-use Rattle.std.specs.Prelude.{◌≡◌, ◌<◌, ◌≤◌, ℕ, ℤ, pos, Bool, FitsSigned, List, [], ◌∷◌, map, length, Contains, slice_get, Option, Some, None, option_map}
+-- Well-formed worlds and activities: what lives has a shape that never changes (store typing), each word that is stored
+-- is of the type of its place (value typing), and frames have the locals that their code sees (frame typing).
+use Rattle.std.specs.Prelude.{◌≡◌, ◌<◌, ◌≤◌, ℕ, ℤ, pos, Bool, FitsSigned, List, [], ◌∷◌, map}
+use Rattle.std.specs.Prelude.{length, Contains, slice_get, Option, Some, None, option_map}
 use Rattle.std.specs.Int.{w32, w64, FitsUnsignedBits}
 use Rattle.std.specs.List.{AllByRecursion}
 use Rattle.ash_host.specs.declared.word.Word.{Word}
@@ -154,8 +155,10 @@ pub data IsGiven (p : Program) (all : Objects (List ℕ)) : ValueType → Word �
 
 -- objects
 
--- A script object is of a class of the module that it knows by name, and its fields are of the types that the class says.
-pub record IsScript (modules : Known) (all : Objects (List ℕ)) (owner : List ℕ) (place : ℕ) (fields : List Word) : Type 0 where
+-- A script object is of a class of the module that it knows by name, and its fields are of the types that the class
+-- says.
+pub record IsScript (modules : Known) (all : Objects (List ℕ)) (owner : List ℕ) (place : ℕ) (fields : List Word)
+    : Type 0 where
   pub tree : Module
   pub known : modules owner ≡ Some tree
   pub class : ℕ
@@ -231,8 +234,8 @@ pub record AreStates (w : World) : Type 0 where
   pub pool : AllByRecursion (λ (box : FreeBox). IsState box.state) w.pool
   pub answers : AllByRecursion (λ (r : HostRecord). IsState r.after × IsAnswer r.answer) w.answers
 
--- A world in which the module runs: numbers are at most the last, no more objects live than may, and what is stored is of
--- its type.
+-- A world in which the module runs: numbers are at most the last, no more objects live than may, and what is stored is
+-- of its type.
 pub record IsWorld (c : Context) (w : World) : Type 0 where
   pub numbered : AreNumbered w.last w.objects
   pub last : w.last ≤ max_number
@@ -243,11 +246,12 @@ pub record IsWorld (c : Context) (w : World) : Type 0 where
   pub outside : AllLive w.objects w.outside
   pub states : AreStates w
 
--- What lives later by a number that was given before lived before, as what it was: no number is given twice, and what is
--- held outside stays so.
+-- What lives later by a number that was given before lived before, as what it was: no number is given twice, and what
+-- is held outside stays so.
 pub record Follows (old new : World) : Type 0 where
   pub last : old.last ≤ new.last
-  pub shapes : (number : ℕ) (shape : Shape) → number ≤ old.last → shape_at number new.objects ≡ Some shape → shape_at number old.objects ≡ Some shape
+  pub shapes : (number : ℕ) (shape : Shape) → number ≤ old.last → shape_at number new.objects ≡ Some shape
+      → shape_at number old.objects ≡ Some shape
   pub outside : new.outside ≡ old.outside
 
 -- frames
@@ -274,8 +278,8 @@ pub data AreFrames (c : Context) (all : Objects (List ℕ)) : List Environment �
       → AreFrames c all envs fs
       → AreFrames c all (env ∷ envs) (f ∷ fs)
 
--- An activity whose frames are of code that sees these environments: the frame that runs, and its callers. Since the run
--- began nothing changed what it is.
+-- An activity whose frames are of code that sees these environments: the frame that runs, and its callers. Since the
+-- run began nothing changed what it is.
 pub record IsWellFormed (c : Context) (env : Environment) (envs : List Environment) (a : Activity) : Type 0 where
   pub world : IsWorld c a.world
   pub since : Follows c.began a.world

@@ -1,7 +1,8 @@
 //! The laws of well-formed worlds. A function without a body does nothing: its contract is the law.
 ghost use Rattle.std.specs.Prelude.{ℕ};
 ghost use Rattle.ash_wellformed.specs.WellFormed.{Context, IsContext};
-ghost use Rattle.ash_wellformed.specs.Laws.{ExpressionsKeep, StatementsKeep, BlocksKeep, CallsKeep, MethodsKeep};
+ghost use Rattle.ash_wellformed.specs.Laws.{ExpressionsKeep, StatementsKeep, BlocksKeep};
+ghost use Rattle.ash_wellformed.specs.Laws.{CallsKeep, MethodsKeep};
 ghost use Rattle.ash_wellformed.specs.Laws.{RunsKeep, LoadsKeep, MoreModulesKeep, FewerModulesKeep};
 ghost use Rattle.ash_wellformed.specs.Laws.{ValuesAreOfTheirModule, ValuesKeepTheirTypes};
 

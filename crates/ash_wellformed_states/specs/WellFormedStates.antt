@@ -47,8 +47,8 @@ module _ {Fault : Type 0} (embedding : Embedding Fault) where
     pub is : embedding.read m.source ≡ Ok tree
     pub values : AreValues (record { name = m.name; tree = tree }) all (types_of_globals tree.globals) m.globals
 
-  -- A state: the modules are by ascending name, what is stored is of its type, host objects are of kinds that the host has,
-  -- numbers are at most the last, limits are kept, and every object can be reached from the globals.
+  -- A state: the modules are by ascending name, what is stored is of its type, host objects are of kinds that the host
+  -- has, numbers are at most the last, limits hold, and every object can be reached from the globals.
   pub record IsWellFormedState (host : Host) (s : State) : Type 0 where
     pub ascending : Ascend s.modules
     pub valid : AllByRecursion HasValidName s.modules
@@ -61,12 +61,13 @@ module _ {Fault : Type 0} (embedding : Embedding Fault) where
     pub offered : AreOffered host s.objects
     pub services : AllByRecursion IsState s.services
     pub seq : s.seq ≤ max_seq
-    pub reached : (number : ℕ) → Lives s.objects number → ReachableIn (Contains (handles (globals_of s.modules))) s.objects number
+    pub reached : (number : ℕ) → Lives s.objects number
+        → ReachableIn (Contains (handles (globals_of s.modules))) s.objects number
 
   -- the laws
 
-  -- A request leaves a well-formed state, and hosts as they may be, whatever it comes to: also where it is refused for a cause
-  -- that is not in the state.
+  -- A request leaves a well-formed state, and hosts as they may be, whatever it comes to: also where it is refused for
+  -- a cause that is not in the state.
   abbrev pub StepsKeep : Host → Type 0
   StepsKeep host =
       (budget : ℕ) (request : Request) (state : State) (hosts : Hosts) (one : Step Fault)

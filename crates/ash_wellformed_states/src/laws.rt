@@ -5,7 +5,8 @@ ghost use Rattle.std.specs.List.{AllByRecursion};
 ghost use Rattle.ash_typed.specs.Signatures.{Host};
 ghost use Rattle.ash_wellformed.specs.WellFormed.{IsState};
 ghost use Rattle.ash_steps.specs.States.{Embedding, empty};
-ghost use Rattle.ash_wellformed_states.specs.WellFormedStates.{IsWellFormedState, StepsKeep, RunsKeep};
+ghost use Rattle.ash_wellformed_states.specs.WellFormedStates.{IsWellFormedState, StepsKeep};
+ghost use Rattle.ash_wellformed_states.specs.WellFormedStates.{RunsKeep};
 
 /// A request leaves a well-formed state where it finds one, however it ends, and where it is refused for a cause that
 /// is not in the state; so do all requests of a run; and the state before any request is well-formed.

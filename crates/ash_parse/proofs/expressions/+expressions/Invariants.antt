@@ -17,11 +17,11 @@ decreases-nested_unary l = l.room * 64
 abbrev pub decreases-assign : goal.decreases-assign
 decreases-assign l = l.room * 64 + 60
 
-abbrev pub decreases-branches : goal.decreases-branches
-decreases-branches l = l.room * 64 + 2
+abbrev pub decreases-conditionals::branches : goal.decreases-conditionals::branches
+decreases-conditionals::branches l = l.room * 64 + 2
 
-abbrev pub decreases-other_branch : goal.decreases-other_branch
-decreases-other_branch l = l.room * 64 + 1
+abbrev pub decreases-conditionals::other_branch : goal.decreases-conditionals::other_branch
+decreases-conditionals::other_branch l = l.room * 64 + 1
 
 abbrev pub decreases-binary : goal.decreases-binary
 decreases-binary l = l.room * 64 + (10 + l.level * 4)
@@ -50,17 +50,17 @@ decreases-member l = l.room * 64 + 5
 abbrev pub decreases-index : goal.decreases-index
 decreases-index l = l.room * 64 + 5
 
-abbrev pub decreases-primary : goal.decreases-primary
-decreases-primary l = l.room * 64 + 6
+abbrev pub decreases-primaries::primary : goal.decreases-primaries::primary
+decreases-primaries::primary l = l.room * 64 + 6
 
-abbrev pub decreases-name_or_call : goal.decreases-name_or_call
-decreases-name_or_call l = l.room * 64 + 5
+abbrev pub decreases-primaries::name_or_call : goal.decreases-primaries::name_or_call
+decreases-primaries::name_or_call l = l.room * 64 + 5
 
-abbrev pub decreases-new_array : goal.decreases-new_array
-decreases-new_array l = l.room * 64 + 5
+abbrev pub decreases-primaries::new_array : goal.decreases-primaries::new_array
+decreases-primaries::new_array l = l.room * 64 + 5
 
-abbrev pub decreases-cast : goal.decreases-cast
-decreases-cast l = l.room * 64 + 5
+abbrev pub decreases-primaries::cast : goal.decreases-primaries::cast
+decreases-primaries::cast l = l.room * 64 + 5
 
 abbrev pub decreases-bracketed : goal.decreases-bracketed
 decreases-bracketed l = l.room * 64 + 1

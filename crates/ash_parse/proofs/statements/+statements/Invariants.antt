@@ -22,14 +22,14 @@ decreases-if_statement l = l.room * 16 + 3
 abbrev pub decreases-else_branch : goal.decreases-else_branch
 decreases-else_branch l = l.room * 16 + 2
 
-abbrev pub decreases-while_statement : goal.decreases-while_statement
-decreases-while_statement l = l.room * 16 + 2
+abbrev pub decreases-loops::while_statement : goal.decreases-loops::while_statement
+decreases-loops::while_statement l = l.room * 16 + 2
 
-abbrev pub decreases-do_statement : goal.decreases-do_statement
-decreases-do_statement l = l.room * 16 + 2
+abbrev pub decreases-loops::do_statement : goal.decreases-loops::do_statement
+decreases-loops::do_statement l = l.room * 16 + 2
 
-abbrev pub decreases-for_statement : goal.decreases-for_statement
-decreases-for_statement l = l.room * 16 + 2
+abbrev pub decreases-loops::for_statement : goal.decreases-loops::for_statement
+decreases-loops::for_statement l = l.room * 16 + 2
 
 abbrev pub decreases-switch_statement : goal.decreases-switch_statement
 decreases-switch_statement l = l.room * 16 + 4

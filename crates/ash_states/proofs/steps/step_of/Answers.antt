@@ -3,7 +3,7 @@ use Rattle.ash_registry.specs.Registered.{registered}
 use Rattle.ash_plain_steps.specs.Consistency.{AreConsistent}
 use Rattle.ash_plain_steps.specs.RequestViews.{request_seen}
 use Rattle.ash_sources.specs.Sources.{SourceRules, rules_of, embedding_of}
-use Rattle.ash_states.proofs.Taken.{step_by}
+use Rattle.ash_states.proofs.StepsTaken.{step_by}
 use Rattle.ash_states.proofs.steps.step_of.Goals as goal
 
 pub plain_step-requires : goal.plain_step-requires

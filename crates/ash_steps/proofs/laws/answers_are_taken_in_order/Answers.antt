@@ -1,4 +1,4 @@
-use Rattle.ash_steps.proofs.Taken as lemmas
+use Rattle.ash_steps.proofs.AnswersInOrder as lemmas
 use Rattle.ash_steps.proofs.laws.answers_are_taken_in_order.Goals as goal
 
 pub returns : goal.returns

@@ -8,7 +8,7 @@ use Rattle.ash_phrases.specs.Releases.{sweep}
 use Rattle.ash_phrases.specs.Classes.{Program}
 use Rattle.ash_phrases.specs.Ends.{End, Finished, Threw, Aborted, Outcome, call_function, load_module}
 use Rattle.ash_phrases.specs.Laws.{EffectsStay}
-use Rattle.ash_phrases.proofs.Taken.{taken_in_order, sweep_leaves}
+use Rattle.ash_phrases.proofs.AnswersInOrder.{taken_in_order, sweep_leaves}
 use Rattle.ash_phrases.proofs.Endings.{runs_stay}
 use Rattle.ash_steps.specs.States.{LoadedModule, State, Hosts, Embedding, without_module, world_of}
 use Rattle.ash_steps.specs.Requests.{Request, Value, ShownAs, Number, Done, Refused}

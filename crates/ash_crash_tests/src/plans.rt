@@ -1,0 +1,142 @@
+//! What is done to a store, up to the call at which a disk fails.
+
+use ash_disk::{FailingDisk, MemoryDisk};
+use ash_durable::{Host, OpenRefused, StoreFault};
+use ash_registry::Registry;
+use ash_store_fixtures::hosts::{State, add, closed, inner, is_done, load, snapshot};
+use std::alloc::Global;
+use std::test::Fail;
+
+/// What a host is asked for.
+#[derive(Clone, Copy)]
+pub(crate) enum Step {
+    Load,
+    Call(i128),
+    Snapshot,
+}
+
+/// What was reached: the state, and how many writes and syncs the first disk and the second have had.
+pub(crate) type Reached = (State, usize, usize);
+
+/// What is done to a store. It is made or opened, and serves; then it is closed and opened again, and serves once more.
+pub(crate) struct Plan {
+    /// Whether it is made.
+    pub(crate) is_new: bool,
+    /// What is loaded as `m`.
+    pub(crate) source: &'static [u8],
+    pub(crate) steps: &'static [Step],
+    pub(crate) steps_again: &'static [Step],
+    /// What is reached before all of it, and after each part that is acknowledged: the making or the opening, each
+    /// step, the opening again, and each step after that.
+    pub(crate) reached: &'static [Reached],
+}
+
+impl Plan {
+    /// How many parts it has.
+    pub(crate) fn parts(&self) -> usize {
+        self.reached.len().saturating_sub(1)
+    }
+
+    /// What is reached after so many parts.
+    pub(crate) fn reached_after(&self, parts: usize) -> Reached {
+        match self.reached.get(parts) {
+            Some(reached) => *reached,
+            None => ((0, None), 0, 0),
+        }
+    }
+
+    /// Whether a state may be found while the part after so many is in progress.
+    pub(crate) fn is_state(&self, parts: usize, found: State) -> bool {
+        let (before, _, _) = self.reached_after(parts);
+        let (after, _, _) = self.reached_after(parts.wrapping_add(1).min(self.parts()));
+        found == before || found == after
+    }
+}
+
+type Fused = FailingDisk<MemoryDisk>;
+
+/// Where a plan was stopped: how many parts of it were acknowledged, and the disks.
+#[derive(Drop)]
+pub(crate) struct Stopped {
+    pub(crate) done: usize,
+    pub(crate) first: MemoryDisk,
+    pub(crate) second: MemoryDisk,
+}
+
+/// Takes a step, where this is loaded. Whether it is acknowledged.
+fn is_acknowledged(host: &mut Host<Fused>, source: &[u8], step: Step) -> bool {
+    match step {
+        Step::Load => is_done(&load(host, source)),
+        Step::Call(number) => is_done(&add(host, number)),
+        Step::Snapshot => is_done(&snapshot(host)),
+    }
+}
+
+/// How many steps are acknowledged, up to the first that is not.
+fn count_acknowledged(host: &mut Host<Fused>, source: &[u8], steps: &[Step]) -> usize {
+    let mut done = 0_usize;
+    for step in steps {
+        if !is_acknowledged(host, source, *step) {
+            return done;
+        }
+        done = done.wrapping_add(1);
+    }
+    done
+}
+
+fn new_host(alloc: Global, a: Fused, b: Fused) -> Result<Host<Fused>, OpenRefused<Fused>> {
+    Host::create(alloc, a, b, Registry::new(alloc))
+}
+
+fn open_host(alloc: Global, a: Fused, b: Fused) -> Result<Host<Fused>, OpenRefused<Fused>> {
+    Host::open(alloc, a, b, Registry::new(alloc))
+}
+
+/// How many parts are acknowledged of a store that is made or opened and then serves, and its disks. Only a failure of
+/// a disk may keep it from that.
+fn served(
+    begun: Result<Host<Fused>, OpenRefused<Fused>>,
+    source: &[u8],
+    steps: &[Step],
+) -> Result<(usize, Fused, Fused), Fail> {
+    match begun {
+        Ok(mut host) => {
+            let done = count_acknowledged(&mut host, source, steps);
+            let (first, second) = closed(host);
+            Ok((done.wrapping_add(1), first, second))
+        }
+        Err(refused) => match refused.fault {
+            StoreFault::DeviceFailed => Ok((0, refused.a, refused.b)),
+            fault => Err(Fail::from(fault)),
+        },
+    }
+}
+
+/// Handles a plan over two disks, each of which fails after so many calls.
+pub(crate) fn handle_plan(
+    alloc: Global,
+    plan: &Plan,
+    disks: (MemoryDisk, MemoryDisk),
+    calls: (u64, u64),
+) -> Result<Stopped, Fail> {
+    let first = FailingDisk::new(disks.0, calls.0);
+    let second = FailingDisk::new(disks.1, calls.1);
+    let begun = if plan.is_new {
+        new_host(alloc, first, second)
+    } else {
+        open_host(alloc, first, second)
+    };
+    let (mut done, mut first, mut second) = served(begun, plan.source, plan.steps)?;
+    if done > plan.steps.len() {
+        let begun = open_host(alloc, first, second);
+        let (more, a, b) = served(begun, plan.source, plan.steps_again)?;
+        done = done.wrapping_add(more);
+        first = a;
+        second = b;
+    }
+    Ok(Stopped {
+        done,
+        first: inner(first),
+        second: inner(second),
+    })
+}
