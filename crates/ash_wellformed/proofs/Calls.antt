@@ -114,8 +114,8 @@ module _ {c : Context} (context : IsContext c) where
 
     construct_gives : {env : Environment} {envs : List Environment} {a : Activity} (class : ℕ) (cs : ClassSignature) (args : List Word) → slice_get (declared c).classes class ≡ Some cs → IsWellFormed c env envs a → AreCarried c cs.parameters a args → Leaves c (Evaluates c env envs (value (vars.Handle (objects.Class class))) a) (construct calls class args a)
     construct_gives {env} {envs} {a} class cs args listed h carried =
-        after_found _ (entry_of (c.program).tree (Construction class)) a (construction_there class cs listed) (λ e there.
-        after_found _ (slice_get ((c.program).tree).classes class) a (class_there class cs listed) (λ k at.
+        after_found _ (entry_of (c.program).tree (Construction class)) a (construction_there c class cs listed) (λ e there.
+        after_found _ (slice_get ((c.program).tree).classes class) a (class_there c class cs listed) (λ k at.
         bind (ready k at) (λ number b r. weaken (λ w d x. evaluates_after (r.made).goes x) (entered e there k at number b r))))
       where
         shape_in : Shape
@@ -159,10 +159,10 @@ module _ {c : Context} (context : IsContext c) where
 
     pub invoke_gives : {env : Environment} {envs : List Environment} {a : Activity} {o : ObjectType} {method : Method} {parameters : List VarType} {result : Option VarType} (number : ℕ) (shape : Shape) (args : List Word) → IsMethod (declared c) o method parameters result → IsWellFormed c env envs a → shape_at number (a.world).objects ≡ Some shape → IsOf c.program o shape → AreValues c.program (a.world).objects parameters args → Leaves c (Evaluates c env envs (value_of_result result) a) (invoke calls method number args a)
     invoke_gives number shape args (operations.of_class {class} {method} {c = cs} {name} {result} {parameters} at here) h there fits values =
-        call_gives (ClassMethod class method) (in_class c class parameters) result (method_there class method cs (record { name = name; result = result; parameters = parameters }) at here) (λ e x. method_entry context class method cs (record { name = name; result = result; parameters = parameters }) at here e x) (words.Object number) args h (is_this there fits) values
+        call_gives (ClassMethod class method) (in_class c class parameters) result (method_there c class method cs (record { name = name; result = result; parameters = parameters }) at here) (λ e x. method_entry context class method cs (record { name = name; result = result; parameters = parameters }) at here e x) (words.Object number) args h (is_this there fits) values
     invoke_gives number shape args (operations.of_interface {interface} {method} {declared = all} {name} {result} {parameters} at here) h there fits values =
         through_gives interface method number all (record { name = name; result = result; parameters = parameters }) shape args at here h there fits values
-    invoke_gives number shape args (operations.of_host {id = id} {offered = offered} i) h there fits values = invoke_host_gives (a_method i) (hosts.Object number) id _ args h
+    invoke_gives number shape args (operations.of_host {kind} {id} {offered} i) h there fits values = invoke_host_gives (a_method kind id offered i) (hosts.Object number) id _ args h
     invoke_gives number shape args (operations.of_array {method = method}) h there fits values = invoke_array_gives context number fits method h there values
 
     -- other calls
@@ -176,8 +176,8 @@ module _ {c : Context} (context : IsContext c) where
 
     pub target_gives : {env : Environment} {envs : List Environment} {a : Activity} {target : Target} {parameters : List VarType} {result : Option VarType} (args : List Word) → IsTarget (declared c) target parameters result → IsWellFormed c env envs a → AreCarried c parameters a args → Leaves c (Evaluates c env envs (value_of_result result) a) (call_target calls target args a)
     target_gives args (operations.function {function} {name} {result} {parameters} at) h carried =
-        call_gives (FreeFunction function) (in_none c parameters) result (function_there function (record { name = name; result = result; parameters = parameters }) at) (λ e there. function_entry context function (record { name = name; result = result; parameters = parameters }) at e there) words.Null args h no_this carried.values
-    target_gives args (operations.service {service} {id} {offered} i) h carried = invoke_host_gives (a_function i) (hosts.Service service) id _ args h
+        call_gives (FreeFunction function) (in_none c parameters) result (function_there c function (record { name = name; result = result; parameters = parameters }) at) (λ e there. function_entry context function (record { name = name; result = result; parameters = parameters }) at e there) words.Null args h no_this carried.values
+    target_gives args (operations.service {service} {id} {offered} i) h carried = invoke_host_gives (a_function service id offered i) (hosts.Service service) id _ args h
     target_gives args (operations.class {class} {c = cs} at) h carried = construct_gives class cs args at h carried
     target_gives args (operations.host {kind} {parameters} i) h carried = construct_host_gives kind args (parameters, i) h
     target_gives args (operations.empty_array {of} i) h carried = construct_array_gives of args context (named_element i) h

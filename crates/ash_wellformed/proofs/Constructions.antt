@@ -62,6 +62,12 @@ lt_from m n e = grind (arith, nat_tests)
 pub le_from : (m n : ℕ) → nat_le m n ≡ true → m ≤ n
 le_from m n e = grind (arith, nat_tests)
 
+-- the first free box of a kind is there
+box_there : (kind place : ℕ) (boxes : List FreeBox) → position (λ (b : FreeBox). nat_eq b.kind kind) boxes ≡ Some place → IsSome (slice_get boxes place)
+box_there kind place boxes e =
+    let any : FreeBox = record { kind = kind; state = [] } in
+    ap is_some (slice_get-get_or boxes place any (position-Some (λ (b : FreeBox). nat_eq b.kind kind) boxes place any e).0)
+
 -- a free box of the kind
 record IsBox (kind : ℕ) (a : Activity) (found : ℕ × FreeBox) : Type 0 where
   pub kind_is : (found.1).kind ≡ kind
@@ -96,11 +102,6 @@ module _ {c : Context} {env : Environment} {envs : List Environment} where
   made_shape object h = ap (option_map shape_of) (made_there object h.world)
 
   -- boxes
-
-  box_there : (kind place : ℕ) (boxes : List FreeBox) → position (λ (b : FreeBox). nat_eq b.kind kind) boxes ≡ Some place → IsSome (slice_get boxes place)
-  box_there kind place boxes e =
-      let none : FreeBox = record { kind = kind; state = [] } in
-      ap is_some (slice_get-get_or boxes place none (position-Some (λ (b : FreeBox). nat_eq b.kind kind) boxes place none e).0)
 
   box_at : {a : Activity} (kind : ℕ) → IsWellFormed c env envs a → (o : Option ℕ) → place_of_kind kind a.world ≡ o → Leaves c (λ found b. (b ≡ a) × IsBox kind a found) (box_in a.world o a)
   box_at kind h None e = ended (safe h)
@@ -151,7 +152,7 @@ module _ {c : Context} {env : Environment} {envs : List Environment} where
       })))
     where
       offers : Offers c.host
-      offers = a_construction offered.1
+      offers = a_construction kind offered.0 offered.1
 
   -- arrays
 

@@ -59,6 +59,9 @@ of_interrupt : (c : Context) (f : Function) (i : Interrupt) (frame : Frame) → 
 of_interrupt c f (Raising x) frame = tt
 of_interrupt c f OutOfTicks frame = tt
 
+function_listed : (c : Context) (place : ℕ) (f : Function) → slice_get ((c.program).tree).functions place ≡ Some f → slice_get (declared c).functions place ≡ Some (signature_of f)
+function_listed c place f at = slice_get-map signature_of ((c.program).tree).functions place ∙ ap (option_map signature_of) at
+
 -- what a call from outside comes to
 record Comes (c : Context) (result : Option VarType) (v : Option Word) (b : Activity) : Type 0 where
   pub safely : IsSafe c b
@@ -96,12 +99,9 @@ module _ {c : Context} where
   begun_well : {w : World} (env : Environment) (budget : ℕ) (f : Frame) → IsWorld c w → Follows c.began w → IsFrame c w.objects env f → IsWellFormed c env [] (begun w budget f)
   begun_well env budget f h since frame = record { world = h; since = since; frame = frame; callers = no_frames; few = omega arith }
 
-  function_listed : (place : ℕ) (f : Function) → slice_get ((c.program).tree).functions place ≡ Some f → slice_get (declared c).functions place ≡ Some (signature_of f)
-  function_listed place f at = slice_get-map signature_of ((c.program).tree).functions place ∙ ap (option_map signature_of) at
-
   entry_comes : IsContext c → (place : ℕ) (f : Function) (args : List Word) (budget : ℕ) (w : World) (entry : Entry) → slice_get ((c.program).tree).functions place ≡ Some f → IsWorld c w → Follows c.began w → AreValues c.program w.objects f.parameters args → entry_of (c.program).tree (FreeFunction place) ≡ Some entry → Leaves c (Comes c f.result) ((tick entry.line >> body c.program budget entry) (begun w budget (frame_of entry.name entry.line words.Null args)))
   entry_comes context place f args budget w entry at h since values there =
-      let is = function_entry context place (signature_of f) (function_listed place f at) entry there in
+      let is = function_entry context place (signature_of f) (function_listed c place f at) entry there in
       let well = begun_well (in_none c f.parameters) budget (frame_of entry.name entry.line words.Null args) h since (record { this = no_this; locals = values; held = record { each = λ n i. absurd (none_in n i) } }) in
       bind (tick_goes entry.line well) (λ none b g. weaken (λ v d q. record { safely = safe (q.passes).well; value = q.value }) ((keeps_bodies context budget).keeps (in_none c f.parameters) f.result entry is [] b (g.passes).well))
 
@@ -112,7 +112,7 @@ module _ {c : Context} where
 
   call_ends : IsContext c → (place : ℕ) (f : Function) (args : List Word) (budget : ℕ) (w : World) → OffersNothing c.host → slice_get ((c.program).tree).functions place ≡ Some f → IsWorld c w → Follows c.began w → AreValues c.program w.objects f.parameters args → IsSome (call_function c.program place args budget w)
   call_ends context place f args budget w none at h since values =
-      let (entry, there) = some_from (entry_of (c.program).tree (FreeFunction place)) (function_there place (signature_of f) (function_listed place f at)) in
+      let (entry, there) = some_from (entry_of (c.program).tree (FreeFunction place)) (function_there c place (signature_of f) (function_listed c place f at)) in
       ap (λ (o : Option Entry). is_some (option_and_then (call_entry c.program args budget w) o)) there
       ∙ has_outcome none (entry_comes context place f args budget w entry at h since values there)
 

@@ -87,7 +87,7 @@ member_located : {c : Context} {env : Environment} {o : ObjectType} {held : Memb
 member_located {c} number shape (operations.field {class} {place} {of} {c = cs} at field) there i =
     let of_source : cs ≡ signature_of_class i.source = same_Some cs (signature_of_class i.source) (sym at ∙ slice_get-map signature_of_class ((c.program).tree).classes class ∙ ap (option_map signature_of_class) i.at) in
     in_field i there (subst (λ (x : ClassSignature). slice_get x.fields place ≡ Some of) of_source field)
-member_located number shape (operations.property i) there typed = in_property (a_property i)
+member_located number shape (operations.property {kind} {id} {of} i) there typed = in_property (a_property kind id of i)
 
 module _ {c : Context} {env : Environment} {envs : List Environment} where
   -- words that are no handles

@@ -1,5 +1,5 @@
 -- What a sound module names is there: what is called, and how a class implements an interface that it lists.
-use Rattle.std.proofs.Common.{◌≡◌, ◌<◌, ◌+◌, ℕ, zero, suc, Bool, true, false, cond, List, [], ◌∷◌, length, map, refl, sym, ap, ◌∙◌, subst, slice_get, get_or, nat_eq, option_map, arith, find, position, if◌then◌else◌}
+use Rattle.std.proofs.Common.{◌≡◌, ◌<◌, ◌+◌, ℕ, zero, suc, Bool, true, false, cond, List, [], ◌∷◌, length, map, refl, sym, ap, ◌∙◌, subst, slice_get, nat_eq, option_map, arith, find, position, if◌then◌else◌}
 use Rattle.std.specs.Prelude.{Option, Some, None, Contains, IsSome, is_some}
 use Rattle.std.specs.List.{AllZip, position_from}
 use Rattle.std.specs.Option.{option_and_then}
@@ -32,12 +32,12 @@ or_later false x o h = h
 
 module _ {A : Type 0} (p : A → Bool) where
   position_from_there : (k : ℕ) (xs : List A) (i : ℕ) (x : A) → slice_get xs i ≡ Some x → p x ≡ true → IsSome (position_from p k xs)
-  position_from_there k [] i x at yes = absurd (cc)
-  position_from_there k (y ∷ ys) zero x at yes = ap (λ (b : Bool). is_some (cond b (Some k) (position_from p (k + 1) ys))) (ap p (same_Some y x at) ∙ yes)
-  position_from_there k (y ∷ ys) (suc i) x at yes = or_later (p y) k (position_from p (k + 1) ys) (position_from_there (k + 1) ys i x at yes)
+  position_from_there k [] i x at passes = absurd (cc)
+  position_from_there k (y ∷ ys) zero x at passes = ap (λ (b : Bool). is_some (cond b (Some k) (position_from p (k + 1) ys))) (ap p (same_Some y x at) ∙ passes)
+  position_from_there k (y ∷ ys) (suc i) x at passes = or_later (p y) k (position_from p (k + 1) ys) (position_from_there (k + 1) ys i x at passes)
 
   position_there : (xs : List A) (i : ℕ) (x : A) → slice_get xs i ≡ Some x → p x ≡ true → IsSome (position p xs)
-  position_there xs i x at yes = subst (λ (o : Option ℕ). IsSome o) (sym (position_from-zero p xs)) (position_from_there 0 xs i x at yes)
+  position_there xs i x at passes = subst (λ (o : Option ℕ). IsSome o) (sym (position_from-zero p xs)) (position_from_there 0 xs i x at passes)
 
 same_test : (m n : ℕ) → m ≡ n → nat_eq m n ≡ true
 same_test m n e = grind (arith, nat_tests)
@@ -53,7 +53,13 @@ zip_there R (z ∷ xs) [] k x h at = absurd h
 zip_there R (z ∷ xs) (y ∷ ys) zero x h at = (y, refl)
 zip_there R (z ∷ xs) (y ∷ ys) (suc k) x h at = zip_there R xs ys k x h.1 at
 
-module _ {c : Context} where
+same_owner : {owner other : List ℕ} {place at : ℕ} → OfClass owner place ≡ OfClass other at → owner ≡ other
+same_owner e = cc
+
+same_place : {owner other : List ℕ} {place at : ℕ} → OfClass owner place ≡ OfClass other at → place ≡ at
+same_place e = cc
+
+module _ (c : Context) where
   -- what is called
 
   pub function_there : (place : ℕ) (s : Signature) → slice_get (declared c).functions place ≡ Some s → IsSome (entry_of (c.program).tree (FreeFunction place))
@@ -93,12 +99,6 @@ module _ {c : Context} (context : IsContext c) where
       slice_get-get_or (places_of_classes m) class 0 (omega (arith, within, length-map-range_with_len (place_of_class m) 0 (length m.classes)))
       ∙ ap Some (get_or-map-range_with_len (place_of_class m) 0 (length m.classes) class class 0 within zero_more)
 
-  same_owner : {owner other : List ℕ} {place at : ℕ} → OfClass owner place ≡ OfClass other at → owner ≡ other
-  same_owner e = cc
-
-  same_place : {owner other : List ℕ} {place at : ℕ} → OfClass owner place ≡ OfClass other at → place ≡ at
-  same_place e = cc
-
   class_seen : (o : Plain (List ℕ)) (class : ℕ) → IsOfClass c.program class (shape_of o) → class_of c.program o ≡ Some class
   class_seen (Script owner place fields) class i =
       let m = (c.program).tree in
@@ -135,4 +135,4 @@ module _ {c : Context} (context : IsContext c) where
       let (x, found_x, at_own) = chained (λ (y : Implementation). slice_get y.methods method) (implementation_in (c.program).tree class interface) own found in
       let (k, at_k, same, within, (others, at_others, zipped)) = implementation_found context class interface x found_x in
       let (s, at_s, (f, at_f, signature)) = zip_at (sound.Implements k.methods) others x.methods method own zipped at_own in
-      own_there class own k f at_k at_f
+      own_there c class own k f at_k at_f

@@ -47,10 +47,10 @@ pub record IsCarried (c : Context) (of : ValueType) (a : Activity) (word : Word)
 
 -- The host offers something to scripts: a function of a service, a construction of an object, a method or a property.
 pub data Offers (host : Host) : Type 0 where
-  a_function : {service id : ℕ} {offered : HostSignature} → Contains (host.functions service id) offered → Offers host
-  a_construction : {kind : ℕ} {parameters : List Primitive} → Contains (host.factories kind) parameters → Offers host
-  a_method : {kind id : ℕ} {offered : HostSignature} → Contains (host.methods kind id) offered → Offers host
-  a_property : {kind id : ℕ} {of : Primitive} → Contains (host.properties kind id) of → Offers host
+  a_function : (service id : ℕ) (offered : HostSignature) → Contains (host.functions service id) offered → Offers host
+  a_construction : (kind : ℕ) (parameters : List Primitive) → Contains (host.factories kind) parameters → Offers host
+  a_method : (kind id : ℕ) (offered : HostSignature) → Contains (host.methods kind id) offered → Offers host
+  a_property : (kind id : ℕ) (of : Primitive) → Contains (host.properties kind id) of → Offers host
 
 abbrev pub OffersNothing : Host → Type 0
 OffersNothing host = Offers host → ⊥
