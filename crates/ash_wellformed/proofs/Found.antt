@@ -30,6 +30,10 @@ or_later : {A : Type 0} (b : Bool) (x : A) (o : Option A) → IsSome o → IsSom
 or_later true x o h = refl
 or_later false x o h = h
 
+pub some_mapped : {A B : Type 0} (f : A → B) (o : Option A) → IsSome o → IsSome (option_map f o)
+some_mapped f None h = absurd (cc)
+some_mapped f (Some x) h = refl
+
 module _ {A : Type 0} (p : A → Bool) where
   position_from_there : (k : ℕ) (xs : List A) (i : ℕ) (x : A) → slice_get xs i ≡ Some x → p x ≡ true → IsSome (position_from p k xs)
   position_from_there k [] i x at passes = absurd (cc)
