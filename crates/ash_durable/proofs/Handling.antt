@@ -43,10 +43,10 @@ room_made {D} device request old between runs made =
 -- ---- a request that is handled once room was made
 
 -- a request that has no end changes the state
-no_end_changes : (budget : ℕ) (request : Request) (state : HostState) (error : StepError)
-    → HasNoEnd budget request state error → IsChange (task_of request state)
-no_end_changes budget request state errors.NoMemory no_end = no_end
-no_end_changes budget request state errors.NoStep no_end = no_end.0
+no_end_changes : (request : Request) (state : HostState) (error : StepError)
+    → HasNoEnd request state error → IsChange (task_of request state)
+no_end_changes request state errors.NoMemory no_end = no_end
+no_end_changes request state errors.NoStep no_end = absurd no_end
 
 module _ {D : Type 0} (device : Device D) (budget : ℕ) (request : Request) (stopped : Option ℕ)
     (seen after : HostState) (journal : Journal D) (old between : Hosted D) (runs : IsSome old.state)
@@ -92,7 +92,7 @@ module _ {D : Type 0} (device : Device D) (budget : ℕ) (request : Request) (st
   handled_lost seq error handled seq_is =
       let room = room_made device request old between runs made in
       handles_lost_state device budget request stopped seen after journal room.0 old between seq is room.1
-      (no_end_changes budget request seen error handled.0) (ap (λ (s : HostState). s.registered) handled.1) seq_is
+      (no_end_changes request seen error handled.0) (ap (λ (s : HostState). s.registered) handled.1) seq_is
 
 -- ---- no room
 

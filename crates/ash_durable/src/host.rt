@@ -227,7 +227,7 @@ impl<D: Disk> Host<D> {
         let seq = self.state.seq();
         let reply = match self.state.handle(request, budget) {
             Ok(reply) => reply,
-            // The state is lost: memory was refused while it changed, or the run called a host object.
+            // The state is lost: memory was refused while it changed.
             Err(_) => {
                 self.stopped = Some(seq);
                 return Err(Refusal::NoMemory);
@@ -248,10 +248,9 @@ impl<D: Disk> Host<D> {
     /// `GenerationSpent`, `NoMemory` and `DeviceFailed` where a new generation is installed first; `SequenceSpent`; of a
     /// `load` then `BadName`, `ModuleTaken`, `TooManyModules` and `BadSource`; of a `call` `NoModule`, `NoFunction`,
     /// `NotCallable` and `BadArguments`; of a `discard` `NoModule`; `NoMemory` where finding these, the run or the
-    /// record finds no memory, or the run calls a host object; `DeviceFailed` where the answer could not be stored. A
-    /// `get`: `NoModule`, `NoGlobal`. An `object`: `NoObject`, `NoMemory`. A snapshot: `GenerationSpent`, `NoMemory`,
-    /// `DeviceFailed`. At `DeviceFailed`, and at `NoMemory` where the state was changed, the host must be reopened from
-    /// then on.
+    /// record finds no memory; `DeviceFailed` where the answer could not be stored. A `get`: `NoModule`, `NoGlobal`. An
+    /// `object`: `NoObject`, `NoMemory`. A snapshot: `GenerationSpent`, `NoMemory`, `DeviceFailed`. At `DeviceFailed`,
+    /// and at `NoMemory` where the state was changed, the host must be reopened from then on.
     pub fn handle(&mut self, request: &Request<'_>, budget: u64) -> HostReply
         ensures handled { Handles D.Disk budget (request_seen request.now) self.old
             (reply_seen fault_of result) self.new }

@@ -1,13 +1,11 @@
 -- The step that the code takes is one that a host takes.
 use Rattle.std.proofs.Common.{◌≡◌, ℕ, List, [], None, Result, Ok, Err, option_map, sym, ap, subst, inl, inr}
-use Rattle.std.specs.Prelude.{IfOk}
+use Rattle.std.specs.Prelude.{Option, Some, IsSome, IfOk}
 use Rattle.ash_registry.specs.Registrations.{Registration}
 use Rattle.ash_steps.specs.States.{State, Hosts}
 use Rattle.ash_steps.specs.States as states
 use Rattle.ash_steps.specs.Requests.{Request, NoMemory}
-use Rattle.ash_steps.specs.Tasks.{Initialize, Invoke, Remove, Read, Show, Count, Rewrite, TaskResult}
-use Rattle.ash_steps.specs.Tasks as tasks
-use Rattle.ash_steps.specs.Steps.{Step, unless_refused}
+use Rattle.ash_steps.specs.Steps.{Step}
 use Rattle.ash_steps.specs.Steps as steps
 use Rattle.ash_plain_steps.specs.declared.request.Step as code_step
 use Rattle.ash_plain_steps.specs.declared.request.StepError.{StepError}
@@ -18,26 +16,19 @@ use Rattle.ash_plain_steps.specs.StateViews.{state_seen}
 use Rattle.ash_plain_steps.specs.RequestViews.{reply_seen, step_seen}
 use Rattle.ash_plain_steps.specs.Consistency.{AreConsistent}
 use Rattle.ash_plain_steps.specs.TaskViews.{TakesMemoryToFind}
-use Rattle.ash_plain_steps.specs.StepViews.{IsChange, IsStep}
+use Rattle.ash_plain_steps.specs.StepViews.{IsStep}
 use Rattle.ash_sources.specs.declared.fault.SourceFault as code_fault
 use Rattle.ash_sources.specs.SourceFaults.{SourceFault, fault_of}
 use Rattle.ash_sources.specs.SourceFaults as faults
 use Rattle.ash_sources.specs.Sources.{SourceRules, embedding_of, admitting_unregistered}
 use Rattle.ash_states.specs.States.{HostState, IsAdmitted, empty, embedding_for}
-use Rattle.ash_states.specs.Steps.{no_hosts, task_of, outcome_of, Steps}
+use Rattle.ash_states.specs.Steps.{no_hosts, outcome_of, Steps}
 use Rattle.ash_states.specs.Holding.{held_with, IsHeld, IsStepOf}
-use Rattle.ash_states.proofs.Admitted.{empty_admitted, step_admitted}
+use Rattle.ash_states.proofs.Admitted.{empty_admitted, has_step, step_admitted}
 
--- there is no step only where a task changes the state
-no_step_changes : {F : Type 0} (budget : ℕ) (result : TaskResult F) (state : State) (hosts : Hosts) → unless_refused budget result state hosts ≡ None → IsChange result
-no_step_changes budget (Ok (Initialize name source tree)) state hosts e = tt
-no_step_changes budget (Ok (Invoke m tree function args)) state hosts e = tt
-no_step_changes budget (Ok (Remove name)) state hosts e = tt
-no_step_changes budget (Ok (Read word)) state hosts e = absurd (cc)
-no_step_changes budget (Ok (Show shown)) state hosts e = absurd (cc)
-no_step_changes budget (Ok Count) state hosts e = absurd (cc)
-no_step_changes budget (Ok Rewrite) state hosts e = absurd (cc)
-no_step_changes budget (Err refusal) state hosts e = absurd (cc)
+not_missing : {A : Type 0} (o : Option A) → IsSome o → o ≡ None → ⊥
+not_missing None there e = cc
+not_missing (Some x) there e = cc
 
 module _ (registered : List Registration) (budget : ℕ) (request : Request) (old : PlainState) (held : IsHeld registered old) where
   abbrev CodeStep : Type 0
@@ -64,7 +55,7 @@ module _ (registered : List Registration) (budget : ℕ) (request : Request) (ol
       → IfOk result (λ one. AreConsistent (embedding_for registered) one.state.modules.items)
       → IsStepOf registered budget request old result
   at_none (Ok one) is stepped consistent = (taken one is, left one stepped consistent)
-  at_none (Err errors.NoStep) is stepped consistent = (no_step_changes budget (tasks.task_of (embedding_for registered) request (state_seen old)) (state_seen old) no_hosts is, ap (option_map (outcome_of registered)) is)
+  at_none (Err errors.NoStep) is stepped consistent = not_missing (steps.step (embedding_for registered) budget request (state_seen old) no_hosts) (has_step budget request (held_with registered old) held.admitted) is
   at_none (Err errors.NoMemory) is stepped consistent = is
 
   step_is : (hosts : Hosts) (result : Result CodeStep StepError)

@@ -23,10 +23,10 @@ pub record IsHeld (registered : List Registration) (s : PlainState) : Type 0 whe
   pub consistent : AreConsistent (embedding_for registered) s.modules.items
 
 -- A step of the code is one of the definitions, and leaves a state of which the same is known. Where it gives an error,
--- the request changes the state and has no end.
+-- the request changes the state, and memory was refused while it did.
 abbrev pub IsStepOf : List Registration → ℕ → Request → PlainState
     → Result (code_step.Step code_fault.SourceFault) StepError → Type 0
 IsStepOf registered budget request old (Ok one) =
     Steps budget request (held_with registered old) (reply_seen fault_of one.reply) (held_with registered one.state)
     × IsHeld registered one.state
-IsStepOf registered budget request old (Err error) = HasNoEnd budget request (held_with registered old) error
+IsStepOf registered budget request old (Err error) = HasNoEnd request (held_with registered old) error

@@ -1,5 +1,5 @@
 -- What a request does to the state of a host, and what is replied.
-use Rattle.std.specs.Prelude.{◌≡◌, ◌⊎◌, ℕ, List, [], Option, Some, None, option_map, Result, Ok, Err}
+use Rattle.std.specs.Prelude.{◌≡◌, ◌⊎◌, ℕ, List, [], Option, Some, option_map, IsSome, Result, Ok, Err}
 use Rattle.ash_registry.specs.Registrations.{Registration}
 use Rattle.ash_steps.specs.States.{Hosts}
 use Rattle.ash_steps.specs.Requests.{Request, Refusal, NoMemory, Reply, Refused}
@@ -33,7 +33,7 @@ first_refusal request s = tasks.first_refusal (embedding_for s.registered) reque
 abbrev pub outcome_of : List Registration → Step SourceFault → Reply SourceFault × HostState
 outcome_of registered one = (one.reply, record { registered = registered; state = one.state })
 
--- The step of one request, with so many ticks. There is none where a run calls a host object.
+-- The step of one request, with so many ticks. In a state that a host may be in there is always one.
 abbrev pub step : ℕ → Request → HostState → Option (Reply SourceFault × HostState)
 step budget request s =
     option_map (outcome_of s.registered) (steps.step (embedding_for s.registered) budget request s.state no_hosts)
@@ -50,20 +50,25 @@ pub record RanOut (request : Request) (old : HostState) (reply : Reply SourceFau
 abbrev pub Steps : ℕ → Request → HostState → Reply SourceFault → HostState → Type 0
 Steps budget request old reply new = (step budget request old ≡ Some (reply, new)) ⊎ RanOut request old reply new
 
--- The request is not refused, its task changes the state, and there is no end of it: memory was refused while the state
--- changed; or there is no step, where the error says so.
-abbrev pub HasNoEnd : ℕ → Request → HostState → StepError → Type 0
-HasNoEnd budget request old errors.NoMemory = IsChange (task_of request old)
-HasNoEnd budget request old errors.NoStep = IsChange (task_of request old) × (step budget request old ≡ None)
+-- The request is not refused, its task changes the state, and memory was refused while the state changed. That there is no
+-- step never comes.
+abbrev pub HasNoEnd : Request → HostState → StepError → Type 0
+HasNoEnd request old errors.NoMemory = IsChange (task_of request old)
+HasNoEnd request old errors.NoStep = ⊥
 
 -- What the code gives for a request. Where it gives an error, the state is lost, and nothing but what is registered is
 -- left of it.
 abbrev pub Handled : ℕ → Request → HostState → Result (code_reply.Reply code_fault.SourceFault) StepError → HostState
     → Type 0
 Handled budget request old (Ok reply) new = Steps budget request old (reply_seen fault_of reply) new
-Handled budget request old (Err error) new = HasNoEnd budget request old error × (new ≡ empty old.registered)
+Handled budget request old (Err error) new = HasNoEnd request old error × (new ≡ empty old.registered)
 
 -- What a request leaves of a state that a host may be in is one that a host may be in.
 abbrev pub StepsKeepAdmitted : Type 0
 StepsKeepAdmitted = (budget : ℕ) (request : Request) (old : HostState) (reply : Reply SourceFault) (new : HostState)
     → IsAdmitted old → Steps budget request old reply new → IsAdmitted new × (new.registered ≡ old.registered)
+
+-- Each request has a step in a state that a host may be in: scripts that are admitted call nothing that is registered, so
+-- that no run waits for an answer.
+abbrev pub HaveSteps : Type 0
+HaveSteps = (budget : ℕ) (request : Request) (s : HostState) → IsAdmitted s → IsSome (step budget request s)

@@ -3,7 +3,7 @@
 ghost use Rattle.std.specs.Prelude.{List};
 ghost use Rattle.ash_registry.specs.Registrations.{Registration};
 ghost use Rattle.ash_states.specs.States.{IsAdmitted, empty};
-ghost use Rattle.ash_states.specs.Steps.{StepsKeepAdmitted};
+ghost use Rattle.ash_states.specs.Steps.{StepsKeepAdmitted, HaveSteps};
 ghost use Rattle.ash_states.specs.Images.{IsImageOfOneState};
 ghost use Rattle.ash_states.specs.Indexes.{HaveImages};
 
@@ -11,6 +11,11 @@ ghost use Rattle.ash_states.specs.Indexes.{HaveImages};
 pub fn hosts_stay_admitted()
     ensures first { (registered : List Registration) → IsAdmitted (empty registered) }
     ensures steps { StepsKeepAdmitted }
+{}
+
+/// Each request has a step, within any budget, in a state that a host may be in.
+pub fn requests_have_steps()
+    ensures steps { HaveSteps }
 {}
 
 /// Bytes are the image of one state of a host, where these are the registrations.

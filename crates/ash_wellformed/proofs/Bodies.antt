@@ -49,7 +49,7 @@ module _ {c : Context} where
   left_of : {A : Type 0} {Q : A → Activity → Type 0} {P : A → Type 0} {r : Progress A} → Leaves c Q r → Yields P r → Leaves c (λ v b. Q v b × P v) r
   left_of (done l) (yields p) = done (l, p)
   left_of (ended s) y = ended s
-  left_of no_step y = no_step
+  left_of (no_step offers) y = no_step offers
 
   -- what a function gives by the way it is left
   finish : {result : Option VarType} {b : Activity} (flow : Flow) → IsLeftBy c result false false b flow → (result ≡ None) ⊎ Jumps flow → IsGiven c.program (b.world).objects (value_of_result result) (value_or_null (value_of flow))

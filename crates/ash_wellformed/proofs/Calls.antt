@@ -1,6 +1,6 @@
 -- Calls, where what bodies do is known.
 use Rattle.std.proofs.Common.{◌≡◌, ◌<◌, ◌+◌, ℕ, zero, suc, Bool, true, false, List, [], ◌∷◌, length, map, refl, sym, ap, ◌∙◌, subst, slice_get, nat_lt, option_map, if◌then◌else◌, arith}
-use Rattle.std.specs.Prelude.{Option, Some, None, Contains, is_some}
+use Rattle.std.specs.Prelude.{Option, Some, None, Contains, IsSome, is_some}
 use Rattle.std.specs.Option.{option_map_or, option_and_then}
 use Rattle.std.proofs.lemmas.Bool.{eqb-true}
 use Rattle.std.proofs.lemmas.List.{length-map}
@@ -32,8 +32,8 @@ use Rattle.ash_phrases.specs.ObjectSteps.{demand_number, make}
 use Rattle.ash_phrases.specs.Operators.{zero_of}
 use Rattle.ash_phrases.specs.Classes.{Program, place_of_class, class_of, implementation_in, implemented, is_class_of, is_object_of, Callee, FreeFunction, Method as ClassMethod, Construction, Entry, entry_of}
 use Rattle.ash_phrases.specs.Calls.{Calls, value_or_null, call, blank, construct, call_through, invoke, call_target, cast}
-use Rattle.ash_wellformed.specs.WellFormed.{Context, IsContext, declared, Shape, OfClass, shape_of, shape_at, IsOfClass, IsNamed, IsOf, IsReference, to_nothing, to_object, is_handle, AreValues, no_values, and_value, IsGiven, gives, IsObject, is_script, IsThis, no_this, is_this, IsWellFormed}
-use Rattle.ash_wellformed.specs.Laws.{IsCarried, AreCarried, Leaves, done, Evaluates}
+use Rattle.ash_wellformed.specs.WellFormed.{Context, IsContext, declared, Shape, OfClass, shape_of, shape_at, IsOfClass, Implements, IsNamed, IsOf, IsReference, to_nothing, to_object, is_handle, AreValues, no_values, and_value, IsGiven, gives, IsObject, is_script, IsThis, no_this, is_this, IsWellFormed}
+use Rattle.ash_wellformed.specs.Laws.{IsCarried, AreCarried, a_function, a_method, Leaves, done, Evaluates}
 use Rattle.ash_wellformed.proofs.Values.{later_in}
 use Rattle.ash_wellformed.proofs.Integers.{zero_value}
 use Rattle.ash_wellformed.proofs.Triples.{bind, weaken, after_demand, after_found, safe, goes_itself, carry_all}
@@ -41,6 +41,7 @@ use Rattle.ash_wellformed.proofs.Hosts.{well_after, evaluates_after, invoke_host
 use Rattle.ash_wellformed.proofs.Constructions.{bind_here, lt_from, HasRoom, number_demanded, made_goes, made_shape, IsMade, construct_host_gives, construct_array_gives}
 use Rattle.ash_wellformed.proofs.Arrays.{invoke_array_gives}
 use Rattle.ash_wellformed.proofs.Frames.{IsResulted, frame_gives}
+use Rattle.ash_wellformed.proofs.Found.{some_from, class_there, function_there, method_there, construction_there, class_at_seen, implemented_there, through_there}
 use Rattle.ash_wellformed.proofs.Entries.{chained, IsEntry, in_class, in_none, function_entry, method_entry, construction_entry, class_found, implementation_found, through_entry}
 
 -- What bodies of sound functions do: they give what the function gives, and leave what is well-formed.
@@ -51,10 +52,6 @@ pub contains_map : {A B : Type 0} (f : A → B) (xs : List A) (x : A) → Contai
 contains_map f [] x i = absurd (let h : i.0 < 0 = i.1 in omega arith)
 contains_map f (y ∷ ys) x (zero, l, e) = (0, omega arith, ap f e)
 contains_map f (y ∷ ys) x (suc k, l, e) = later_in (f y) (f x) (map f ys) (contains_map f ys x (k, omega arith, e))
-
-some_from : {A : Type 0} (o : Option A) → is_some o ≡ true → (x : A) × (o ≡ Some x)
-some_from None e = absurd (cc)
-some_from (Some x) e = (x, refl)
 
 pub handle_of : {p : Program} {all : Objects (List ℕ)} {from : ObjectType} {w : Word} → IsGiven p all (value (vars.Handle from)) w → IsReference all (IsOf p from) w
 handle_of (gives (is_handle r)) = r
@@ -103,9 +100,9 @@ module _ {c : Context} (context : IsContext c) where
     calls = record { program = c.program; body = body }
 
     -- a call of what is sound in an environment
-    call_gives : {env : Environment} {envs : List Environment} {a : Activity} (callee : Callee) (other : Environment) (result : Option VarType) → ((e : Entry) → entry_of (c.program).tree callee ≡ Some e → IsEntry c other result e) → (this : Word) (args : List Word) → IsWellFormed c env envs a → IsThis c.program (a.world).objects other.this this → AreValues c.program (a.world).objects other.locals args → Leaves c (Evaluates c env envs (value_of_result result) a) (call calls callee this args a)
-    call_gives {env} {envs} {a} callee other result entry this args h this_is values =
-        after_found _ (entry_of (c.program).tree callee) a (λ e there.
+    call_gives : {env : Environment} {envs : List Environment} {a : Activity} (callee : Callee) (other : Environment) (result : Option VarType) → IsSome (entry_of (c.program).tree callee) → ((e : Entry) → entry_of (c.program).tree callee ≡ Some e → IsEntry c other result e) → (this : Word) (args : List Word) → IsWellFormed c env envs a → IsThis c.program (a.world).objects other.this this → AreValues c.program (a.world).objects other.locals args → Leaves c (Evaluates c env envs (value_of_result result) a) (call calls callee this args a)
+    call_gives {env} {envs} {a} callee other result is_there entry this args h this_is values =
+        after_found _ (entry_of (c.program).tree callee) a is_there (λ e there.
         after_demand _ (nat_lt (length a.callers + 1) max_frames) StackOverflow a (safe h) (λ room.
         frame_gives other e.name e.line this args _ h (lt_from _ _ room) this_is values (λ b same w. bind (bodies.keeps other result e (entry e there) (env ∷ envs) b w) (λ v d r. done r))))
 
@@ -117,8 +114,8 @@ module _ {c : Context} (context : IsContext c) where
 
     construct_gives : {env : Environment} {envs : List Environment} {a : Activity} (class : ℕ) (cs : ClassSignature) (args : List Word) → slice_get (declared c).classes class ≡ Some cs → IsWellFormed c env envs a → AreCarried c cs.parameters a args → Leaves c (Evaluates c env envs (value (vars.Handle (objects.Class class))) a) (construct calls class args a)
     construct_gives {env} {envs} {a} class cs args listed h carried =
-        after_found _ (entry_of (c.program).tree (Construction class)) a (λ e there.
-        after_found _ (slice_get ((c.program).tree).classes class) a (λ k at.
+        after_found _ (entry_of (c.program).tree (Construction class)) a (construction_there c class cs listed) (λ e there.
+        after_found _ (slice_get ((c.program).tree).classes class) a (class_there c class cs listed) (λ k at.
         bind (ready k at) (λ number b r. weaken (λ w d x. evaluates_after (r.made).goes x) (entered e there k at number b r))))
       where
         shape_in : Shape
@@ -150,20 +147,22 @@ module _ {c : Context} (context : IsContext c) where
 
     -- calls of methods
 
-    through_gives : {env : Environment} {envs : List Environment} {a : Activity} (interface method number : ℕ) (all : List Signature) (s : Signature) (args : List Word) → slice_get (declared c).interfaces interface ≡ Some all → slice_get all method ≡ Some s → IsWellFormed c env envs a → AreValues c.program (a.world).objects s.parameters args → Leaves c (Evaluates c env envs (value_of_result s.result) a) (call_through calls interface method number args a)
-    through_gives {a = a} interface method number all s args at_all at_s h values =
-        after_found _ (option_and_then (class_of c.program) (object_at number (a.world).objects)) a (λ class e.
+    through_gives : {env : Environment} {envs : List Environment} {a : Activity} (interface method number : ℕ) (all : List Signature) (s : Signature) (shape : Shape) (args : List Word) → slice_get (declared c).interfaces interface ≡ Some all → slice_get all method ≡ Some s → IsWellFormed c env envs a → shape_at number (a.world).objects ≡ Some shape → Implements c.program interface shape → AreValues c.program (a.world).objects s.parameters args → Leaves c (Evaluates c env envs (value_of_result s.result) a) (call_through calls interface method number args a)
+    through_gives {a = a} interface method number all s shape args at_all at_s h there fits values =
+        let seen = class_at_seen context number (a.world).objects shape (fits.class) there fits.of in
+        after_found _ (option_and_then (class_of c.program) (object_at number (a.world).objects)) a (ap is_some seen) (λ class e.
         let (o, at, of) = chained (class_of c.program) (object_at number (a.world).objects) class e in
-        after_found _ (implemented (c.program).tree interface method class) a (λ own found.
-        call_gives (ClassMethod class own) (in_class c class s.parameters) s.result (λ x there. through_entry context interface method class own all s at_all at_s found x there) (words.Object number) args h
+        let one : fits.class ≡ class = same_Some fits.class class (sym seen ∙ e) in
+        after_found _ (implemented (c.program).tree interface method class) a (subst (λ (n : ℕ). IsSome (implemented (c.program).tree interface method n)) one (implemented_there context interface method all s at_all at_s fits)) (λ own found.
+        call_gives (ClassMethod class own) (in_class c class s.parameters) s.result (through_there context interface method class own found) (λ x there. through_entry context interface method class own all s at_all at_s found x there) (words.Object number) args h
         (is_this (ap (option_map shape_of) at) (class_found context o class of)) values))
 
     pub invoke_gives : {env : Environment} {envs : List Environment} {a : Activity} {o : ObjectType} {method : Method} {parameters : List VarType} {result : Option VarType} (number : ℕ) (shape : Shape) (args : List Word) → IsMethod (declared c) o method parameters result → IsWellFormed c env envs a → shape_at number (a.world).objects ≡ Some shape → IsOf c.program o shape → AreValues c.program (a.world).objects parameters args → Leaves c (Evaluates c env envs (value_of_result result) a) (invoke calls method number args a)
     invoke_gives number shape args (operations.of_class {class} {method} {c = cs} {name} {result} {parameters} at here) h there fits values =
-        call_gives (ClassMethod class method) (in_class c class parameters) result (λ e x. method_entry context class method cs (record { name = name; result = result; parameters = parameters }) at here e x) (words.Object number) args h (is_this there fits) values
+        call_gives (ClassMethod class method) (in_class c class parameters) result (method_there c class method cs (record { name = name; result = result; parameters = parameters }) at here) (λ e x. method_entry context class method cs (record { name = name; result = result; parameters = parameters }) at here e x) (words.Object number) args h (is_this there fits) values
     invoke_gives number shape args (operations.of_interface {interface} {method} {declared = all} {name} {result} {parameters} at here) h there fits values =
-        through_gives interface method number all (record { name = name; result = result; parameters = parameters }) args at here h values
-    invoke_gives number shape args (operations.of_host {id = id} {offered = offered} i) h there fits values = invoke_host_gives (hosts.Object number) id _ args h
+        through_gives interface method number all (record { name = name; result = result; parameters = parameters }) shape args at here h there fits values
+    invoke_gives number shape args (operations.of_host {kind} {id} {offered} i) h there fits values = invoke_host_gives (a_method kind id offered i) (hosts.Object number) id _ args h
     invoke_gives number shape args (operations.of_array {method = method}) h there fits values = invoke_array_gives context number fits method h there values
 
     -- other calls
@@ -177,8 +176,8 @@ module _ {c : Context} (context : IsContext c) where
 
     pub target_gives : {env : Environment} {envs : List Environment} {a : Activity} {target : Target} {parameters : List VarType} {result : Option VarType} (args : List Word) → IsTarget (declared c) target parameters result → IsWellFormed c env envs a → AreCarried c parameters a args → Leaves c (Evaluates c env envs (value_of_result result) a) (call_target calls target args a)
     target_gives args (operations.function {function} {name} {result} {parameters} at) h carried =
-        call_gives (FreeFunction function) (in_none c parameters) result (λ e there. function_entry context function (record { name = name; result = result; parameters = parameters }) at e there) words.Null args h no_this carried.values
-    target_gives args (operations.service {service} {id} {offered} i) h carried = invoke_host_gives (hosts.Service service) id _ args h
+        call_gives (FreeFunction function) (in_none c parameters) result (function_there c function (record { name = name; result = result; parameters = parameters }) at) (λ e there. function_entry context function (record { name = name; result = result; parameters = parameters }) at e there) words.Null args h no_this carried.values
+    target_gives args (operations.service {service} {id} {offered} i) h carried = invoke_host_gives (a_function service id offered i) (hosts.Service service) id _ args h
     target_gives args (operations.class {class} {c = cs} at) h carried = construct_gives class cs args at h carried
     target_gives args (operations.host {kind} {parameters} i) h carried = construct_host_gives kind args (parameters, i) h
     target_gives args (operations.empty_array {of} i) h carried = construct_array_gives of args context (named_element i) h

@@ -1,10 +1,10 @@
 -- Objects that are made: host objects from the pool, and arrays.
-use Rattle.std.proofs.Common.{◌≡◌, ◌<◌, ◌≤◌, ◌+◌, ℕ, Bool, true, false, List, length, replicate, option_map, pos, refl, sym, ap, ◌∙◌, subst, slice_get, get_or, nat_eq, nat_lt, nat_le, arith}
-use Rattle.std.specs.Prelude.{Option, Some, None}
+use Rattle.std.proofs.Common.{◌≡◌, ◌<◌, ◌≤◌, ◌+◌, ℕ, Bool, true, false, List, [], length, replicate, option_map, pos, refl, sym, ap, ◌∙◌, subst, position, slice_get, get_or, nat_eq, nat_lt, nat_le, arith}
+use Rattle.std.specs.Prelude.{Option, Some, None, IsSome, is_some}
 use lib.ListN.{length-replicate}
 use Rattle.std.proofs.lemmas.Bool.{eqb-true}
 use Rattle.std.proofs.lemmas.Bool.Decides.{nat_tests}
-use Rattle.std.proofs.lemmas.Option.{get_or_from_slice_get}
+use Rattle.std.proofs.lemmas.Option.{get_or_from_slice_get, slice_get-get_or}
 use Rattle.std.proofs.lemmas.List.Quantifiers.{position-Some}
 use Rattle.ash_host.specs.declared.word.Word.{Word}
 use Rattle.ash_host.specs.declared.word.Word.TheVariants as words
@@ -29,7 +29,7 @@ use Rattle.ash_phrases.specs.HostSteps.{place_of_kind, without_box, box_in, box_
 use Rattle.ash_phrases.specs.ArraySteps.{zero_element, count_in, construct_array}
 use Rattle.ash_phrases.specs.Classes.{Program, element_of}
 use Rattle.ash_wellformed.specs.WellFormed.{Context, IsContext, Shape, OfElements, OfKind, IsOffered, shape_of, shape_at, IsNamed, to_nothing, to_object, IsValue, is_truth, is_integer, is_handle, IsGiven, gives, IsState, IsObject, is_array, is_host, IsWellFormed, IsSafe}
-use Rattle.ash_wellformed.specs.Laws.{Goes, Leaves, done, ended, no_step, Evaluates}
+use Rattle.ash_wellformed.specs.Laws.{Goes, Offers, a_construction, Leaves, done, ended, no_step, Evaluates}
 use Rattle.ash_wellformed.proofs.Lists.{all_replicate}
 use Rattle.ash_wellformed.proofs.Parts.{known_here}
 use Rattle.ash_wellformed.proofs.Integers.{integer_word}
@@ -42,7 +42,7 @@ module _ {c : Context} where
   pub bind_here : {A B : Type 0} {P : A → Type 0} {R : B → Activity → Type 0} {r : Progress A} (f : A → Run B) {a : Activity} → Leaves c (λ v b. (b ≡ a) × P v) r → ((v : A) → P v → Leaves c R (f v a)) → Leaves c R (onward r f)
   bind_here {R = R} f (done {v} {b} l) next = subst (λ (x : Activity). Leaves c R (f v x)) (sym l.0) (next v l.1)
   bind_here f (ended s) next = ended s
-  bind_here f no_step next = no_step
+  bind_here f (no_step offers) next = no_step offers
 
   pub demand_here : (b : Bool) (x : Exception) (a : Activity) → IsSafe c a → Leaves c (λ (none : Unit {0}) d. (d ≡ a) × (b ≡ true)) (demand b x a)
   demand_here true x a s = done (refl, refl)
@@ -61,6 +61,12 @@ lt_from m n e = grind (arith, nat_tests)
 
 pub le_from : (m n : ℕ) → nat_le m n ≡ true → m ≤ n
 le_from m n e = grind (arith, nat_tests)
+
+-- the first free box of a kind is there
+box_there : (kind place : ℕ) (boxes : List FreeBox) → position (λ (b : FreeBox). nat_eq b.kind kind) boxes ≡ Some place → IsSome (slice_get boxes place)
+box_there kind place boxes e =
+    let any : FreeBox = record { kind = kind; state = [] } in
+    ap is_some (slice_get-get_or boxes place any (position-Some (λ (b : FreeBox). nat_eq b.kind kind) boxes place any e).0)
 
 -- a free box of the kind
 record IsBox (kind : ℕ) (a : Activity) (found : ℕ × FreeBox) : Type 0 where
@@ -100,7 +106,7 @@ module _ {c : Context} {env : Environment} {envs : List Environment} where
   box_at : {a : Activity} (kind : ℕ) → IsWellFormed c env envs a → (o : Option ℕ) → place_of_kind kind a.world ≡ o → Leaves c (λ found b. (b ≡ a) × IsBox kind a found) (box_in a.world o a)
   box_at kind h None e = ended (safe h)
   box_at {a} kind h (Some place) e =
-      after_found _ (slice_get (a.world).pool place) a (λ box at.
+      after_found _ (slice_get (a.world).pool place) a (box_there kind place (a.world).pool e) (λ box at.
       let there = position-Some (λ (b : FreeBox). nat_eq b.kind kind) (a.world).pool place box e in
       let here : get_or (a.world).pool place box ≡ box = get_or_from_slice_get (a.world).pool place box box at in
       done (
@@ -139,11 +145,14 @@ module _ {c : Context} {env : Environment} {envs : List Environment} where
       bind (draw_goes kind offered h) (λ number b d.
       let given : IsGiven c.program (b.world).objects (value (vars.Handle (objects.Host kind))) (words.Object number) = gives (is_handle (to_object d.shape refl)) in
       let held = word_held (words.Object number) (well_after d.goes) given in
-      bind (bind (call_host_goes (targets.Object number) (Start args) (well_after held.goes)) (λ answer x g.
-      weaken (λ w y e. evaluates_after g.goes e) (accept_gives None answer g.fits (well_after g.goes)))) (λ w y e. done (record {
+      bind (bind (call_host_goes offers (targets.Object number) (Start args) (well_after held.goes)) (λ answer x g.
+      weaken (λ w y e. evaluates_after g.goes e) (accept_gives offers None answer g.fits (well_after g.goes)))) (λ w y e. done (record {
         goes = goes_more d.goes (goes_more held.goes e.goes);
         carried = carry (well_after held.goes) e.goes held.carried;
       })))
+    where
+      offers : Offers c.host
+      offers = a_construction kind offered.0 offered.1
 
   -- arrays
 

@@ -56,7 +56,7 @@ found_in test (x ∷ xs) y e =
       | inr later ↦ later_in x y xs (found_in test xs y later)
     ]
 
-zip_at : {A B : Type 0} (R : A → B → Type 0) (xs : List A) (ys : List B) (k : ℕ) (y : B) → AllZip R xs ys → slice_get ys k ≡ Some y → (x : A) × (slice_get xs k ≡ Some x) × R x y
+pub zip_at : {A B : Type 0} (R : A → B → Type 0) (xs : List A) (ys : List B) (k : ℕ) (y : B) → AllZip R xs ys → slice_get ys k ≡ Some y → (x : A) × (slice_get xs k ≡ Some x) × R x y
 zip_at R [] [] k y h at = absurd (cc)
 zip_at R [] (z ∷ ys) k y h at = absurd h
 zip_at R (x ∷ xs) [] k y h at = absurd h

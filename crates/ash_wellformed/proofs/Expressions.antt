@@ -33,7 +33,7 @@ use Rattle.ash_phrases.specs.Classes.{Program, Entry}
 use Rattle.ash_phrases.specs.Calls.{Calls}
 use Rattle.ash_phrases.specs.Expressions.{expression, location, arguments, lazily}
 use Rattle.ash_wellformed.specs.WellFormed.{Context, IsContext, declared, Shape, shape_at, IsOfClass, IsArrayOf, IsOf, IsReference, to_object, IsInteger, IsValue, is_truth, is_integer, is_handle, to_nothing, no_values, and_value, IsGiven, gives_null, gives, IsThis, no_this, is_this, IsWellFormed}
-use Rattle.ash_wellformed.specs.Laws.{Goes, AreCarried, Leaves, done, ended, Evaluates}
+use Rattle.ash_wellformed.specs.Laws.{Goes, AreCarried, a_property, Leaves, done, ended, Evaluates}
 use Rattle.ash_wellformed.proofs.Values.{integer_is_none, handle_cases, none_in}
 use Rattle.ash_wellformed.proofs.Fits.{kept_value, fitting_value}
 use Rattle.ash_wellformed.proofs.Integers.{integer_word, calculate_gives, altered_value, altered_is_none}
@@ -87,7 +87,7 @@ member_located : {c : Context} {env : Environment} {o : ObjectType} {held : Memb
 member_located {c} number shape (operations.field {class} {place} {of} {c = cs} at field) there i =
     let of_source : cs ≡ signature_of_class i.source = same_Some cs (signature_of_class i.source) (sym at ∙ slice_get-map signature_of_class ((c.program).tree).classes class ∙ ap (option_map signature_of_class) i.at) in
     in_field i there (subst (λ (x : ClassSignature). slice_get x.fields place ≡ Some of) of_source field)
-member_located number shape (operations.property i) there typed = in_property
+member_located number shape (operations.property {kind} {id} {of} i) there typed = in_property (a_property kind id of i)
 
 module _ {c : Context} {env : Environment} {envs : List Environment} where
   -- words that are no handles

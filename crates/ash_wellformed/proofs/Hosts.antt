@@ -25,10 +25,10 @@ use Rattle.ash_phrases.specs.Activity.{FreeBox, World, Activity, in_world}
 use Rattle.ash_phrases.specs.Classes.{Program}
 use Rattle.ash_phrases.specs.HostSteps.{with_event, state_of, with_state_in, with_state, next_answer, after_answer, call_host, is_of, accept, invoke_host, get_property, set_property, without_box}
 use Rattle.ash_wellformed.specs.WellFormed.{Known, Context, shape_of, int, uint, int64, uint64, is_truth, is_integer, IsGiven, gives_nothing, gives, IsState, IsHostWord, IsAnswer, IsObject, is_host, Follows, IsWorld, IsWellFormed}
-use Rattle.ash_wellformed.specs.Laws.{Goes, Leaves, done, ended, no_step, Evaluates}
+use Rattle.ash_wellformed.specs.Laws.{Goes, Offers, Leaves, done, ended, no_step, Evaluates}
 use Rattle.ash_wellformed.proofs.Values.{Stays, frame_stays, frames_stay}
 use Rattle.ash_wellformed.proofs.Changes.{world_changed, world_follows, changed_stays}
-use Rattle.ash_wellformed.proofs.Triples.{follows_more, bind, weaken, after_found, chosen, safe, goes_itself, goes_more}
+use Rattle.ash_wellformed.proofs.Triples.{follows_more, bind, weaken, after_offered, chosen, safe, goes_itself, goes_more}
 
 -- lists of states
 
@@ -195,9 +195,9 @@ module _ {c : Context} {env : Environment} {envs : List Environment} where
   note_goes event h = world_goes (with_event event) h (with_note h.world event) (record { last = omega arith; shapes = λ n shape le e. e; outside = refl }) (λ n. record { stays = λ shape e. e })
 
   -- a call of a host
-  pub call_host_goes : {a : Activity} (target : Target) (call : HostCall) → IsWellFormed c env envs a → Leaves c (IsAnswered c env envs a) (call_host target call a)
-  call_host_goes {a} target call h =
-      after_found _ (next_answer target call a.world) a (λ taken e.
+  pub call_host_goes : {a : Activity} → Offers c.host → (target : Target) (call : HostCall) → IsWellFormed c env envs a → Leaves c (IsAnswered c env envs a) (call_host target call a)
+  call_host_goes {a} offers target call h =
+      after_offered _ (next_answer target call a.world) a offers (λ taken e.
       let two = with_answers h.world taken.0 taken.1 (answers_from target call a.world taken (state_of target a.world) e) in
       let follows = state_follows target (taken.0).after two.0 in
       done (record {
@@ -207,32 +207,32 @@ module _ {c : Context} {env : Environment} {envs : List Environment} where
 
   -- what is made of an answer
 
-  pub accept_gives : {a : Activity} (result : Option VarType) (answer : HostAnswer) → IsAnswer answer → IsWellFormed c env envs a → Leaves c (Evaluates c env envs (value_of_result result) a) (accept result answer a)
-  accept_gives None answers.Nothing fits h = done (record { goes = goes_itself h; carried = record { value = gives_nothing; held = λ n e. absurd (cc) } })
-  accept_gives (Some of) answers.Nothing fits h = ended (safe h)
-  accept_gives None (answers.Value w) fits h = ended (safe h)
-  accept_gives {a} (Some of) (answers.Value w) fits h =
+  pub accept_gives : {a : Activity} → Offers c.host → (result : Option VarType) (answer : HostAnswer) → IsAnswer answer → IsWellFormed c env envs a → Leaves c (Evaluates c env envs (value_of_result result) a) (accept result answer a)
+  accept_gives offers None answers.Nothing fits h = done (record { goes = goes_itself h; carried = record { value = gives_nothing; held = λ n e. absurd (cc) } })
+  accept_gives offers (Some of) answers.Nothing fits h = ended (safe h)
+  accept_gives offers None (answers.Value w) fits h = ended (safe h)
+  accept_gives {a} offers (Some of) (answers.Value w) fits h =
       chosen _ _ (is_of of w) a (λ yes. done (record {
         goes = goes_itself h;
         carried = record { value = primitive_given of w yes fits; held = λ n e. absurd (no_handle of w n yes e) };
       })) (λ no. ended (safe h))
-  accept_gives None (answers.Raise code) fits h = ended (safe h)
-  accept_gives (Some of) (answers.Raise code) fits h = ended (safe h)
-  accept_gives None answers.NoMemory fits h = no_step
-  accept_gives (Some of) answers.NoMemory fits h = no_step
+  accept_gives offers None (answers.Raise code) fits h = ended (safe h)
+  accept_gives offers (Some of) (answers.Raise code) fits h = ended (safe h)
+  accept_gives offers None answers.NoMemory fits h = no_step offers
+  accept_gives offers (Some of) answers.NoMemory fits h = no_step offers
 
-  pub invoke_host_gives : {a : Activity} (target : Target) (id : ℕ) (result : Option VarType) (args : List Word) → IsWellFormed c env envs a → Leaves c (Evaluates c env envs (value_of_result result) a) (invoke_host target id result args a)
-  invoke_host_gives target id result args h =
-      bind (call_host_goes target (Invoke id args) h) (λ answer b g.
+  pub invoke_host_gives : {a : Activity} → Offers c.host → (target : Target) (id : ℕ) (result : Option VarType) (args : List Word) → IsWellFormed c env envs a → Leaves c (Evaluates c env envs (value_of_result result) a) (invoke_host target id result args a)
+  invoke_host_gives offers target id result args h =
+      bind (call_host_goes offers target (Invoke id args) h) (λ answer b g.
       let noted = note_goes (Called target id) (well_after g.goes) in
-      weaken (λ w d e. evaluates_after (goes_more g.goes noted) e) (accept_gives result answer g.fits (well_after noted)))
+      weaken (λ w d e. evaluates_after (goes_more g.goes noted) e) (accept_gives offers result answer g.fits (well_after noted)))
 
-  pub get_property_gives : {a : Activity} (number id : ℕ) (of : VarType) → IsWellFormed c env envs a → Leaves c (Evaluates c env envs (value (as_value of)) a) (get_property number id of a)
-  get_property_gives number id of h =
-      bind (call_host_goes (targets.Object number) (Get id) h) (λ answer b g.
-      weaken (λ w d e. evaluates_after g.goes e) (accept_gives (Some of) answer g.fits (well_after g.goes)))
+  pub get_property_gives : {a : Activity} → Offers c.host → (number id : ℕ) (of : VarType) → IsWellFormed c env envs a → Leaves c (Evaluates c env envs (value (as_value of)) a) (get_property number id of a)
+  get_property_gives offers number id of h =
+      bind (call_host_goes offers (targets.Object number) (Get id) h) (λ answer b g.
+      weaken (λ w d e. evaluates_after g.goes e) (accept_gives offers (Some of) answer g.fits (well_after g.goes)))
 
-  pub set_property_goes : {a : Activity} (number id : ℕ) (word : Word) → IsWellFormed c env envs a → Leaves c (λ none b. Goes c env envs a b) (set_property number id word a)
-  set_property_goes number id word h =
-      bind (bind (call_host_goes (targets.Object number) (Set id word) h) (λ answer b g.
-      weaken (λ w d e. evaluates_after g.goes e) (accept_gives None answer g.fits (well_after g.goes)))) (λ w d e. done e.goes)
+  pub set_property_goes : {a : Activity} → Offers c.host → (number id : ℕ) (word : Word) → IsWellFormed c env envs a → Leaves c (λ none b. Goes c env envs a b) (set_property number id word a)
+  set_property_goes offers number id word h =
+      bind (bind (call_host_goes offers (targets.Object number) (Set id word) h) (λ answer b g.
+      weaken (λ w d e. evaluates_after g.goes e) (accept_gives offers None answer g.fits (well_after g.goes)))) (λ w d e. done e.goes)

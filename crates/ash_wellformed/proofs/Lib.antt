@@ -15,6 +15,7 @@ pub mod Arrays
 pub mod Locations
 pub mod Frames
 pub mod Entries
+pub mod Found
 pub mod Calls
 pub mod Expressions
 pub mod Statements

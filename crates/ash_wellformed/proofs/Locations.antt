@@ -24,7 +24,7 @@ use Rattle.ash_phrases.specs.Locations.{Location, Local, Global, Part, Property,
 use Rattle.ash_phrases.specs.Classes.{Program}
 use Rattle.ash_phrases.specs.Expressions.{store, update, count_at}
 use Rattle.ash_wellformed.specs.WellFormed.{Context, IsContext, Shape, shape_of, shape_at, IsOfClass, IsArrayOf, IsInteger, IsValue, is_integer, AreValues, gives, IsWellFormed}
-use Rattle.ash_wellformed.specs.Laws.{Goes, Leaves, done, Evaluates}
+use Rattle.ash_wellformed.specs.Laws.{Goes, Offers, Leaves, done, Evaluates}
 use Rattle.ash_wellformed.proofs.Values.{integer_is_none, value_lives, handle_cases, none_in}
 use Rattle.ash_wellformed.proofs.Fits.{kept_value, unkept, given_value}
 use Rattle.ash_wellformed.proofs.Integers.{integer_word, counted_integer, given_integer, calculate_gives}
@@ -50,7 +50,7 @@ pub data IsLocated (c : Context) (env : Environment) (a : Activity) : Location �
       → place < length (words_in number a.world)
       → of ≡ type_of_element e
       → IsLocated c env a (Part number place) of
-  in_property : {number id : ℕ} {of : VarType} → IsLocated c env a (Property number id of) of
+  in_property : {number id : ℕ} {of : VarType} → Offers c.host → IsLocated c env a (Property number id of) of
 
 -- what is read at a place, which stays
 pub record IsRead (c : Context) (env : Environment) (envs : List Environment) (l : Location) (of : VarType) (a : Activity) (w : Word) (b : Activity) : Type 0 where
@@ -84,8 +84,8 @@ module _ {c : Context} (context : IsContext c) {env : Environment} {envs : List 
     value = subst (λ (t : VarType). IsValue c.program (a.world).objects t (slice_index_or (words_in number a.world) place words.Null)) (sym same) (all_at (elements_are context h number i at) place words.Null lt);
     located = in_element i at lt same;
   })
-  read_gives (Property number id of) h in_property =
-      weaken (λ w b e. record { goes = e.goes; value = unkept of (given_value (e.carried).value); located = in_property }) (get_property_gives number id of h)
+  read_gives (Property number id of) h (in_property offers) =
+      weaken (λ w b e. record { goes = e.goes; value = unkept of (given_value (e.carried).value); located = in_property offers }) (get_property_gives offers number id of h)
 
   -- steps that store a word
 
@@ -144,7 +144,7 @@ module _ {c : Context} (context : IsContext c) {env : Environment} {envs : List 
   write_goes {a} (Part number place) {of} w h (in_element i at lt same) v =
       let first = old_held (slice_index_or (words_in number a.world) place words.Null) h (all_at (elements_are context h number i at) place words.Null lt) in
       done (goes_more first (element_goes number place w (well_after first) i at (subst (λ (t : VarType). IsValue c.program (a.world).objects t w) same v)))
-  write_goes (Property number id of) w h in_property v = set_property_goes number id w h
+  write_goes (Property number id of) w h (in_property offers) v = set_property_goes offers number id w h
 
   -- what expressions store
 

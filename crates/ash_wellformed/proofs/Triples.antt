@@ -1,6 +1,6 @@
 -- How runs that keep what is well-formed are put together, and what is carried past them.
 use Rattle.std.proofs.Common.{◌≡◌, ◌≤◌, ℕ, Bool, true, false, List, [], ◌∷◌, refl, sym, ap, ◌∙◌, inl, inr, arith}
-use Rattle.std.specs.Prelude.{Option, Some, None, Contains, if◌then◌else◌}
+use Rattle.std.specs.Prelude.{Option, Some, None, Contains, IsSome, if◌then◌else◌}
 use Rattle.std.proofs.lemmas.Option.{same_Some}
 use Rattle.std.proofs.lemmas.List.Elements.{Contains-append_left, Contains-append_right, Contains-append_cases}
 use Rattle.ash_host.specs.declared.word.Word.{Word}
@@ -14,7 +14,7 @@ use Rattle.ash_phrases.specs.Runs.{Progress, Run, onward, demand, found}
 use Rattle.ash_phrases.specs.Releases.{holding, give_held}
 use Rattle.ash_phrases.specs.Classes.{Program}
 use Rattle.ash_wellformed.specs.WellFormed.{Context, Shape, shape_at, IsGiven, Follows, IsWorld, IsFrame, IsWellFormed, IsSafe}
-use Rattle.ash_wellformed.specs.Laws.{Passes, Goes, IsCarried, AreCarried, Leaves, done, ended, no_step, Evaluates}
+use Rattle.ash_wellformed.specs.Laws.{Passes, Goes, IsCarried, AreCarried, Offers, Leaves, done, ended, no_step, Evaluates}
 use Rattle.ash_wellformed.proofs.Values.{handle_first, handle_cases, none_in, shape_lives, lives_shape, Stays, given_stays, values_stay, given_lives}
 
 -- what follows
@@ -54,20 +54,26 @@ module _ {c : Context} where
   pub bind : {A B : Type 0} {Q : A → Activity → Type 0} {R : B → Activity → Type 0} {r : Progress A} {f : A → Run B} → Leaves c Q r → ((v : A) (b : Activity) → Q v b → Leaves c R (f v b)) → Leaves c R (onward r f)
   bind (done {v} {b} l) next = next v b l
   bind (ended s) next = ended s
-  bind no_step next = no_step
+  bind (no_step offers) next = no_step offers
 
   pub weaken : {A : Type 0} {Q R : A → Activity → Type 0} {r : Progress A} → ((v : A) (b : Activity) → Q v b → R v b) → Leaves c Q r → Leaves c R r
   weaken more (done {v} {b} l) = done (more v b l)
   weaken more (ended s) = ended s
-  weaken more no_step = no_step
+  weaken more (no_step offers) = no_step offers
 
   pub after_demand : {B : Type 0} {R : B → Activity → Type 0} (f : Unit {0} → Run B) (b : Bool) (x : Exception) (a : Activity) → IsSafe c a → (b ≡ true → Leaves c R (f tt a)) → Leaves c R (onward (demand b x a) f)
   after_demand f true x a s next = next refl
   after_demand f false x a s next = ended s
 
-  pub after_found : {A B : Type 0} {R : B → Activity → Type 0} (f : A → Run B) (o : Option A) (a : Activity) → ((v : A) → o ≡ Some v → Leaves c R (f v a)) → Leaves c R (onward (found o a) f)
-  after_found f (Some v) a next = next v refl
-  after_found f None a next = no_step
+  -- what is there
+  pub after_found : {A B : Type 0} {R : B → Activity → Type 0} (f : A → Run B) (o : Option A) (a : Activity) → IsSome o → ((v : A) → o ≡ Some v → Leaves c R (f v a)) → Leaves c R (onward (found o a) f)
+  after_found f (Some v) a there next = next v refl
+  after_found f None a there next = absurd (cc)
+
+  -- what is missing only where the host offers something
+  pub after_offered : {A B : Type 0} {R : B → Activity → Type 0} (f : A → Run B) (o : Option A) (a : Activity) → Offers c.host → ((v : A) → o ≡ Some v → Leaves c R (f v a)) → Leaves c R (onward (found o a) f)
+  after_offered f (Some v) a offers next = next v refl
+  after_offered f None a offers next = no_step offers
 
   pub chosen : {A : Type 0} {R : A → Activity → Type 0} (r s : Run A) (b : Bool) (a : Activity) → (b ≡ true → Leaves c R (r a)) → (b ≡ false → Leaves c R (s a)) → Leaves c R ((if b then r else s) a)
   chosen r s true a one other = one refl

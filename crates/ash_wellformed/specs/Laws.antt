@@ -3,6 +3,7 @@ use Rattle.std.specs.Prelude.{◌≡◌, ℕ, Bool, true, List, [], Option, Some
 use Rattle.ash_host.specs.declared.word.Word.{Word}
 use Rattle.ash_host.specs.Objects.{Handles, Objects, handle, handles, Lives, AreNumbered}
 use Rattle.ash_host.specs.Reach.{ReachableIn}
+use Rattle.ash_tree.specs.declared.tree.types.Primitive.{Primitive}
 use Rattle.ash_typed.specs.declared.types.VarType.{VarType}
 use Rattle.ash_typed.specs.declared.types.VarType.TheVariants as vars
 use Rattle.ash_typed.specs.declared.types.ObjectType.{ObjectType}
@@ -12,6 +13,7 @@ use Rattle.ash_typed.specs.Tree.{Expr}
 use Rattle.ash_typed.specs.StatementTree.{Stmt, Stmts}
 use Rattle.ash_typed.specs.TypeOf.{ValueType, value_of_result}
 use Rattle.ash_typed.specs.Modules.{Function, Module}
+use Rattle.ash_typed.specs.Signatures.{HostSignature, Host}
 use Rattle.ash_typed.specs.SoundOperations.{IsMethod, IsTarget}
 use Rattle.ash_typed.specs.SoundExpressions.{Environment, IsWellTyped}
 use Rattle.ash_typed.specs.SoundStatements.{Scope, with_locals, IsStmt, AreStmts}
@@ -46,11 +48,22 @@ pub record IsCarried (c : Context) (of : ValueType) (a : Activity) (word : Word)
   pub value : IsGiven c.program (a.world).objects of word
   pub held : (number : ℕ) → handle word ≡ Some number → Contains (a.frame).held number
 
--- What is left at each end: this after a value, and some well-formed activity where a run was interrupted.
+-- The host offers something to scripts: a function of a service, a construction of an object, a method or a property.
+pub data Offers (host : Host) : Type 0 where
+  a_function : (service id : ℕ) (offered : HostSignature) → Contains (host.functions service id) offered → Offers host
+  a_construction : (kind : ℕ) (parameters : List Primitive) → Contains (host.factories kind) parameters → Offers host
+  a_method : (kind id : ℕ) (offered : HostSignature) → Contains (host.methods kind id) offered → Offers host
+  a_property : (kind id : ℕ) (of : Primitive) → Contains (host.properties kind id) of → Offers host
+
+abbrev pub OffersNothing : Host → Type 0
+OffersNothing host = Offers host → ⊥
+
+-- What is left at each end: this after a value, and some well-formed activity where a run was interrupted. There is no step
+-- only where the host offers something: a host may answer nothing to a call, or find no memory.
 pub data Leaves {A : Type 0} (c : Context) (Left : A → Activity → Type 0) : Progress A → Type 0 where
   done : {v : A} {b : Activity} → Left v b → Leaves c Left (Done v b)
   ended : {interrupt : Interrupt} {b : Activity} → IsSafe c b → Leaves c Left (Ended interrupt b)
-  no_step : Leaves c Left NoStep
+  no_step : Offers c.host → Leaves c Left NoStep
 
 -- an expression gives a value of its type, and the frame goes on
 pub record Evaluates (c : Context) (env : Environment) (envs : List Environment) (of : ValueType) (a : Activity)
@@ -178,6 +191,24 @@ module _ (c : Context) where
       → Follows c.began (with_zero_globals (c.program).tree w)
       → load_module c.program budget w ≡ Some o
       → IsSettled c o.world
+
+  -- Where the host offers nothing, a call from outside comes to an end, in any well-formed world.
+  abbrev pub CallsComeToAnEnd : Type 0
+  CallsComeToAnEnd =
+      (place : ℕ) (f : Function) (args : List Word) (budget : ℕ) (w : World)
+      → OffersNothing c.host
+      → slice_get ((c.program).tree).functions place ≡ Some f
+      → IsWorld c w
+      → AreValues c.program w.objects f.parameters args
+      → IsSome (call_function c.program place args budget w)
+
+  -- and so do the initializers of a module
+  abbrev pub LoadsComeToAnEnd : Type 0
+  LoadsComeToAnEnd =
+      (budget : ℕ) (w : World)
+      → OffersNothing c.host
+      → IsWorld c (with_zero_globals (c.program).tree w)
+      → IsSome (load_module c.program budget w)
 
 -- modules that come and go
 

@@ -3,11 +3,13 @@ ghost use Rattle.std.specs.Prelude.{ℕ};
 ghost use Rattle.ash_wellformed.specs.WellFormed.{Context, IsContext};
 ghost use Rattle.ash_wellformed.specs.Laws.{ExpressionsKeep, StatementsKeep, BlocksKeep};
 ghost use Rattle.ash_wellformed.specs.Laws.{CallsKeep, MethodsKeep};
-ghost use Rattle.ash_wellformed.specs.Laws.{RunsKeep, LoadsKeep, MoreModulesKeep, FewerModulesKeep};
+ghost use Rattle.ash_wellformed.specs.Laws.{RunsKeep, LoadsKeep, CallsComeToAnEnd};
+ghost use Rattle.ash_wellformed.specs.Laws.{LoadsComeToAnEnd, MoreModulesKeep, FewerModulesKeep};
 ghost use Rattle.ash_wellformed.specs.Laws.{ValuesAreOfTheirModule, ValuesKeepTheirTypes};
 
 /// A phrase of a sound module leaves what is well-formed, at each of its ends: an expression gives a value of its type,
-/// and so does a call; a statement is left by a jump that its scope allows, with what its function gives.
+/// and so does a call; a statement is left by a jump that its scope allows, with what its function gives. A phrase has
+/// no step only where the host offers something to scripts.
 pub fn sound_stays_sound()
     ensures expressions { (c : Context) (depth : ℕ) → IsContext c → ExpressionsKeep c depth }
     ensures statements { (c : Context) (depth : ℕ) → IsContext c → StatementsKeep c depth }
@@ -20,6 +22,13 @@ pub fn sound_stays_sound()
 pub fn runs_leave_settled_worlds()
     ensures calls { (c : Context) → IsContext c → RunsKeep c }
     ensures loads { (c : Context) → IsContext c → LoadsKeep c }
+{}
+
+/// Where the host offers nothing to scripts, a call of a function of a sound module has an outcome, from any
+/// well-formed world and within any budget, and so have the initializers of one.
+pub fn runs_come_to_an_end()
+    ensures calls { (c : Context) → IsContext c → CallsComeToAnEnd c }
+    ensures loads { (c : Context) → IsContext c → LoadsComeToAnEnd c }
 {}
 
 /// Objects stay well-formed where modules are loaded and where they go, and words of other modules keep their types.

@@ -1,6 +1,6 @@
 -- A call leaves a well-formed state.
 use Rattle.std.proofs.Common.{◌≡◌, ◌<◌, ℕ, Bool, true, false, not, List, map, find, slice_get, refl, sym, ap, ◌∙◌, subst, if◌then◌else◌, arith}
-use Rattle.std.specs.Prelude.{Option, Some, None, Contains, Result, Ok, option_map}
+use Rattle.std.specs.Prelude.{Option, Some, None, Contains, IsSome, Result, Ok, option_map}
 use Rattle.std.specs.Option.{option_and_then}
 use Rattle.std.specs.Str.{bytes_eq}
 use Rattle.std.proofs.lemmas.List.{length-map}
@@ -12,11 +12,11 @@ use Rattle.ash_typed.specs.Signatures.{Host, types_of_globals}
 use Rattle.ash_phrases.specs.Activity.{World}
 use Rattle.ash_phrases.specs.Ends.{Outcome, call_function}
 use Rattle.ash_wellformed.specs.WellFormed.{Context, IsContext, AreValues, IsWorld}
-use Rattle.ash_wellformed.specs.Laws.{IsSettled}
+use Rattle.ash_wellformed.specs.Laws.{OffersNothing, IsSettled}
 use Rattle.ash_wellformed.proofs.Triples.{follows_itself}
 use Rattle.ash_wellformed.proofs.Calls.{contains_map}
 use Rattle.ash_wellformed.proofs.Entries.{found_in}
-use Rattle.ash_wellformed.proofs.Ends.{runs_keep}
+use Rattle.ash_wellformed.proofs.Ends.{runs_keep, calls_come_to_an_end}
 use Rattle.ash_wellformed.proofs.Modules.{more_modules_keep}
 use Rattle.ash_steps.specs.States.{LoadedModule, State, Hosts, Embedding, has_name, find_module, globals_of, without_module, update_globals, world_of, state_after}
 use Rattle.ash_steps.specs.Steps.{hosts_left}
@@ -143,3 +143,6 @@ module _ {Fault : Type 0} (embedding : Embedding Fault) (host : Host) (sound : R
   call_keeps place g args budget o left at values e =
       let settled = (runs_keep context place g args budget before o at world_before (follows_itself before) values e).0 in
       (called_well left o.world settled, hosts_after settled)
+
+  pub call_ends : (place : ℕ) (g : Function) (args : List Word) (budget : ℕ) → OffersNothing host → slice_get tree.functions place ≡ Some g → AreValues c.program s.objects g.parameters args → IsSome (call_function c.program place args budget before)
+  call_ends place g args budget none at values = calls_come_to_an_end context place g args budget before none at world_before values

@@ -1,6 +1,6 @@
 -- Modules that are loaded and discarded leave a well-formed state.
 use Rattle.std.proofs.Common.{◌≡◌, ◌<◌, ℕ, Bool, true, false, not, List, [], ◌∷◌, length, map, find, refl, sym, ap, ◌∙◌, subst, arith}
-use Rattle.std.specs.Prelude.{Some, None, Contains, Ok}
+use Rattle.std.specs.Prelude.{Some, None, Contains, IsSome, Ok}
 use Rattle.std.specs.Option.{option_and_then}
 use Rattle.std.specs.Str.{bytes_eq}
 use Rattle.ash_host.specs.declared.word.Word.{Word}
@@ -14,11 +14,11 @@ use Rattle.ash_phrases.specs.Operators.{zero_of}
 use Rattle.ash_phrases.specs.Classes.{Program}
 use Rattle.ash_phrases.specs.Ends.{Outcome, load_module, with_globals}
 use Rattle.ash_wellformed.specs.WellFormed.{Context, IsContext, AreValues, no_values, and_value, AreObjects, IsWorld}
-use Rattle.ash_wellformed.specs.Laws.{IsSettled, KnowsAll}
+use Rattle.ash_wellformed.specs.Laws.{OffersNothing, IsSettled, KnowsAll}
 use Rattle.ash_wellformed.proofs.Triples.{follows_itself}
 use Rattle.ash_wellformed.proofs.Integers.{zero_value}
 use Rattle.ash_wellformed.proofs.Entries.{found_passes, chained}
-use Rattle.ash_wellformed.proofs.Ends.{loads_keep}
+use Rattle.ash_wellformed.proofs.Ends.{loads_keep, loads_come_to_an_end}
 use Rattle.ash_wellformed.proofs.Modules.{more_modules_keep}
 use Rattle.ash_steps.specs.States.{LoadedModule, State, Hosts, Embedding, has_name, find_module, globals_of, with_module, without_module, world_of, state_after}
 use Rattle.ash_steps.specs.Steps.{hosts_left, without_globals}
@@ -126,6 +126,9 @@ module _ {Fault : Type 0} (embedding : Embedding Fault) (host : Host) (s : State
 
     pub load_settles : (budget : ℕ) (o : Outcome) → load_module c.program budget (world_of [] s.modules s hosts) ≡ Some o → IsSettled c o.world
     load_settles budget o e = loads_keep context budget (world_of [] s.modules s hosts) o world_before (follows_itself before) e
+
+    pub load_ends : (budget : ℕ) → OffersNothing host → IsSome (load_module c.program budget (world_of [] s.modules s hosts))
+    load_ends budget none = loads_come_to_an_end context budget (world_of [] s.modules s hosts) none world_before
 
     module _ (w : World) (settled : IsSettled c w) where
       -- one that did not come to its end goes

@@ -5,4 +5,5 @@ pub mod Left
 pub mod Called
 pub mod Came
 pub mod Stepped
+pub mod Ended
 pub mod First

@@ -48,7 +48,7 @@ both_some (Some w) (Some rest) ws e = (w, rest, refl, refl, same_Some (w ∷ res
 both_some (Some w) None ws e = absurd (cc)
 both_some None os ws e = absurd (cc)
 
-arguments_values : {p : Program} {all : Objects (List ℕ)} (types : List VarType) (asked : List Argument) (ws : List Word) → arguments_of types asked ≡ Some ws → AreValues p all types ws
+pub arguments_values : {p : Program} {all : Objects (List ℕ)} (types : List VarType) (asked : List Argument) (ws : List Word) → arguments_of types asked ≡ Some ws → AreValues p all types ws
 arguments_values {p} {all} [] [] ws e = subst (AreValues p all []) (same_Some [] ws e) no_values
 arguments_values [] (a ∷ asked) ws e = absurd (cc)
 arguments_values (t ∷ types) [] ws e = absurd (cc)

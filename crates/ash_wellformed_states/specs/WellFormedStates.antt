@@ -1,5 +1,5 @@
 -- Well-formed states: what outlives a request, and so what an image of a state may hold.
-use Rattle.std.specs.Prelude.{◌≡◌, ◌≤◌, ℕ, true, List, [], ◌∷◌, length, find, Contains, Ok}
+use Rattle.std.specs.Prelude.{◌≡◌, ◌≤◌, ℕ, true, List, [], ◌∷◌, length, find, Contains, IsSome, Ok}
 use Rattle.std.specs.declared.cmp.Ordering.TheVariants.{Less}
 use Rattle.std.specs.List.{AllByRecursion}
 use Rattle.std.specs.Option.{option_and_then}
@@ -12,10 +12,11 @@ use Rattle.ash_typed.specs.Signatures.{Host, types_of_globals}
 use Rattle.ash_phrases.specs.Activity.{FreeBox}
 use Rattle.ash_phrases.specs.ObjectSteps.{max_number}
 use Rattle.ash_wellformed.specs.WellFormed.{Known, AreValues, AreObjects, AreOffered, IsState, IsAnswer}
+use Rattle.ash_wellformed.specs.Laws.{OffersNothing}
 use Rattle.ash_steps.specs.States.{LoadedModule, State, Hosts, Embedding, compare_names, has_name, globals_of}
 use Rattle.ash_steps.specs.Requests.{Request}
 use Rattle.ash_steps.specs.Tasks.{is_module_name, max_modules, max_seq, tree_of}
-use Rattle.ash_steps.specs.Steps.{Step, Steps, History, Runs}
+use Rattle.ash_steps.specs.Steps.{Step, step, Steps, History, run, Runs}
 use Rattle.ash_steps.specs.Premises.{ReadsSound}
 
 -- what hosts bring: no state is longer than a state may be, and an answer has a number that its type has
@@ -86,3 +87,23 @@ module _ {Fault : Type 0} (embedding : Embedding Fault) where
       → AreHosts hosts
       → Runs embedding budget requests state hosts history
       → IsWellFormedState host history.state × AreHosts history.hosts
+
+  -- Where the host offers nothing, each request has a step in a well-formed state.
+  abbrev pub HaveSteps : Host → Type 0
+  HaveSteps host =
+      (budget : ℕ) (request : Request) (state : State) (hosts : Hosts)
+      → OffersNothing host
+      → ReadsSound host embedding
+      → IsWellFormedState host state
+      → AreHosts hosts
+      → IsSome (step embedding budget request state hosts)
+
+  -- and requests one after another have a run
+  abbrev pub HaveRuns : Host → Type 0
+  HaveRuns host =
+      (budget : ℕ) (requests : List Request) (state : State) (hosts : Hosts)
+      → OffersNothing host
+      → ReadsSound host embedding
+      → IsWellFormedState host state
+      → AreHosts hosts
+      → IsSome (run embedding budget requests state hosts)

@@ -6,7 +6,7 @@ ghost use Rattle.ash_typed.specs.Signatures.{Host};
 ghost use Rattle.ash_wellformed.specs.WellFormed.{IsState};
 ghost use Rattle.ash_steps.specs.States.{Embedding, empty};
 ghost use Rattle.ash_wellformed_states.specs.WellFormedStates.{IsWellFormedState, StepsKeep};
-ghost use Rattle.ash_wellformed_states.specs.WellFormedStates.{RunsKeep};
+ghost use Rattle.ash_wellformed_states.specs.WellFormedStates.{RunsKeep, HaveSteps, HaveRuns};
 
 /// A request leaves a well-formed state where it finds one, however it ends, and where it is refused for a cause that
 /// is not in the state; so do all requests of a run; and the state before any request is well-formed.
@@ -16,4 +16,11 @@ pub fn states_stay_well_formed<F>()
         → IsWellFormedState embedding host (empty services) }
     ensures steps { (embedding : Embedding F) (host : Host) → StepsKeep embedding host }
     ensures runs { (embedding : Embedding F) (host : Host) → RunsKeep embedding host }
+{}
+
+/// Where the host offers nothing to scripts, each request of a well-formed state has a step, and requests one after
+/// another have a run.
+pub fn requests_have_steps<F>()
+    ensures steps { (embedding : Embedding F) (host : Host) → HaveSteps embedding host }
+    ensures runs { (embedding : Embedding F) (host : Host) → HaveRuns embedding host }
 {}

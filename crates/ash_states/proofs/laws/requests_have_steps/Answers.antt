@@ -1,0 +1,5 @@
+use Rattle.ash_states.proofs.Admitted.{have_steps}
+use Rattle.ash_states.proofs.laws.requests_have_steps.Goals as goal
+
+pub returns : goal.returns
+returns c = have_steps
