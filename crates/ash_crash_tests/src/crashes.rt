@@ -145,10 +145,10 @@ pub(crate) fn is_held(
 }
 
 /// What survives a crash on the first disk and on the second.
-type Crash = (Survives, Survives);
+pub(crate) type Crash = (Survives, Survives);
 
 /// The crash of a number: the extremes, and those that seeds give.
-fn crash_of(number: u64) -> Crash {
+pub(crate) fn crash_of(number: u64) -> Crash {
     match number {
         0 => (Survives::Nothing, Survives::Nothing),
         1 => (Survives::Nothing, Survives::Everything),

@@ -2,8 +2,8 @@
 
 use crate::compare::check_bytes;
 use crate::images::{
-    AFTER_THREE, CONSTRUCTED, LOADED, MODULE_A, MODULE_B, NOTHING, ONE_SERVICE, TWO, image,
-    modules, with_tag,
+    AFTER_THREE, CONSTRUCTED, LOADED, MODULE_A, MODULE_B, NOTHING, OF_TWO_MODULES, ONE_SERVICE,
+    TWO, image, modules, with_tag,
 };
 use ash_plain_steps::request::{Reply, Request};
 use ash_registry::Registry;
@@ -93,4 +93,21 @@ fn an_object_and_an_array(rt: HostRuntime) -> Result<(), Fail> {
     )?;
     let wanted = image(rt.alloc(), TWO, CONSTRUCTED)?;
     check_written(&rt, rt.alloc(), &state, &wanted, "an object and an array")
+}
+
+#[test]
+fn objects_of_two_modules(rt: HostRuntime) -> Result<(), Fail> {
+    let mut state = HostState::new(rt.alloc(), Registry::new(rt.alloc()));
+    load(
+        &mut state,
+        "a",
+        b"class A { int v = 7; } A@ a = A(); array<A@> l(1);",
+    )?;
+    load(
+        &mut state,
+        "B",
+        b"class C { } class D { } D@ d = D(); array<D@> l;",
+    )?;
+    let wanted = image(rt.alloc(), TWO, OF_TWO_MODULES)?;
+    check_written(&rt, rt.alloc(), &state, &wanted, "objects of two modules")
 }

@@ -233,6 +233,41 @@ pub(crate) const STORED: Parts = &[
     b"\x01\xff\xff\xff\xff",
 ];
 
+/// The module `B` and the module `a`, which was loaded before it and has the objects of lower numbers, after two requests.
+/// Each has an object of a class, and an array of handles to such. Those of `a` are of the second module, those of `B` of
+/// the second class of the first.
+pub(crate) const OF_TWO_MODULES: Parts = &[
+    b"\x00\x00\x00\x00",
+    b"\x02\x00\x00\x00\x00\x00\x00\x00",
+    b"\x04\x00\x00\x00\x00\x00\x00\x00",
+    b"\x00\x00",
+    b"\x02",
+    b"\x01B",
+    b"\x30\x00\x00\x00class C { } class D { } D@ d = D(); array<D@> l;",
+    b"\x02\x00",
+    b"\x06\x03\x00\x00\x00\x00\x00\x00\x00",
+    b"\x06\x04\x00\x00\x00\x00\x00\x00\x00",
+    b"\x01a",
+    b"\x32\x00\x00\x00class A { int v = 7; } A@ a = A(); array<A@> l(1);",
+    b"\x02\x00",
+    b"\x06\x01\x00\x00\x00\x00\x00\x00\x00",
+    b"\x06\x02\x00\x00\x00\x00\x00\x00\x00",
+    b"\x04\x00\x00\x00",
+    // The object 1: its tag, its module, its class, and its field.
+    b"\x01\x00\x00\x00\x00\x00\x00\x00",
+    b"\x01\x01\x00\x00\x01",
+    b"\x01\x07\x00\x00\x00",
+    // The object 2: its tag, what its elements are, and the one that it has.
+    b"\x02\x00\x00\x00\x00\x00\x00\x00",
+    b"\x03\x05\x01\x00\x00\x01\x00",
+    b"\x05",
+    // The object 3, which has no field, and the object 4, which has no element.
+    b"\x03\x00\x00\x00\x00\x00\x00\x00",
+    b"\x01\x00\x01\x00\x00",
+    b"\x04\x00\x00\x00\x00\x00\x00\x00",
+    b"\x03\x05\x00\x01\x00\x00\x00",
+];
+
 /// Adds parts to bytes.
 fn add_parts(bytes: &mut Vec<u8>, parts: &[&[u8]]) -> Result<(), AllocError> {
     for part in parts {

@@ -6,8 +6,8 @@ ghost use Rattle.ash_state_image.specs.Views.{snapshot_of};
 
 use crate::compare::{check_bytes, check_count, check_true};
 use crate::images::{
-    DANGLING, EACH_WORD, NOTHING, ONE, ONE_MODULE, ONE_SERVICE, Parts, STORED, THREE_TAGS, TWO,
-    TWO_TAGS, image, with_byte,
+    DANGLING, EACH_WORD, NOTHING, OF_TWO_MODULES, ONE, ONE_MODULE, ONE_SERVICE, Parts, STORED,
+    THREE_TAGS, TWO, TWO_TAGS, image, with_byte,
 };
 use ash_registry::{Registry, RegistryFault};
 use ash_state_image::image::read_image;
@@ -234,6 +234,41 @@ fn check_refused(rt: &impl Abort, alloc: Global, row: &Refused) -> Result<(), Fa
 fn images_of_no_host(rt: HostRuntime) -> Result<(), Fail> {
     for row in &REFUSED {
         check_refused(&rt, rt.alloc(), row)?;
+    }
+    Ok(())
+}
+
+/// The image of objects of two modules with another byte at a place, which is the image of no host: what it is called.
+type Exchanged = (&'static str, usize, u8);
+
+// The object 1 begins at 179, the object 2 at 197, the object 3 at 213, and the object 4 at 226. After its number and its
+// tag each has its module, where an array has what its elements are before that, and then its class.
+const EXCHANGED: [Exchanged; 5] = [
+    ("an object of the first class of the other module", 188, 0),
+    ("elements of the first class of the other module", 207, 0),
+    ("an object of a class that is not there", 222, 1),
+    ("an object of the other class", 223, 0),
+    ("elements of a class that is not there", 236, 1),
+];
+
+fn check_exchanged(rt: &impl Abort, alloc: Global, row: Exchanged) -> Result<(), Fail> {
+    let (what, place, byte) = row;
+    let image = image(alloc, TWO, OF_TWO_MODULES)?;
+    let changed = with_byte(alloc, &image, place, byte)?;
+    let is_one = is_of_host(rt, alloc, Registered::Nothing, &changed, what)?;
+    check_true(rt, !is_one, what);
+    Ok(())
+}
+
+#[test]
+fn objects_of_two_modules(rt: HostRuntime) -> Result<(), Fail> {
+    let what = "objects of two modules";
+    let image = image(rt.alloc(), TWO, OF_TWO_MODULES)?;
+    check_count(&rt, image.len(), 241, what);
+    let is_one = is_of_host(&rt, rt.alloc(), Registered::Nothing, &image, what)?;
+    check_true(&rt, is_one, what);
+    for row in &EXCHANGED {
+        check_exchanged(&rt, rt.alloc(), *row)?;
     }
     Ok(())
 }

@@ -56,7 +56,7 @@ fn the_first_example_and_its_ticks(rt: HostRuntime) -> Result<(), Fail> {
     check_rows(&rt, rt.alloc(), &FIRST)
 }
 
-static FRAMES: [Row; 2] = [
+static FRAMES: [Row; 3] = [
     Row {
         what: "as many frames as there may be, with as many ticks as they take",
         budget: 512,
@@ -75,6 +75,14 @@ static FRAMES: [Row; 2] = [
         parts: &[&[
             ("load m 23\nint f() { return f(); }", "ok seq 1"),
             ("call m f", "aborted f 1 seq 2"),
+        ]],
+    },
+    Row {
+        what: "a loop without end",
+        budget: 1000,
+        parts: &[&[
+            ("load m 24\nvoid g() { for (;;) {} }", "ok seq 1"),
+            ("call m g", "aborted g 1 seq 2"),
         ]],
     },
 ];

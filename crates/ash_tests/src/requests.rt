@@ -4,6 +4,7 @@ use crate::hosts::{check, check_text, ending, new_host, replies};
 use crate::rows::{Row, check_rows};
 use ash_registry::Registry;
 use ash_serve::RunFault;
+use ash_serve::program::registrations::registrations;
 use std::alloc::{AllocError, Global};
 use std::process::Abort;
 use std::test::Fail;
@@ -181,5 +182,38 @@ fn a_source_that_is_cut_by_the_end(rt: HostRuntime) -> Result<(), Fail> {
     );
     let found = replies(alloc, &mut host, b"get m n\nseq\n")?;
     check_text(&rt, &found, "ok 2\nok 1\n", "what is found then");
+    Ok(())
+}
+
+const BEFORE_A_LONG_LINE: &[u8] = b"load m 45\nint n = 2; int f(int k) { n += k; return n; }\n\
+    frob\ncall m f x\ncall m nope\ncall m f 1 2\ncall m f 2147483648\ncall z f\ndiscard z\nget m q\nobject 9\n";
+
+const AFTER_A_LONG_LINE: &[u8] = b"\nload m 0\n\nload 9x 0\n\nseq\nload k 3\nab";
+
+const REPLIES_OF_ONE_RUN: &str = "ok seq 1\n\
+    refused 601 BadRequest\nrefused 601 BadRequest\nrefused 403 NoFunction\nrefused 405 BadArguments\n\
+    refused 405 BadArguments\nrefused 401 NoModule\nrefused 401 NoModule\nrefused 406 NoGlobal\n\
+    refused 407 NoObject\nrefused 602 LineTooLong\nrefused 402 ModuleTaken\nrefused 409 BadName\nok 1\n";
+
+/// Requests of which each is refused, one of them too long for a line, and the last is cut by the end.
+fn refused_in_one_run(alloc: Global) -> Result<Vec<u8>, AllocError> {
+    let mut requests = Vec::from_slice(alloc, BEFORE_A_LONG_LINE)?;
+    requests.extend_from_slice(&vec![in alloc; b'a'; 4097]?)?;
+    requests.extend_from_slice(AFTER_A_LONG_LINE)?;
+    Ok(requests)
+}
+
+#[test]
+fn each_refusal_in_one_run(rt: HostRuntime) -> Result<(), Fail> {
+    let alloc = rt.alloc();
+    let mut host = new_host(alloc, registrations(alloc)?)?;
+    let mut written = Vec::new(alloc);
+    let requests = refused_in_one_run(alloc)?;
+    let end = ending(alloc, requests.as_slice(), &mut written, &mut host, 1000);
+    check(&rt, &end, &Err(RunFault::Truncated), "how the run ends");
+    let found = String::from_utf8(written)?;
+    check_text(&rt, &found, REPLIES_OF_ONE_RUN, "what is written");
+    let found = replies(alloc, &mut host, b"seq\nget m n\n")?;
+    check_text(&rt, &found, "ok 1\nok 2\n", "what is found then");
     Ok(())
 }
