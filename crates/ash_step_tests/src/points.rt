@@ -14,9 +14,17 @@ static EXPRESSIONS: [Row<'static>; 8] = [
     Row {
         what: "an expression statement",
         host: FOUR,
-        steps: &[HostStep::Start(1, 1), HostStep::Start(2, 2), HostStep::Start(3, 3)],
+        steps: &[
+            HostStep::Start(1, 1),
+            HostStep::Start(2, 2),
+            HostStep::Start(3, 3),
+        ],
         exchanges: &[
-            ("load m void f() { Counter(1); Counter(2); Counter(3); }", "ok seq 1", ""),
+            (
+                "load m void f() { Counter(1); Counter(2); Counter(3); }",
+                "ok seq 1",
+                "",
+            ),
             (
                 "call m f",
                 "ok seq 2 dropped 1 2 3",
@@ -122,7 +130,11 @@ static EXPRESSIONS: [Row<'static>; 8] = [
     Row {
         what: "each step of a `for`",
         host: FOUR,
-        steps: &[HostStep::Start(1, 1), HostStep::Start(2, 2), HostStep::Start(3, 3)],
+        steps: &[
+            HostStep::Start(1, 1),
+            HostStep::Start(2, 2),
+            HostStep::Start(3, 3),
+        ],
         exchanges: &[
             (
                 "load m void f() { for (int i = 0; i < 1; Counter(1), i++, Counter(2)) ; Counter \
@@ -154,7 +166,11 @@ static EXPRESSIONS: [Row<'static>; 8] = [
                 "ok seq 1",
                 "",
             ),
-            ("call m f", "ok seq 2 dropped 2 3", "Drew 2; Dropped 2; Drew 3; Dropped 3; "),
+            (
+                "call m f",
+                "ok seq 2 dropped 2 3",
+                "Drew 2; Dropped 2; Drew 3; Dropped 3; ",
+            ),
             ("object 1", "ok object 1 m.A count 1 a 1 b 2", ""),
         ],
         left: "seq 2 last 3 | m object 1 | objects 1 | services 00000000 | free 3 left 0",
@@ -189,7 +205,11 @@ static BLOCKS: [Row<'static>; 7] = [
     Row {
         what: "a block: its locals in another order than their numbers",
         host: FOUR,
-        steps: &[HostStep::Start(1, 1), HostStep::Start(2, 2), HostStep::Start(3, 3)],
+        steps: &[
+            HostStep::Start(1, 1),
+            HostStep::Start(2, 2),
+            HostStep::Start(3, 3),
+        ],
         exchanges: &[
             (
                 "load m void f() { { Counter@ b; Counter a(1); @b = Counter(2); } Counter c(3); }",
@@ -207,7 +227,11 @@ static BLOCKS: [Row<'static>; 7] = [
     Row {
         what: "a block in a block",
         host: FOUR,
-        steps: &[HostStep::Start(1, 1), HostStep::Start(2, 2), HostStep::Start(3, 3)],
+        steps: &[
+            HostStep::Start(1, 1),
+            HostStep::Start(2, 2),
+            HostStep::Start(3, 3),
+        ],
         exchanges: &[
             (
                 "load m void f() { { Counter a(1); { Counter b(2); } } Counter c(3); }",
@@ -225,7 +249,11 @@ static BLOCKS: [Row<'static>; 7] = [
     Row {
         what: "blocks that a `break` leaves",
         host: FOUR,
-        steps: &[HostStep::Start(1, 1), HostStep::Start(2, 2), HostStep::Start(3, 3)],
+        steps: &[
+            HostStep::Start(1, 1),
+            HostStep::Start(2, 2),
+            HostStep::Start(3, 3),
+        ],
         exchanges: &[
             (
                 "load m void f() { while (true) { Counter a(1); { Counter b(2); break; } } \
@@ -244,7 +272,11 @@ static BLOCKS: [Row<'static>; 7] = [
     Row {
         what: "blocks that a `break` of a `switch` leaves",
         host: FOUR,
-        steps: &[HostStep::Start(1, 1), HostStep::Start(2, 2), HostStep::Start(3, 3)],
+        steps: &[
+            HostStep::Start(1, 1),
+            HostStep::Start(2, 2),
+            HostStep::Start(3, 3),
+        ],
         exchanges: &[
             (
                 "load m void f() { switch (1) { case 1: { Counter a(1); { Counter b(2); break; } \
@@ -263,7 +295,11 @@ static BLOCKS: [Row<'static>; 7] = [
     Row {
         what: "the head of a `for` that a `break` leaves",
         host: FOUR,
-        steps: &[HostStep::Start(1, 1), HostStep::Start(2, 2), HostStep::Start(3, 3)],
+        steps: &[
+            HostStep::Start(1, 1),
+            HostStep::Start(2, 2),
+            HostStep::Start(3, 3),
+        ],
         exchanges: &[
             (
                 "load m void f() { for (Counter a(1); ; ) { Counter b(2); break; } Counter c(3); }",
@@ -339,7 +375,11 @@ static FRAMES: [Row<'static>; 5] = [
     Row {
         what: "a body that comes to its end",
         host: FOUR,
-        steps: &[HostStep::Start(1, 1), HostStep::Start(2, 2), HostStep::Start(3, 3)],
+        steps: &[
+            HostStep::Start(1, 1),
+            HostStep::Start(2, 2),
+            HostStep::Start(3, 3),
+        ],
         exchanges: &[
             (
                 "load m void g() { Counter a(1); Counter b(2); } void f() { g(); Counter c(3); }",
@@ -381,7 +421,11 @@ static FRAMES: [Row<'static>; 5] = [
     Row {
         what: "a result, which the caller holds",
         host: FOUR,
-        steps: &[HostStep::Start(1, 1), HostStep::Start(2, 2), HostStep::Start(3, 3)],
+        steps: &[
+            HostStep::Start(1, 1),
+            HostStep::Start(2, 2),
+            HostStep::Start(3, 3),
+        ],
         exchanges: &[
             (
                 "load m Counter@ g() { Counter a(1); Counter b(2); return a; } void f() { g(); \
@@ -400,7 +444,11 @@ static FRAMES: [Row<'static>; 5] = [
     Row {
         what: "an argument, which the caller holds",
         host: FOUR,
-        steps: &[HostStep::Start(1, 1), HostStep::Start(2, 2), HostStep::Start(3, 3)],
+        steps: &[
+            HostStep::Start(1, 1),
+            HostStep::Start(2, 2),
+            HostStep::Start(3, 3),
+        ],
         exchanges: &[
             (
                 "load m void g(Counter@ h) { Counter b(2); } void f() { g(Counter(1)); Counter \
@@ -426,7 +474,11 @@ static FRAMES: [Row<'static>; 5] = [
                 "ok seq 1",
                 "",
             ),
-            ("call m f", "ok seq 2 dropped 2 3", "Drew 2; Dropped 2; Drew 3; Dropped 3; "),
+            (
+                "call m f",
+                "ok seq 2 dropped 2 3",
+                "Drew 2; Dropped 2; Drew 3; Dropped 3; ",
+            ),
         ],
         left: "seq 2 last 3 | m | objects | services 00000000 | free 3 left 0",
     },
@@ -467,7 +519,11 @@ static ENDS: [Row<'static>; 8] = [
                 "ok seq 1",
                 "",
             ),
-            ("call m f", "aborted g 1 seq 2 dropped 1 2", "Drew 1; Drew 2; Dropped 1; Dropped 2; "),
+            (
+                "call m f",
+                "aborted g 1 seq 2 dropped 1 2",
+                "Drew 1; Drew 2; Dropped 1; Dropped 2; ",
+            ),
         ],
         left: "seq 2 last 2 | m | objects | services 00000000 | free 3 left 0",
     },
@@ -481,7 +537,11 @@ static ENDS: [Row<'static>; 8] = [
                 "ok seq 1",
                 "",
             ),
-            ("call m f", "exception DivideByZero A.A 1 seq 2 dropped 2", "Drew 2; Dropped 2; "),
+            (
+                "call m f",
+                "exception DivideByZero A.A 1 seq 2 dropped 2",
+                "Drew 2; Dropped 2; ",
+            ),
         ],
         left: "seq 2 last 2 | m | objects | services 00000000 | free 4 left 0",
     },
@@ -496,14 +556,22 @@ static ENDS: [Row<'static>; 8] = [
                 "ok seq 1",
                 "",
             ),
-            ("call m f", "exception DivideByZero f 1 seq 2 dropped 1", "Drew 1; Dropped 1; "),
+            (
+                "call m f",
+                "exception DivideByZero f 1 seq 2 dropped 1",
+                "Drew 1; Dropped 1; ",
+            ),
         ],
         left: "seq 2 last 1 | m | objects | services 00000000 | free 4 left 0",
     },
     Row {
         what: "an exception in a condition",
         host: FOUR,
-        steps: &[HostStep::Start(1, 1), HostStep::Start(2, 2), HostStep::Read(2)],
+        steps: &[
+            HostStep::Start(1, 1),
+            HostStep::Start(2, 2),
+            HostStep::Read(2),
+        ],
         exchanges: &[
             (
                 "load m void f() { Counter a(1); while (Counter(2).value / 0 > 0) ; }",
@@ -523,7 +591,11 @@ static ENDS: [Row<'static>; 8] = [
         host: FOUR,
         steps: &[HostStep::Start(1, 1), HostStep::Start(2, 2)],
         exchanges: &[
-            ("load m void f() { for (Counter a(1); ; 1 / 0) { Counter b(2); } }", "ok seq 1", ""),
+            (
+                "load m void f() { for (Counter a(1); ; 1 / 0) { Counter b(2); } }",
+                "ok seq 1",
+                "",
+            ),
             (
                 "call m f",
                 "exception DivideByZero f 1 seq 2 dropped 2 1",
@@ -556,7 +628,11 @@ static ENDS: [Row<'static>; 8] = [
                 "ok seq 1",
                 "Drew 1; Drew 2; ",
             ),
-            ("discard m", "ok seq 2 dropped 1 2", "Dropped 1; Dropped 2; "),
+            (
+                "discard m",
+                "ok seq 2 dropped 1 2",
+                "Dropped 1; Dropped 2; ",
+            ),
         ],
         left: "seq 2 last 2 | objects | services 00000000 | free 3 left 0",
     },
