@@ -27,6 +27,7 @@ fn handles_in_an_array(rt: HostRuntime) -> Result<(), Fail> {
                 ("call m h 1", "exception IndexOutOfBounds h 1 seq 4", ""),
                 ("call m g", "ok seq 5 dropped 2", "Dropped 2; "),
                 ("call m g", "exception IndexOutOfBounds g 1 seq 6", ""),
+                ("object 1", "ok object 1 array count 1", ""),
             ],
             left: "seq 6 last 2 | m object 1 | objects 1 | services 00000000 | free 2 left 0",
         },

@@ -29,6 +29,7 @@ fn through_an_interface(rt: HostRuntime) -> Result<(), Fail> {
                 ("call m c", "ok true seq 6", ""),
                 ("get m g", "ok object 2", ""),
                 ("object 1", "refused 407 NoObject", ""),
+                ("object 2", "ok object 2 m.B count 1", ""),
             ],
             left: "seq 6 last 2 | m object 2 | objects 2 | services 00000000 | free 3 left 0",
         },

@@ -5,7 +5,8 @@
 //!
 //! `calls` has what host objects and services answer, as `Counter` and `Tally` do; `registered` what is registered;
 //! `requests`, `replies` and `states` the texts of a row; `rows` runs them. The rows: `classes`, `counters`, `services`,
-//! `modules`, `interfaces`, `arrays`, `limits`, `integers`, `sources`.
+//! `modules`, `interfaces`, `arrays`, `limits`, `integers`, `sources`, `points` of the release points, and `ticks` of
+//! what host objects take.
 #![tactic(auto)]
 
 #[cfg(test)]
@@ -25,6 +26,8 @@ mod limits;
 #[cfg(test)]
 mod modules;
 #[cfg(test)]
+mod points;
+#[cfg(test)]
 mod registered;
 #[cfg(test)]
 mod replies;
@@ -38,3 +41,5 @@ mod services;
 mod sources;
 #[cfg(test)]
 mod states;
+#[cfg(test)]
+mod ticks;
