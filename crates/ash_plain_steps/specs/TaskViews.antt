@@ -48,10 +48,10 @@ abbrev pub GivesTask : {Code Fault : Type 0} → (Code → Fault) → (Fault →
 GivesTask fault takes ms (Ok t) wanted = option_map (λ one. Ok one) (task_seen ms t) ≡ Some wanted
 GivesTask fault takes ms (Err r) wanted = RefusesAs fault takes r wanted
 
--- the same of what the code finds on the way to a task
-abbrev pub Gives : {X Code Fault : Type 0} → (Code → Fault) → (Fault → Type 0) → (X → Task) → Result X (refusal.Refusal Code) → TaskResult Fault → Type 0
-Gives fault takes view (Ok x) wanted = wanted ≡ Ok (view x)
-Gives fault takes view (Err r) wanted = RefusesAs fault takes r wanted
+-- The code finds what a task is made of, or refuses.
+abbrev pub FindsFor : {X Code Fault : Type 0} → (Code → Fault) → (Fault → Type 0) → (X → Task) → Result X (refusal.Refusal Code) → TaskResult Fault → Type 0
+FindsFor fault takes view (Ok x) wanted = wanted ≡ Ok (view x)
+FindsFor fault takes view (Err r) wanted = RefusesAs fault takes r wanted
 
 -- the module of a name
 abbrev pub module_named : List ℕ → List LoadedModule → Option LoadedModule
