@@ -84,12 +84,7 @@ MayAdd _ = ⊥
 -- enough each request that may add one more.
 abbrev pub WantsInstall : {D : Type 0} → Request → Hosted D → Type 0
 WantsInstall Snapshot host = Unit {0}
-WantsInstall (Load module_name source) host = IsFull host
-WantsInstall (Call module_name function arguments) host = IsFull host
-WantsInstall (Discard module_name) host = IsFull host
-WantsInstall (Get module_name name) host = ⊥
-WantsInstall (Object number) host = ⊥
-WantsInstall Seq host = ⊥
+WantsInstall request host = MayAdd request × IsFull host
 
 -- The state of a host became a new generation without records, and nothing else of the host has changed.
 pub record WasInstalled {D : Type 0} (device : Device D) (state : HostState) (old new : Hosted D) : Type 0 where

@@ -13,7 +13,7 @@ use Rattle.ash_sources.specs.SourceFaults.{SourceFault}
 use Rattle.ash_states.specs.States.{HostState, empty}
 use Rattle.ash_states.specs.Steps.{Steps}
 use Rattle.ash_durable.specs.Hosting.{Hosted, first, second, IsRunning, IsSaved, IsAnswer, Handles}
-use Rattle.ash_durable.specs.Running.{IsFailure}
+use Rattle.ash_durable.specs.Running.{LosesAnswer}
 use Rattle.ash_durable.specs.States.{AreHonest, SettleNow, IsOne, IsEither}
 use Rattle.ash_durable.specs.Store.{WereOnlyRead, WasCreated, WasNotMade, WasOpened, WasRefused, Creates, Opens}
 use Rattle.ash_durable.specs.Store.{first_found, second_found}
@@ -260,7 +260,7 @@ pub record Outlives {D : Type 0} (device : Device D) (registered : List Registra
 -- which a device failed, is in doubt; another reply is no event.
 abbrev pub Records : ℕ → Request → Reply SourceFault → List Event → Type 0
 Records budget request (Answered end seq happened) events = events ≡ Acknowledged budget request end seq happened ∷ []
-Records budget request reply events = (events ≡ []) ⊎ (IsFailure reply × (events ≡ InDoubt budget request ∷ []))
+Records budget request reply events = (events ≡ []) ⊎ (LosesAnswer reply × (events ≡ InDoubt budget request ∷ []))
 
 -- the events of requests by their replies, the newest first
 abbrev pub RecordAll : ℕ → List Request → List (Reply SourceFault) → List Event → Type 0

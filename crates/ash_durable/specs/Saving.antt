@@ -16,15 +16,15 @@ use Rattle.ash_durable.specs.States.{HoldsState, GoesOn, BeginsAnew}
 abbrev pub HostRefusal : Type 0
 HostRefusal = Refusal CodeFault
 
--- why a state is not stored: a device failed
-abbrev pub IsFailure : HostRefusal → Type 0
-IsFailure the.DeviceFailed = Unit {0}
-IsFailure _ = ⊥
+-- a state is not stored because a device failed
+abbrev pub IsDeviceRefusal : HostRefusal → Type 0
+IsDeviceRefusal the.DeviceFailed = Unit {0}
+IsDeviceRefusal _ = ⊥
 
--- a call failed for a device
-abbrev pub HasFailedBy : {T : Type 0} → Result T HostRefusal → Type 0
-HasFailedBy (Ok done) = ⊥
-HasFailedBy (Err refusal) = IsFailure refusal
+-- a call fails because a device did
+abbrev pub FailsBy : {T : Type 0} → Result T HostRefusal → Type 0
+FailsBy (Ok done) = ⊥
+FailsBy (Err refusal) = IsDeviceRefusal refusal
 
 -- one record more, with the body of this state in version 2, in the same generation
 pub record HasOneMore {D : Type 0} (state : HostState) (old new : Journal D) : Type 0 where
@@ -50,7 +50,7 @@ pub record Adds {D : Type 0} (device : Device D) (state : HostState) (old : Jour
       → HoldsState device state new)
   pub moments : (before : HostState) → before.registered ≡ state.registered → HoldsState device before old
       → GoesOn device before state old new
-  pub failures : CountsFailures (HasFailedBy result) (device.failures (first_disk old))
+  pub failures : CountsFailures (FailsBy result) (device.failures (first_disk old))
       (device.failures (second_disk old)) (device.failures (first_disk new)) (device.failures (second_disk new))
   pub honesty_first : device.honest (first_disk new) ≡ device.honest (first_disk old)
   pub honesty_second : device.honest (second_disk new) ≡ device.honest (second_disk old)
@@ -74,7 +74,7 @@ pub record Installs {D : Type 0} (device : Device D) (state : HostState) (old : 
   pub outcome : InstallsWith old result new
   pub holds : OnOk result (HoldsState device state old → HoldsState device state new)
   pub moments : HoldsState device state old → BeginsAnew device state state old new
-  pub failures : CountsFailures (HasFailedBy result) (device.failures (first_disk old))
+  pub failures : CountsFailures (FailsBy result) (device.failures (first_disk old))
       (device.failures (second_disk old)) (device.failures (first_disk new)) (device.failures (second_disk new))
   pub honesty_first : device.honest (first_disk new) ≡ device.honest (first_disk old)
   pub honesty_second : device.honest (second_disk new) ≡ device.honest (second_disk old)

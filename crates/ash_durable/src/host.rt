@@ -150,20 +150,19 @@ impl<D: Disk> Host<D> {
     {
         match install_state(&self.state, &mut self.journal) {
             Ok(()) => Ok(()),
-            Err(refusal) => match refusal {
-                Refusal::DeviceFailed => {
-                    self.stopped = Some(self.state.seq());
-                    Err(Refusal::DeviceFailed)
-                }
-                refusal => Err(refusal),
-            },
+            Err(Refusal::DeviceFailed) => {
+                self.stopped = Some(self.state.seq());
+                Err(Refusal::DeviceFailed)
+            }
+            Err(refusal) => Err(refusal),
         }
     }
 
     /// The records of the current generation are so long that no more is added.
     fn is_full(&self) -> bool
         ensures full { IsTrue result ↔ IsFull self.now }
-        ensures runs { (state : HostState) → self.now.state ≡ Some state → IsRunning state self.now }
+        ensures runs { (state : HostState) → self.now.state ≡ Some state
+            → IsRunning state self.now }
     {
         self.journal.record_bytes() >= FULL_RECORD_BYTES
     }
@@ -171,17 +170,14 @@ impl<D: Disk> Host<D> {
     /// The state is installed as a new generation before a request.
     fn wants_install(&self, request: &Request<'_>) -> bool
         ensures wanted { IsTrue result ↔ WantsInstall (request_seen request.now) self.now }
-        ensures runs { (state : HostState) → self.now.state ≡ Some state → IsRunning state self.now }
+        ensures runs { (state : HostState) → self.now.state ≡ Some state
+            → IsRunning state self.now }
     {
         let is_full = self.is_full();
         match *request {
-            Request::Load { .. } => is_full,
-            Request::Call { .. } => is_full,
-            Request::Discard { .. } => is_full,
             Request::Snapshot => true,
-            Request::Get { .. } => false,
-            Request::Object { .. } => false,
-            Request::Seq => false,
+            Request::Load { .. } | Request::Call { .. } | Request::Discard { .. } => is_full,
+            Request::Get { .. } | Request::Object { .. } | Request::Seq => false,
         }
     }
 
