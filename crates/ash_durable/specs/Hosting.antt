@@ -152,8 +152,8 @@ pub record WasOutOfMemory {D : Type 0} (device : Device D) (request : Request) (
   pub running : IsRunning state new
   pub settles : Settles device state state old new
 
--- A request that is not refused and changes the state had an answer, and it could not be stored: the files settle on the
--- state before it or after it until the host is reopened.
+-- A request that is not refused and changes the state had an answer, and it could not be stored: the files settle on
+-- the state before it or after it until the host is reopened.
 pub record WasNotCommitted {D : Type 0} (device : Device D) (budget : ℕ) (request : Request) (state : HostState)
     (old : Hosted D) (reply : Reply SourceFault) (new : Hosted D) : Type 0 where
   pub between : Hosted D
@@ -166,8 +166,8 @@ pub record WasNotCommitted {D : Type 0} (device : Device D) (budget : ℕ) (requ
   pub stopped : HasStopped old new
   pub settles : Settles device state after old new
 
--- Memory was refused while a request changed the state, or its run called a host object, for which there is no step: the
--- state is lost. The host has to be reopened, and is then in the state before the request, on which alone the files
+-- Memory was refused while a request changed the state, or its run called a host object, for which there is no step:
+-- the state is lost. The host has to be reopened, and is then in the state before the request, on which alone the files
 -- settle.
 pub record LostItsState {D : Type 0} (device : Device D) (request : Request) (state : HostState) (old : Hosted D)
     (reply : Reply SourceFault) (new : Hosted D) : Type 0 where

@@ -10,6 +10,7 @@ use Rattle.ash_plain_steps.specs.declared.request.Refusal.TheVariants as the
 use Rattle.ash_state_image.specs.declared.version.Version.TheVariants.{Two}
 use Rattle.ash_states.specs.States.{HostState}
 use Rattle.ash_states.specs.Images.{IsBodyIn}
+use Rattle.ash_durable.specs.Contents.{record_header_size}
 use Rattle.ash_durable.specs.States.{HoldsState, GoesOn, BeginsAnew}
 
 -- Why the code refuses a request.
@@ -31,7 +32,7 @@ pub record HasOneMore {D : Type 0} (state : HostState) (old new : Journal D) : T
   pub same : generation new ≡ generation old
   pub body : List ℕ
   pub is_body : IsBodyIn Two body state
-  pub longer : record_bytes new ≡ record_bytes old + 5 + length body
+  pub longer : record_bytes new ≡ record_bytes old + record_header_size + length body
 
 -- What becomes of a journal that a state was to be added to as one record: that it has it, and one record more; that
 -- memory was refused and nothing changed; or that a device failed, and the journal is to be opened again.

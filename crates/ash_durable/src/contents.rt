@@ -8,8 +8,8 @@ ghost use Rattle.ash_registry.specs.Text.{text_of};
 ghost use Rattle.ash_state_image.specs.Rules.{IsShaped};
 ghost use Rattle.ash_state_image.specs.Views.{snapshot_of};
 ghost use Rattle.ash_state_image.specs.declared.version.Version.{Version};
-ghost use Rattle.ash_durable.specs.Contents.{after_image, IsBodyWith, ReadsAs};
-ghost use Rattle.ash_durable.specs.Contents.{ReadsImage, ChecksShapes, Restores, LeadsOn, LeadsThrough};
+ghost use Rattle.ash_durable.specs.Contents.{after_image, IsBodyWith, ReadsAs, ReadsImage};
+ghost use Rattle.ash_durable.specs.Contents.{ChecksShapes, Restores, LeadsOn, LeadsThrough};
 
 use crate::fault::StoreFault;
 use ash_journal::Record;

@@ -6,8 +6,9 @@ ghost use Rattle.ash_steps.specs.Requests.{Call, Discard, Get, Load, Number, Obj
 ghost use Rattle.ash_plain_steps.specs.RequestViews.{request_seen, reply_seen};
 ghost use Rattle.ash_sources.specs.SourceFaults.{fault_of};
 ghost use Rattle.ash_states.specs.States.{HostState};
-ghost use Rattle.ash_durable.specs.Hosting.{first, second, Handles, HandlesAll, IsAnswer, IsFull, IsInstalled};
-ghost use Rattle.ash_durable.specs.Hosting.{IsRunning, RefusesFirst, WantsInstall, reply_stopped};
+ghost use Rattle.ash_durable.specs.Hosting.{first, second, Handles, HandlesAll, IsAnswer, IsFull};
+ghost use Rattle.ash_durable.specs.Hosting.{IsInstalled, IsRunning, RefusesFirst, WantsInstall};
+ghost use Rattle.ash_durable.specs.Hosting.{reply_stopped};
 ghost use Rattle.ash_durable.specs.Lives.{LivesOn};
 ghost use Rattle.ash_durable.specs.Replies.{done_of, reply_of};
 ghost use Rattle.ash_durable.specs.Requests.{Commits, MakesRoom, TriesInstall};
@@ -282,8 +283,8 @@ impl<D: Disk> Host<D> {
         arguments: &[Argument],
         budget: u64,
     ) -> HostReply
-        ensures handled { Handles D.Disk budget (Call module.now function.now arguments.now) self.old
-            (reply_seen fault_of result) self.new }
+        ensures handled { Handles D.Disk budget (Call module.now function.now arguments.now)
+            self.old (reply_seen fault_of result) self.new }
         ensures refused { RefusesFirst (Call module.now function.now arguments.now) self.old
             (reply_seen fault_of result) self.new }
     {

@@ -2,7 +2,8 @@
 
 ghost use Rattle.std.specs.Prelude.{◌≡◌};
 ghost use Rattle.ash_journal.specs.Journal.{first_disk, second_disk, HasFailed};
-ghost use Rattle.ash_durable.specs.Store.{Finds, LooksFor, Makes, Moves, Prepares, Repairs, Settled};
+ghost use Rattle.ash_durable.specs.Store.{Finds, LooksFor, Makes, Moves, Prepares, Repairs};
+ghost use Rattle.ash_durable.specs.Store.{Settled};
 ghost use Rattle.ash_registry.specs.Registered.{registered};
 
 use crate::contents::state_in;

@@ -3,7 +3,8 @@
 ghost use Rattle.std.specs.Prelude.{◌≡◌, ◌^◌, IfOk, None, false};
 ghost use Rattle.std.specs.Io.Buffered.{reader_remaining};
 ghost use Rattle.std.specs.Io.KnownBytes.{Keeps};
-ghost use Rattle.ash_lines.specs.Reader.{reader_feed, reader_is_feed, left_of, allowance_of, ReadsByte};
+ghost use Rattle.ash_lines.specs.Reader.{reader_feed, reader_is_feed, left_of, allowance_of};
+ghost use Rattle.ash_lines.specs.Reader.{ReadsByte};
 
 use crate::source::{ReadFault, Source};
 use std::alloc::{AllocError, Global};

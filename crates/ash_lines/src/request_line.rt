@@ -4,9 +4,10 @@ ghost use Rattle.std.specs.Prelude.{◌≡◌, ◌≤◌, ◌∷◌, [], List, t
 ghost use Rattle.std.specs.Prelude.{vec_capacity, if◌then◌else◌};
 ghost use Rattle.std.specs.List.{list_all};
 ghost use Rattle.ash_steps.specs.declared.argument.Argument.{Argument};
-ghost use Rattle.ash_lines.specs.Lines.{Line, Complete, is_word, arguments_of, parse_line, parse_verb};
-ghost use Rattle.ash_lines.specs.Lines.{max_line_bytes, max_arguments, parse_load, parse_call, parse_discard};
-ghost use Rattle.ash_lines.specs.Lines.{parse_get, parse_object, parse_lone};
+ghost use Rattle.ash_lines.specs.Lines.{Line, Complete, is_word, arguments_of, max_line_bytes};
+ghost use Rattle.ash_lines.specs.Lines.{max_arguments, parse_line, parse_verb, parse_load};
+ghost use Rattle.ash_lines.specs.Lines.{parse_call, parse_discard, parse_get, parse_object};
+ghost use Rattle.ash_lines.specs.Lines.{parse_lone};
 ghost use Rattle.ash_lines.specs.Words.{words_left};
 ghost use Rattle.ash_lines.specs.ParsedLines.{parsed_of, IsNotOneWord, IsNotTwoWords};
 

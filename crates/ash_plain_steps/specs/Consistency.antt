@@ -21,10 +21,12 @@ abbrev pub IsRead : {Fault : Type 0} → Embedding Fault → code_module.LoadedM
 IsRead embedding m = embedding.read m.source.items ≡ Ok (module_of m.tree)
 
 -- The modules ascend by their names, and the typed tree of each is what its source is read as.
-pub record AreConsistent {Fault : Type 0} (embedding : Embedding Fault) (ms : List code_module.LoadedModule) : Type 0 where
+pub record AreConsistent {Fault : Type 0} (embedding : Embedding Fault)
+    (ms : List code_module.LoadedModule) : Type 0 where
   pub ascending : Ascend (modules_seen ms)
   pub read : AllByRecursion (IsRead embedding) ms
 
 -- the modules with one more, at some place
-abbrev pub IsInserted : code_module.LoadedModule → List code_module.LoadedModule → List code_module.LoadedModule → Type 0
+abbrev pub IsInserted : code_module.LoadedModule → List code_module.LoadedModule → List code_module.LoadedModule
+    → Type 0
 IsInserted loaded old new = (place : ℕ) × (new ≡ insert old place loaded)

@@ -4,7 +4,8 @@ use Rattle.std.specs.declared.string.String.{String}
 use Rattle.std.specs.declared.alloc.Global.{Global as Memory}
 use Rattle.ash_host.specs.declared.word.Word.{Word}
 use Rattle.ash_evaluator.specs.EndViews.{end_seen}
-use Rattle.ash_steps.specs.Requests.{Request, Load, Call, Discard, Get, Object, Seq, Snapshot, ObjectContents, Fields, HostState, Elements, Shown}
+use Rattle.ash_steps.specs.Requests.{Request, Load, Call, Discard, Get, Object, Seq, Snapshot}
+use Rattle.ash_steps.specs.Requests.{ObjectContents, Fields, HostState, Elements, Shown}
 use Rattle.ash_steps.specs.Requests as steps
 use Rattle.ash_steps.specs.Requests.{Refusal, Reply, Answered, Value, ShownAs, Number, Done, Refused}
 use Rattle.ash_steps.specs.Steps.{Step}
@@ -43,7 +44,12 @@ abbrev pub named_seen : String Memory × contents.ObjectContents → List ℕ ×
 named_seen d = (string_bytes d.0, contents_seen d.1)
 
 abbrev pub shown_seen : shown.Shown → Shown
-shown_seen s = record { number = s.number; type_name = string_bytes s.type_name; count = s.count; contents = contents_seen s.contents }
+shown_seen s = record {
+  number = s.number;
+  type_name = string_bytes s.type_name;
+  count = s.count;
+  contents = contents_seen s.contents;
+}
 
 module _ {Code Fault : Type 0} (fault : Code → Fault) where
   abbrev pub refusal_seen : refusal.Refusal Code → Refusal Fault

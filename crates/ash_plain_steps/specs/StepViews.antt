@@ -45,11 +45,12 @@ abbrev pub LosesMemory : {X : Type 0} → Result X StepError → Type 0 → Type
 LosesMemory (Err errors.NoMemory) may = may
 LosesMemory _ may = Unit {0}
 
-module _ {Code Fault : Type 0} (fault : Code → Fault) (takes : Fault → Type 0) (embedding : Embedding Fault) (budget : ℕ) (request : Request) (state : State) (hosts : Hosts) where
-  -- What the code gives for a request: the step of the definitions; or a refusal since memory was refused, which changes
-  -- nothing and replaces no cause that is found without memory; or that the definitions have no step. Where memory was
-  -- refused while the state changed, there is neither step nor state: that can come only of a request that is not
-  -- refused and whose task changes the state.
+module _ {Code Fault : Type 0} (fault : Code → Fault) (takes : Fault → Type 0) (embedding : Embedding Fault)
+    (budget : ℕ) (request : Request) (state : State) (hosts : Hosts) where
+  -- What the code gives for a request: the step of the definitions; or a refusal since memory was refused, which
+  -- changes nothing and replaces no cause that is found without memory; or that the definitions have no step. Where
+  -- memory was refused while the state changed, there is neither step nor state: that can come only of a request that
+  -- is not refused and whose task changes the state.
   abbrev pub IsStep : Result (code_step.Step Code) StepError → Type 0
   IsStep (Ok one) = (step embedding budget request state hosts ≡ Some (step_seen fault one))
       ⊎ (TakesMemory request × TakesMemoryToFind takes (task_of embedding request state)
@@ -57,8 +58,10 @@ module _ {Code Fault : Type 0} (fault : Code → Fault) (takes : Fault → Type 
   IsStep (Err errors.NoStep) = step embedding budget request state hosts ≡ None
   IsStep (Err errors.NoMemory) = IsChange (task_of embedding request state)
 
--- A module that can be loaded: a sequence number is left, its tree is what its source is read as, and none has its name.
-pub record IsLoadable {Fault : Type 0} (embedding : Embedding Fault) (state : PlainState) (new : NewModule) : Type 0 where
+-- A module that can be loaded: a sequence number is left, its tree is what its source is read as, and none has its
+-- name.
+pub record IsLoadable {Fault : Type 0} (embedding : Embedding Fault) (state : PlainState)
+    (new : NewModule) : Type 0 where
   pub numbered : state.seq < max_seq
   pub read : embedding.read new.source.now ≡ Ok (module_of new.tree)
   pub absent : find_module new.name.now (state_seen state) ≡ None
@@ -76,6 +79,8 @@ IsPerformable embedding state (tasks.Remove place) = IsThere state place
 IsPerformable embedding state _ = Unit {0}
 
 -- What is left of a call of the module at a place, which had lent its globals: they are what the run left in them.
-pub record IsAfterCall {Code Fault : Type 0} (fault : Code → Fault) (ms : List LoadedModule) (place : ℕ) (m : LoadedModule) (outcome : code_outcome.Outcome) (old : State) (new : code_step.Step Code) : Type 0 where
+pub record IsAfterCall {Code Fault : Type 0} (fault : Code → Fault) (ms : List LoadedModule) (place : ℕ)
+    (m : LoadedModule) (outcome : code_outcome.Outcome) (old : State) (new : code_step.Step Code) : Type 0 where
   pub globals : new.state.modules.items ≡ set ms place (record m { globals = outcome.world.globals })
-  pub stepped : step_seen fault new ≡ answered (end_seen outcome.end) (modules_seen new.state.modules.items) (world_seen outcome.world) old
+  pub stepped : step_seen fault new
+      ≡ answered (end_seen outcome.end) (modules_seen new.state.modules.items) (world_seen outcome.world) old

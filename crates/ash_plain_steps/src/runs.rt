@@ -7,8 +7,10 @@ ghost use Rattle.ash_plain.specs.Views.{world_seen};
 ghost use Rattle.ash_evaluator.specs.EndViews.{end_seen, outcome_seen, EndsAs};
 ghost use Rattle.ash_steps.specs.States.{State, Embedding, world_of};
 ghost use Rattle.ash_steps.specs.Tasks.{max_seq, Initialize, Invoke, Remove};
-ghost use Rattle.ash_steps.specs.Steps.{answered, after_load_with, after_load, without_globals, perform};
-ghost use Rattle.ash_plain_steps.specs.StateViews.{loaded_seen, modules_seen, state_seen, hosts_seen};
+ghost use Rattle.ash_steps.specs.Steps.{answered, after_load_with, after_load, without_globals};
+ghost use Rattle.ash_steps.specs.Steps.{perform};
+ghost use Rattle.ash_plain_steps.specs.StateViews.{loaded_seen, modules_seen, state_seen};
+ghost use Rattle.ash_plain_steps.specs.StateViews.{hosts_seen};
 ghost use Rattle.ash_plain_steps.specs.RequestViews.{step_seen};
 ghost use Rattle.ash_plain_steps.specs.Consistency.{Ascend, AreConsistent, IsRead};
 ghost use Rattle.ash_plain_steps.specs.StepViews.{ComesTo, IsLoadable, IsThere, IsAfterCall};
@@ -131,7 +133,8 @@ fn keep<S: Sources>(
     ensures stepped { (old : State) → old.seq ≡ rest.seq
         → old.modules ≡ modules_seen rest.modules.items
         → IfOk result (λ s. step_seen S.fault_seen s
-        ≡ after_load_with new.entry.name.now new.entry.source.now old (Finished value) (world_seen world)) }
+        ≡ after_load_with new.entry.name.now new.entry.source.now old (Finished value)
+        (world_seen world)) }
     ensures consistent { (embedding : Embedding S.FaultSeen) (old : PlainState)
         → old.modules ≡ rest.modules → AreConsistent embedding old.modules.items
         → IsLoadable embedding old new.entry
@@ -210,8 +213,8 @@ pub(crate) fn initialize<S: Sources>(
 ) -> Result<Step<S::Fault>, StepError>
     requires numbered { state.seq < max_seq }
     ensures stepped { ComesTo (step_seen S.fault_seen) result (perform budget
-        (Initialize new.entry.name.now new.entry.source.now (module_of new.entry.tree)) (state_seen state)
-        (hosts_seen hosts)) }
+        (Initialize new.entry.name.now new.entry.source.now (module_of new.entry.tree))
+        (state_seen state) (hosts_seen hosts)) }
     ensures consistent { (embedding : Embedding S.FaultSeen)
         → AreConsistent embedding state.modules.items → IsLoadable embedding state new.entry
         → IfOk result (λ s. AreConsistent embedding s.state.modules.items) }

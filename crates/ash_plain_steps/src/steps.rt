@@ -8,7 +8,8 @@ ghost use Rattle.ash_plain_steps.specs.StateViews.{modules_seen, state_seen, hos
 ghost use Rattle.ash_plain_steps.specs.RequestViews.{request_seen, step_seen};
 ghost use Rattle.ash_plain_steps.specs.Consistency.{AreConsistent};
 ghost use Rattle.ash_plain_steps.specs.TaskViews.{task_seen};
-ghost use Rattle.ash_plain_steps.specs.StepViews.{ComesTo, IsPerformable, ChangesState, LosesMemory, IsStep};
+ghost use Rattle.ash_plain_steps.specs.StepViews.{ComesTo, IsPerformable, ChangesState};
+ghost use Rattle.ash_plain_steps.specs.StepViews.{LosesMemory, IsStep};
 
 use crate::refusals::task_of;
 use crate::request::{Reply, Request, Step, StepError};
@@ -78,7 +79,8 @@ pub fn plain_step<S: Sources>(
     ensures stepped { IsStep S.fault_seen S.TakesMemory (S.embedding sources.now) budget
         (request_seen request.now) (state_seen state) (hosts_seen hosts) result }
     ensures defined { IfOk result (λ s. Steps (S.embedding sources.now) budget
-        (request_seen request.now) (state_seen state) (hosts_seen hosts) (step_seen S.fault_seen s)) }
+        (request_seen request.now) (state_seen state) (hosts_seen hosts)
+        (step_seen S.fault_seen s)) }
     ensures consistent { IfOk result (λ s.
         AreConsistent (S.embedding sources.now) s.state.modules.items) }
 {
