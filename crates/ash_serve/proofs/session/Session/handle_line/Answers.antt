@@ -14,8 +14,8 @@ returns-in-Request-clause-handled g c start w =
 
 pub returns-in-Call-clause-handled : goal.returns-in-Call-clause-handled
 returns-in-Call-clause-handled g c start w =
-    let module_name = c.in-Call.module.now in
-    let function = c.in-Call.function.now in
+    let module_name = c.in-Call.header.module.now in
+    let function = c.in-Call.header.function.now in
     line_replied g.S.Source.feed g.H.RequestHandler.handles c.args.self.now.budget start c.args.input.now c.args.host.now c.handle-in-Call.new.self c.args.self.now.line.items
     (HostRequest (Call module_name function c.as_slice.result.now)) (code_replies.Host c.handle-in-Call.result)
     w c.requires.short
