@@ -380,10 +380,7 @@ impl<D: Disk> Host<D> {
 fn is_answer(reply: &HostReply) -> bool
     ensures { IsTrue result ↔ IsAnswer (reply_seen fault_of reply.now) }
 {
-    match reply {
-        Reply::Answered(_) => true,
-        _ => false,
-    }
+    matches!(reply, Reply::Answered(_))
 }
 
 /// The reply of a host that must be reopened. `seq` is the number of the last answer.

@@ -137,10 +137,7 @@ fn has_drop(events: &[Event]) -> bool
 fn is_drop(event: Event) -> bool
     ensures drop { result ≡ is_drop event }
 {
-    match event {
-        Event::Dropped(_) => true,
-        _ => false,
-    }
+    matches!(event, Event::Dropped(_))
 }
 
 /// Writes the numbers of the host objects that were dropped, with a blank before each.
