@@ -8,6 +8,7 @@ use Rattle.ash_journal.specs.Journal.{first_disk, second_disk, generation, recor
 use Rattle.ash_journal.specs.Runs.{HoldsSince, Extends}
 use Rattle.ash_states.specs.States.{HostState}
 use Rattle.ash_plain_steps.specs.declared.request.Refusal.TheVariants as the
+use Rattle.ash_durable.specs.Contents.{record_header_size}
 use Rattle.ash_durable.specs.Saving.{Adds, Installs, last_generation}
 use Rattle.ash_state_image.specs.declared.version.Version.TheVariants.{Two}
 use Rattle.ash_states.specs.Images.{IsImageIn, IsBodyIn}
@@ -38,7 +39,7 @@ module _ {D : Type 0} (device : Device D) (state : HostState) (old new : Journal
       (IsContents (image, bodies ++ body ∷ [])))
       → ((image : List ℕ) (bodies : List (List ℕ)) → Holds device old image bodies
       → Holds device new image (bodies ++ body ∷ [])) → IsReady new → generation new ≡ generation old
-      → record_bytes new ≡ record_bytes old + 5 + length body → Disks ⊥ → Adds device state old (Ok tt) new
+      → record_bytes new ≡ record_bytes old + record_header_size + length body → Disks ⊥ → Adds device state old (Ok tt) new
   adds body is_body extends acknowledged ready number longer disks = record {
     outcome = (ready, record { same = number; body = body; is_body = is_body; longer = longer });
     holds = λ before same holds. record {

@@ -6,7 +6,7 @@ use Rattle.ash_journal.specs.Failures.{CountsFailures}
 use Rattle.ash_steps.specs.Requests.{Request}
 use Rattle.ash_states.specs.States.{HostState}
 use Rattle.ash_durable.specs.States.{IsOne, IsEither, SettleSince, HoldsState, GoesOn}
-use Rattle.ash_durable.specs.Saving.{HasFailedBy}
+use Rattle.ash_durable.specs.Saving.{FailsBy}
 use Rattle.ash_durable.specs.Hosting.{Hosted, first, second, IsRunning, IsHonest, IsSaved, Settles, WantsInstall}
 use Rattle.ash_durable.specs.Hosting.{HasRoom}
 use Rattle.ash_durable.specs.Requests.{PreservesDisks, TriesInstall}
@@ -68,7 +68,7 @@ counts_then F G a b c d e f not one other =
 pub untouched_disks : {D : Type 0} (device : Device D) (host : Hosted D)
     → PreservesDisks {T = Unit {0}} device host (Ok tt) host
 untouched_disks device host = record {
-  failures = counts_none (HasFailedBy {T = Unit {0}} (Ok tt)) (device.failures (first host))
+  failures = counts_none (FailsBy {T = Unit {0}} (Ok tt)) (device.failures (first host))
       (device.failures (second host)) (λ failed. failed);
   honesty_first = refl;
   honesty_second = refl;

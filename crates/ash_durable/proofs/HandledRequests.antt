@@ -12,7 +12,7 @@ use Rattle.ash_sources.specs.SourceFaults.{SourceFault}
 use Rattle.ash_states.specs.States.{HostState}
 use Rattle.ash_states.specs.Steps.{Steps, task_of}
 use Rattle.ash_durable.specs.States.{HoldsState}
-use Rattle.ash_durable.specs.Saving.{HostRefusal, IsFailure}
+use Rattle.ash_durable.specs.Saving.{HostRefusal, IsDeviceRefusal}
 use Rattle.ash_durable.specs.Hosting.{Hosted, first, second, state_unless, IsRunning, IsSaved, IsHonest, Settles}
 use Rattle.ash_durable.specs.Hosting.{IsAnswer, IsDeviceFailed, Replies, Handles, reply_stopped}
 use Rattle.ash_durable.specs.Replies.{refused_by}
@@ -38,17 +38,17 @@ running_seen state journal = record { registered_is = refl; state_is = refl; seq
 
 -- a refusal of a call is that a device failed where the reply is
 
-failed_reply : (refusal : HostRefusal) → IsFailure refusal → IsDeviceFailed (refused_by refusal)
+failed_reply : (refusal : HostRefusal) → IsDeviceRefusal refusal → IsDeviceFailed (refused_by refusal)
 failed_reply the.DeviceFailed failed = tt
 failed_reply _ failed = absurd failed
 
-failed_call : (refusal : HostRefusal) → IsDeviceFailed (refused_by refusal) → IsFailure refusal
+failed_call : (refusal : HostRefusal) → IsDeviceFailed (refused_by refusal) → IsDeviceRefusal refusal
 failed_call the.DeviceFailed failed = tt
 failed_call _ failed = absurd failed
 
-pub counts_replied : (refusal : HostRefusal) (a b c d : ℕ) → CountsFailures (IsFailure refusal) a b c d
+pub counts_replied : (refusal : HostRefusal) (a b c d : ℕ) → CountsFailures (IsDeviceRefusal refusal) a b c d
     → CountsFailures (IsDeviceFailed (refused_by refusal)) a b c d
-counts_replied refusal a b c d counts = counts_as (IsFailure refusal) (IsDeviceFailed (refused_by refusal))
+counts_replied refusal a b c d counts = counts_as (IsDeviceRefusal refusal) (IsDeviceFailed (refused_by refusal))
     a b c d (failed_reply refusal) (failed_call refusal) counts
 
 -- ---- a host that must be reopened

@@ -194,7 +194,7 @@ pub handles_seq : {D : Type 0} (device : Device D) (budget : ℕ) (stopped : Opt
 handles_seq device budget None state journal =
     handles_as_it_is device budget Seq state (seen_host None state journal) (seen_host None state journal)
     (Number state.state.seq)
-    (room_as_it_is device Seq state (seen_host None state journal) (λ wants. wants) (running_seen state journal))
+    (room_as_it_is device Seq state (seen_host None state journal) (λ wants. wants.0) (running_seen state journal))
     (λ given. given) (inl refl)
 handles_seq device budget (Some seq) state journal =
     handles_stopped device budget Seq (seen_host (Some seq) state journal) (Number seq) refl refl

@@ -7,14 +7,14 @@ use Rattle.ash_sources.specs.SourceFaults.{SourceFault}
 use Rattle.ash_states.specs.States.{HostState}
 use Rattle.ash_registry.specs.Registrations.{Registration}
 use Rattle.ash_durable.specs.Hosting.{Hosted, IsAnswer, Handles, HandlesAll}
-use Rattle.ash_durable.specs.Running.{IsFailure}
+use Rattle.ash_durable.specs.Running.{LosesAnswer}
 use Rattle.ash_durable.specs.Lives.{Event, Acknowledged, InDoubt, UnderHost, Life, Replied, Unanswered, Failed, Records}
 use Rattle.ash_durable.specs.Lives.{LivesOn}
 use Rattle.ash_durable.proofs.RequestOutcomes.{handled_or_stopped}
 
 -- the events of a request that is not answered
 abbrev MayRecord : ℕ → Request → Reply SourceFault → List Event → Type 0
-MayRecord budget request reply events = (events ≡ []) ⊎ (IsFailure reply × (events ≡ InDoubt budget request ∷ []))
+MayRecord budget request reply events = (events ≡ []) ⊎ (LosesAnswer reply × (events ≡ InDoubt budget request ∷ []))
 
 records_other : (budget : ℕ) (request : Request) (reply : Reply SourceFault) (events : List Event)
     → (IsAnswer reply → ⊥)
@@ -26,7 +26,7 @@ records_other budget request _ events not may = may
 stops_by : {D : Type 0} (device : Device D) (budget : ℕ) (request : Request) (old : Hosted D)
     (reply : Reply SourceFault)
     (new : Hosted D) (state : HostState) → old.state ≡ Some state → new.state ≡ None
-    → Handles device budget request old reply new → IsFailure reply
+    → Handles device budget request old reply new → LosesAnswer reply
 stops_by device budget request old reply new state ran none handled =
     elim (handled_or_stopped device budget request old reply new handled) [
       | inl stopped ↦ let h : None ≡ Some state = sym stopped.0 ∙ ran in absurd (cc)

@@ -55,7 +55,7 @@ two_one contents other same two one =
     let is : Two ≡ One = version_once contents.0 Two One two.image.0 here.image.0 two.image.1 here.image.1 in
     absurd (cc)
 
--- files that are in version 2 are not refused for want of a generation
+-- files that are in version 2 are not refused because no generation is left
 pub never_spent : (registered : List Registration) (contents : Contents) (x y : List ℕ) → Represent contents x y
     → AreIn Two contents → IsSpent registered x y → ⊥
 never_spent registered contents x y is two spent =

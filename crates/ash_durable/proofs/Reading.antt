@@ -19,6 +19,7 @@ use Rattle.ash_states.specs.Images.{IsDepicted, IsImageOf, IsRestored, state_of}
 use Rattle.ash_durable.specs.States.{IsBodyAs, AreIn, Leads, LeadAll, IsStateOf}
 use Rattle.ash_durable.specs.Contents.{IsImageWith, IsBodyWith, AreShaped, IsAdmittedImage, IsAdmittedBody}
 use Rattle.ash_durable.specs.Contents.{IsNoImage, FirstWithout, after_image, IsMisshapen, IsNotAdmitted, ReadsAs}
+use Rattle.ash_durable.specs.Contents.{record_header_size}
 use Rattle.ash_durable.specs.Contents.{ReportsDamage, FirstRecordWithout, Restores, LeadsOn, LeadsThrough}
 use Rattle.ash_durable.proofs.ContentsStates.{image_once, version_once, body_once, body_version_once, lead_all_registered}
 use Rattle.ash_durable.specs.declared.fault.StoreFault.{StoreFault}
@@ -50,7 +51,10 @@ pub first_at : (P : List ℕ → Type 0) (offset at : ℕ) (records : List Recor
 first_at P offset at [] placed first = first
 first_at P offset at (r ∷ records) placed first = elim first [
   | inl here ↦ inl (here.0, here.1 ∙ placed.0)
-  | inr later ↦ inr (later.0, first_at P (offset + 5 + length r.body.items) at records placed.1 later.1)
+  | inr later ↦ inr (
+    later.0,
+    first_at P (offset + record_header_size + length r.body.items) at records placed.1 later.1,
+  )
 ]
 
 -- ---- states that were stored
@@ -257,7 +261,7 @@ none_without : (P : List ℕ → Type 0) (offset at : ℕ) (bodies : List (List 
 none_without P offset at [] all without = without
 none_without P offset at (body ∷ bodies) all without = elim without [
   | inl here ↦ here.0 all.0
-  | inr later ↦ none_without P (offset + 5 + length body) at bodies all.1 later.1
+  | inr later ↦ none_without P (offset + record_header_size + length body) at bodies all.1 later.1
 ]
 
 -- a record that leads from a state has the text of what is registered in it

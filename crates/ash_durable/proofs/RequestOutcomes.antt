@@ -8,7 +8,7 @@ use Rattle.ash_states.specs.States.{HostState}
 use Rattle.ash_states.specs.Steps.{Steps}
 use Rattle.ash_durable.specs.Hosting.{Hosted, first, second, IsRunning, IsSaved, IsHonest, IsAnswer, InstallRefused}
 use Rattle.ash_durable.specs.Hosting.{WasLost, Replies, reply_stopped, Handles}
-use Rattle.ash_durable.specs.Running.{IsFailure}
+use Rattle.ash_durable.specs.Running.{LosesAnswer}
 use Rattle.ash_durable.specs.States.{SettleSince, IsEither}
 use Rattle.ash_durable.specs.Lives.{Event, Acknowledged, InDoubt, Found, Takes, LeadTo, LeadBy}
 use Rattle.ash_durable.proofs.Answering.{steps-registered}
@@ -55,7 +55,7 @@ abbrev pub Ending : {D : Type 0} → ℕ → Request → HostState → HostState
 Ending budget request state after old reply new =
     (IsRunning after new × Steps budget request state reply after)
     ⊎ (((IsAnswer reply → ⊥) × (new ≡ old))
-    ⊎ ((new.state ≡ None) × IsFailure reply))
+    ⊎ ((new.state ≡ None) × LosesAnswer reply))
 
 -- What a request of a host comes to that ran in a state: a state that it may lead to, on which or on the one before it
 -- the files settled at every moment.
@@ -70,7 +70,7 @@ pub record Outcome {D : Type 0} (device : Device D) (budget : ℕ) (request : Re
   pub ending : Ending budget request state after old reply new
 
 was_lost : {D : Type 0} (old : Journal D) (reply : Reply SourceFault) (new : Journal D) → WasLost old reply new
-    → IsFailure reply
+    → LosesAnswer reply
 was_lost old (Refused DeviceFailed) new lost = tt
 was_lost old (Refused NoMemory) new lost = tt
 was_lost old _ new lost = absurd lost
@@ -108,7 +108,7 @@ outcome_of device budget request state old reply new (inr (inr (inr (inl lost)))
   after = state;
   may = inl refl;
   moments = lost.settles;
-  ending = inr (inr (lost.stopped.stopped, subst IsFailure (sym lost.reply_is) tt));
+  ending = inr (inr (lost.stopped.stopped, subst LosesAnswer (sym lost.reply_is) tt));
 }
 outcome_of device budget request state old reply new (inr (inr (inr (inr none)))) = record {
   after = state;

@@ -190,16 +190,14 @@ empty_room device request state old (Err refusal) new into = tt
 -- a request that may add a record wants a new generation where the records are long enough
 pub full_wants : {D : Type 0} (request : Request) (host : Hosted D) → MayAdd request → IsFull host
     → WantsInstall request host
-full_wants (Load name source) host adds full = full
-full_wants (Call module_name function arguments) host adds full = full
-full_wants (Discard name) host adds full = full
-full_wants _ host adds full = absurd adds
+full_wants Snapshot host adds full = tt
+full_wants request host adds full = (adds, full)
 
 -- a host may want a new generation before a request, or not
-full_or_not : {D : Type 0} (host : Hosted D) → (IsFull host → ⊥) ⊎ IsFull host
+full_or_not : {D : Type 0} (host : Hosted D) → (Unit {0} × IsFull host → ⊥) ⊎ (Unit {0} × IsFull host)
 full_or_not host = elim (cases_lt (record_bytes host.journal) full_record_bytes) [
-  | inl small ↦ inl (λ full. omega (arith, small, full))
-  | inr full ↦ inr full
+  | inl small ↦ inl (λ wants. let full = wants.1 in omega (arith, small, full))
+  | inr full ↦ inr (tt, full)
 ]
 
 pub wants_or_not : {D : Type 0} (request : Request) (host : Hosted D) → (WantsInstall request host → ⊥)
@@ -207,9 +205,9 @@ pub wants_or_not : {D : Type 0} (request : Request) (host : Hosted D) → (Wants
 wants_or_not (Load name source) host = full_or_not host
 wants_or_not (Call module_name function arguments) host = full_or_not host
 wants_or_not (Discard name) host = full_or_not host
-wants_or_not (Get module_name name) host = inl (λ wants. wants)
-wants_or_not (Object number) host = inl (λ wants. wants)
-wants_or_not Seq host = inl (λ wants. wants)
+wants_or_not (Get module_name name) host = inl (λ wants. wants.0)
+wants_or_not (Object number) host = inl (λ wants. wants.0)
+wants_or_not Seq host = inl (λ wants. wants.0)
 wants_or_not Snapshot host = inr tt
 
 -- each state that a host has is the one that it runs in

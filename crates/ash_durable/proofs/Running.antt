@@ -4,26 +4,27 @@ use Rattle.ash_disk.specs.Device.{Device}
 use Rattle.ash_journal.specs.declared.journal.Journal.{Journal}
 use Rattle.ash_steps.specs.Requests.{Request, Get, Object, Seq, Refusal, Reply, Refused, DeviceFailed, NoMemory}
 use Rattle.ash_steps.specs.Requests.{GenerationSpent}
+use Rattle.ash_steps.specs.Steps.{WritesStore}
 use Rattle.ash_plain_steps.specs.StepViews.{IsChange}
 use Rattle.ash_sources.specs.SourceFaults.{SourceFault}
 use Rattle.ash_states.specs.States.{HostState}
 use Rattle.ash_states.specs.Steps.{task_of}
 use Rattle.ash_durable.specs.Hosting.{Hosted, IsRunning, WantsInstall, InstallRefused, WasLost, HasStopped}
 use Rattle.ash_durable.specs.Hosting.{Replies, HandlesAll, reply_stopped}
-use Rattle.ash_durable.specs.Running.{MayInstall, HostSteps, replies_until_reopened, IsFailure, RunsThrough}
+use Rattle.ash_durable.specs.Running.{HostSteps, replies_until_reopened, LosesAnswer, RunsThrough}
 use Rattle.ash_durable.specs.Running.{RunsUntilFailure, RunsToFailure}
 
-is_failure : {D : Type 0} (old : Journal D) (reply : Reply SourceFault) (new : Journal D) → WasLost old reply new
-    → IsFailure reply
-is_failure old (Refused DeviceFailed) new lost = tt
-is_failure old (Refused NoMemory) new lost = tt
-is_failure old _ new lost = absurd lost
+loses_answer : {D : Type 0} (old : Journal D) (reply : Reply SourceFault) (new : Journal D) → WasLost old reply new
+    → LosesAnswer reply
+loses_answer old (Refused DeviceFailed) new lost = tt
+loses_answer old (Refused NoMemory) new lost = tt
+loses_answer old _ new lost = absurd lost
 
-wants_may : {D : Type 0} (request : Request) (host : Hosted D) → WantsInstall request host → MayInstall request
-wants_may (Get module_name name) host wants = wants
-wants_may (Object number) host wants = wants
-wants_may Seq host wants = wants
-wants_may _ host wants = tt
+wants_write : {D : Type 0} (request : Request) (host : Hosted D) → WantsInstall request host → WritesStore request
+wants_write (Get module_name name) host wants = wants.0
+wants_write (Object number) host wants = wants.0
+wants_write Seq host wants = wants.0
+wants_write _ host wants = tt
 
 -- a host that must be reopened
 while_stopped : {D : Type 0} (device : Device D) (budget : ℕ) (old : Hosted D) (requests : List Request)
@@ -70,7 +71,7 @@ one_step budget request reply state next requests replies new step (inr until) =
   replies_are = ap (λ (more : List (Reply SourceFault)). reply ∷ more) until.replies_are;
   run = (next, step, until.run);
   cause = until.cause;
-  is_failure = until.is_failure;
+  loses_answer = until.loses_answer;
   stopped = until.stopped;
   seq_is = until.seq_is;
 })
@@ -81,7 +82,7 @@ failed_first : {D : Type 0} (device : Device D) (budget : ℕ) (request : Reques
     (old next : Hosted D) (requests : List Request) (replies : List (Reply SourceFault)) (new : Hosted D)
     → IsRunning state old
     → HasStopped old next → IsChange (task_of request state)
-    ⊎ (MayInstall request × (reply ≡ Refused DeviceFailed)) → IsFailure reply
+    ⊎ (WritesStore request × (reply ≡ Refused DeviceFailed)) → LosesAnswer reply
     → HandlesAll device budget next requests replies new
     → RunsUntilFailure budget state (request ∷ requests) (reply ∷ replies) new
 failed_first {D} device budget request reply state old next requests replies new runs stops cause failure all =
@@ -99,7 +100,7 @@ failed_first {D} device budget request reply state old next requests replies new
           (after.0 ∙ ap (λ (n : ℕ). replies_until_reopened requests n) seq);
       run = refl;
       cause = cause;
-      is_failure = failure;
+      loses_answer = failure;
       stopped = ap (λ (host : Hosted D). host.state) after.1 ∙ stops.stopped;
       seq_is = ap (λ (host : Hosted D). host.seq) after.1 ∙ seq;
     }
@@ -109,19 +110,19 @@ put_off_for : {D : Type 0} (device : Device D) (budget : ℕ) (request : Request
     (state : HostState)
     (old next : Hosted D) (requests : List Request) (replies : List (Reply SourceFault)) (new : Hosted D)
     → IsRunning state old
-    → MayInstall request → InstallRefused old (Refused refusal) next
+    → WritesStore request → InstallRefused old (Refused refusal) next
     → HandlesAll device budget next requests replies new
     → (IsRunning state next → Ran budget state requests replies new)
     → Ran budget state (request ∷ requests) (Refused refusal ∷ replies) new
 put_off_for {D} device budget request GenerationSpent state old next requests replies new runs may refused all
     goes_on =
     one_step budget request (Refused GenerationSpent) state state requests replies new
-    (inr (record { may_install = may; reply_is = inl refl; unchanged = refl }))
+    (inr (record { writes_store = may; reply_is = inl refl; unchanged = refl }))
     (goes_on (subst (λ (host : Hosted D). IsRunning state host) (sym refused.1) runs))
 put_off_for {D} device budget request NoMemory state old next requests replies new runs may refused all
     goes_on =
     one_step budget request (Refused NoMemory) state state requests replies new
-    (inr (record { may_install = may; reply_is = inr refl; unchanged = refl }))
+    (inr (record { writes_store = may; reply_is = inr refl; unchanged = refl }))
     (goes_on (subst (λ (host : Hosted D). IsRunning state host) (sym refused.1) runs))
 put_off_for device budget request DeviceFailed state old next requests replies new runs may refused all
     goes_on =
@@ -133,7 +134,7 @@ put_off : {D : Type 0} (device : Device D) (budget : ℕ) (request : Request) (r
     (state : HostState)
     (old next : Hosted D) (requests : List Request) (replies : List (Reply SourceFault)) (new : Hosted D)
     → IsRunning state old
-    → MayInstall request → InstallRefused old reply next → HandlesAll device budget next requests replies new
+    → WritesStore request → InstallRefused old reply next → HandlesAll device budget next requests replies new
     → (IsRunning state next → Ran budget state requests replies new)
     → Ran budget state (request ∷ requests) (reply ∷ replies) new
 put_off device budget request (Refused refusal) state old next requests replies new runs may refused all goes_on =
@@ -161,11 +162,11 @@ while_running device budget state old (request ∷ requests) (reply ∷ replies)
       | inr (inl out) ↦ one_step budget request reply state state requests replies new (inl (inr out.ran_out))
           (while_running device budget state all.0 requests replies new out.running all.2)
       | inr (inr (inl lost)) ↦ inr (failed_first device budget request reply state old all.0 requests replies new runs
-          lost.stopped (inl lost.changes) (is_failure lost.between.journal reply all.0.journal lost.lost) all.2)
+          lost.stopped (inl lost.changes) (loses_answer lost.between.journal reply all.0.journal lost.lost) all.2)
       | inr (inr (inr (inl lost))) ↦ inr (failed_first device budget request reply state old all.0 requests replies new
-          runs lost.stopped (inl lost.changes) (subst IsFailure (sym lost.reply_is) tt) all.2)
+          runs lost.stopped (inl lost.changes) (subst LosesAnswer (sym lost.reply_is) tt) all.2)
       | inr (inr (inr (inr none))) ↦ put_off device budget request reply state old all.0 requests replies new runs
-          (wants_may request old none.wanted) none.refused all.2
+          (wants_write request old none.wanted) none.refused all.2
           (λ still. while_running device budget state all.0 requests replies new still all.2)
     ]
 while_running device budget state old [] (reply ∷ replies) new runs all = absurd all

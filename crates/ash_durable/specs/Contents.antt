@@ -3,6 +3,7 @@ use Rattle.std.specs.Prelude.{◌≡◌, ◌⊎◌, ℕ, ◌+◌, List, [], ◌�
 use Rattle.std.specs.List.{AllByRecursion}
 use Rattle.ash_journal.specs.declared.record.Record.{Record}
 use Rattle.ash_journal.specs.Current.{Contents}
+use Rattle.ash_journal.specs.Layout.{header_size}
 use Rattle.ash_journal.specs.Reading.{bodies_of}
 use Rattle.ash_registry.specs.Registrations.{Registration}
 use Rattle.ash_registry.specs.Text.{text_of}
@@ -43,16 +44,20 @@ IsAdmittedImage registered image = (state : HostState) × (state.registered ≡ 
 abbrev pub IsAdmittedBody : List Registration → List ℕ → Type 0
 IsAdmittedBody registered body = (state : HostState) × (state.registered ≡ registered) × IsBodyOf body state
 
+-- how many bytes are before the body of a record: a gate and the body's length
+abbrev pub record_header_size : ℕ
+record_header_size = 5
+
 -- the first of the records, of which the gate before the first is at an offset, whose body is not P: the gate
 -- before it is there
 abbrev pub FirstWithout : (List ℕ → Type 0) → ℕ → List (List ℕ) → ℕ → Type 0
 FirstWithout P offset [] at = ⊥
 FirstWithout P offset (body ∷ bodies) at =
-    ((P body → ⊥) × (at ≡ offset)) ⊎ (P body × FirstWithout P (offset + 5 + length body) bodies at)
+    ((P body → ⊥) × (at ≡ offset)) ⊎ (P body × FirstWithout P (offset + record_header_size + length body) bodies at)
 
--- the offset of the gate after an image: before it are a gate, the magic, a number and the image's length
+-- the offset of the gate after an image: before the image are a gate, the magic, a number and the image's length
 abbrev pub after_image : List ℕ → ℕ
-after_image image = 21 + length image
+after_image image = header_size + length image
 
 -- The bytes at an offset have not the shape of an image, or of a record beside that image, whose version is another.
 -- The offset of a record is that of the gate before it, and the image's is 0.

@@ -84,12 +84,7 @@ MayAdd _ = ⊥
 -- enough each request that may add one more.
 abbrev pub WantsInstall : {D : Type 0} → Request → Hosted D → Type 0
 WantsInstall Snapshot host = Unit {0}
-WantsInstall (Load module_name source) host = IsFull host
-WantsInstall (Call module_name function arguments) host = IsFull host
-WantsInstall (Discard module_name) host = IsFull host
-WantsInstall (Get module_name name) host = ⊥
-WantsInstall (Object number) host = ⊥
-WantsInstall Seq host = ⊥
+WantsInstall request host = MayAdd request × IsFull host
 
 -- The state of a host became a new generation without records, and nothing else of the host has changed.
 pub record WasInstalled {D : Type 0} (device : Device D) (state : HostState) (old new : Hosted D) : Type 0 where
@@ -157,8 +152,8 @@ pub record WasOutOfMemory {D : Type 0} (device : Device D) (request : Request) (
   pub running : IsRunning state new
   pub settles : Settles device state state old new
 
--- A request that is not refused and changes the state had an answer, and it could not be stored: the files settle on the
--- state before it or after it until the host is reopened.
+-- A request that is not refused and changes the state had an answer, and it could not be stored: the files settle on
+-- the state before it or after it until the host is reopened.
 pub record WasNotCommitted {D : Type 0} (device : Device D) (budget : ℕ) (request : Request) (state : HostState)
     (old : Hosted D) (reply : Reply SourceFault) (new : Hosted D) : Type 0 where
   pub between : Hosted D

@@ -13,7 +13,7 @@ use Rattle.ash_sources.specs.SourceFaults.{SourceFault}
 use Rattle.ash_states.specs.States.{HostState, empty}
 use Rattle.ash_states.specs.Steps.{Steps}
 use Rattle.ash_durable.specs.Hosting.{Hosted, first, second, IsRunning, IsSaved, IsAnswer, Handles}
-use Rattle.ash_durable.specs.Running.{IsFailure}
+use Rattle.ash_durable.specs.Running.{LosesAnswer}
 use Rattle.ash_durable.specs.States.{AreHonest, SettleNow, IsOne, IsEither}
 use Rattle.ash_durable.specs.Store.{WereOnlyRead, WasCreated, WasNotMade, WasOpened, WasRefused, Creates, Opens}
 use Rattle.ash_durable.specs.Store.{first_found, second_found}
@@ -21,8 +21,9 @@ use Rattle.ash_durable.specs.declared.fault.OpenRefused.{OpenRefused}
 
 -- ---- events
 
--- What is known of a store by those who use it: a request was answered, by how its run ended, how many requests had been
--- answered, and what happened to host objects; a request is in doubt, handled or not; a host was opened, in this state.
+-- What is known of a store by those who use it: a request was answered, by how its run ended, how many requests had
+-- been answered, and what happened to host objects; a request is in doubt, handled or not; a host was opened, in this
+-- state.
 pub data Event : Type 0 where
   Acknowledged : (budget : ℕ) → (request : Request) → (end : End) → (seq : ℕ) → (happened : List HostEvent) → Event
   InDoubt : (budget : ℕ) → (request : Request) → Event
@@ -31,7 +32,8 @@ pub data Event : Type 0 where
 -- An event takes a state to the next. A request that was answered has taken its step, with that answer; one that is in
 -- doubt has taken it, or nothing has changed; where a host was opened the state is the one that it had.
 abbrev pub Takes : Event → HostState → HostState → Type 0
-Takes (Acknowledged budget request end seq happened) before after = Steps budget request before (Answered end seq happened) after
+Takes (Acknowledged budget request end seq happened) before after =
+    Steps budget request before (Answered end seq happened) after
 Takes (InDoubt budget request) before after = (after ≡ before)
     ⊎ ((reply : Reply SourceFault) × Steps budget request before reply after)
 Takes (Found state) before after = (before ≡ state) × (after ≡ state)
@@ -256,11 +258,11 @@ pub record Outlives {D : Type 0} (device : Device D) (registered : List Registra
 
 -- ---- what handling requests makes of a life
 
--- The events of a request by its reply: an answer is acknowledged; a request that lost its answer or the state, or before
--- which a device failed, is in doubt; another reply is no event.
+-- The events of a request by its reply: an answer is acknowledged; a request that lost its answer or the state, or
+-- before which a device failed, is in doubt; another reply is no event.
 abbrev pub Records : ℕ → Request → Reply SourceFault → List Event → Type 0
 Records budget request (Answered end seq happened) events = events ≡ Acknowledged budget request end seq happened ∷ []
-Records budget request reply events = (events ≡ []) ⊎ (IsFailure reply × (events ≡ InDoubt budget request ∷ []))
+Records budget request reply events = (events ≡ []) ⊎ (LosesAnswer reply × (events ≡ InDoubt budget request ∷ []))
 
 -- the events of requests by their replies, the newest first
 abbrev pub RecordAll : ℕ → List Request → List (Reply SourceFault) → List Event → Type 0

@@ -5,7 +5,7 @@ use Rattle.ash_journal.specs.Failures.{CountsFailures}
 use Rattle.ash_steps.specs.Requests.{Request}
 use Rattle.ash_states.specs.States.{HostState}
 use Rattle.ash_durable.specs.States.{HoldsState, GoesOn}
-use Rattle.ash_durable.specs.Saving.{HostRefusal, HasFailedBy, HasOneMore}
+use Rattle.ash_durable.specs.Saving.{HostRefusal, FailsBy, HasOneMore}
 use Rattle.ash_durable.specs.Hosting.{Hosted, first, second, IsRunning, IsFull, MayAdd, WantsInstall, Settles}
 use Rattle.ash_durable.specs.Hosting.{WasInstalled, InstallRefused, WasLost}
 use Rattle.ash_durable.specs.Replies.{refused_by}
@@ -13,7 +13,7 @@ use Rattle.ash_durable.specs.Replies.{refused_by}
 -- a call counted the failures of a host's disks, changed neither their honesty nor what is registered
 pub record PreservesDisks {D T : Type 0} (device : Device D) (old : Hosted D) (result : Result T HostRefusal)
     (new : Hosted D) : Type 0 where
-  pub failures : CountsFailures (HasFailedBy result) (device.failures (first old)) (device.failures (second old))
+  pub failures : CountsFailures (FailsBy result) (device.failures (first old)) (device.failures (second old))
       (device.failures (first new)) (device.failures (second new))
   pub honesty_first : device.honest (first new) ≡ device.honest (first old)
   pub honesty_second : device.honest (second new) ≡ device.honest (second old)

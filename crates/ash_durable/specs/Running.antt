@@ -1,23 +1,17 @@
 -- What a host did for a list of requests: a run of the definition, up to the first failure.
 use Rattle.std.specs.Prelude.{◌≡◌, ◌⊎◌, ℕ, List, [], ◌∷◌, ◌++◌, map, None}
-use Rattle.ash_steps.specs.Requests.{Request, Get, Object, Seq, Reply, Refused, DeviceFailed, NoMemory, GenerationSpent}
+use Rattle.ash_steps.specs.Requests.{Request, Reply, Refused, DeviceFailed, NoMemory, GenerationSpent}
+use Rattle.ash_steps.specs.Steps.{WritesStore}
 use Rattle.ash_plain_steps.specs.StepViews.{IsChange}
 use Rattle.ash_sources.specs.SourceFaults.{SourceFault}
 use Rattle.ash_states.specs.States.{HostState}
 use Rattle.ash_states.specs.Steps.{Steps, task_of}
 use Rattle.ash_durable.specs.Hosting.{Hosted, IsRunning, reply_stopped}
 
--- a request before which a new generation may be installed
-abbrev pub MayInstall : Request → Type 0
-MayInstall (Get module_name name) = ⊥
-MayInstall (Object number) = ⊥
-MayInstall Seq = ⊥
-MayInstall _ = Unit {0}
-
 -- A new generation was wanted before a request, and its number would have been past the last, or memory was refused:
 -- nothing has changed.
 pub record WasPutOff (request : Request) (old : HostState) (reply : Reply SourceFault) (new : HostState) : Type 0 where
-  pub may_install : MayInstall request
+  pub writes_store : WritesStore request
   pub reply_is : (reply ≡ Refused GenerationSpent) ⊎ (reply ≡ Refused NoMemory)
   pub unchanged : new ≡ old
 
@@ -36,11 +30,11 @@ HostRuns budget old _ _ new = ⊥
 abbrev pub replies_until_reopened : List Request → ℕ → List (Reply SourceFault)
 replies_until_reopened requests seq = map (λ request. reply_stopped request seq) requests
 
--- The reply is a refusal by which an answer or the state was lost: a disk failed, or memory ran out.
-abbrev pub IsFailure : Reply SourceFault → Type 0
-IsFailure (Refused DeviceFailed) = Unit {0}
-IsFailure (Refused NoMemory) = Unit {0}
-IsFailure _ = ⊥
+-- by this refusal an answer or the state may be lost: a disk failed, or memory ran out
+abbrev pub LosesAnswer : Reply SourceFault → Type 0
+LosesAnswer (Refused DeviceFailed) = Unit {0}
+LosesAnswer (Refused NoMemory) = Unit {0}
+LosesAnswer _ = ⊥
 
 -- The requests are a run of the definition, and the host runs in the state that this run leads to.
 pub record RunsThrough {D : Type 0} (budget : ℕ) (state : HostState) (requests : List Request)
@@ -66,8 +60,8 @@ pub record RunsUntilFailure {D : Type 0} (budget : ℕ) (state : HostState) (req
   pub requests_are : requests ≡ before ++ failed ∷ later
   pub replies_are : replies ≡ replied ++ failure ∷ replies_until_reopened later last.state.seq
   pub run : HostRuns budget state before replied last
-  pub cause : IsChange (task_of failed last) ⊎ (MayInstall failed × (failure ≡ Refused DeviceFailed))
-  pub is_failure : IsFailure failure
+  pub cause : IsChange (task_of failed last) ⊎ (WritesStore failed × (failure ≡ Refused DeviceFailed))
+  pub loses_answer : LosesAnswer failure
   pub stopped : new.state ≡ None
   pub seq_is : new.seq ≡ last.state.seq
 

@@ -10,28 +10,29 @@ use Rattle.ash_plain_steps.specs.declared.request.Refusal.TheVariants as the
 use Rattle.ash_state_image.specs.declared.version.Version.TheVariants.{Two}
 use Rattle.ash_states.specs.States.{HostState}
 use Rattle.ash_states.specs.Images.{IsBodyIn}
+use Rattle.ash_durable.specs.Contents.{record_header_size}
 use Rattle.ash_durable.specs.States.{HoldsState, GoesOn, BeginsAnew}
 
 -- Why the code refuses a request.
 abbrev pub HostRefusal : Type 0
 HostRefusal = Refusal CodeFault
 
--- why a state is not stored: a device failed
-abbrev pub IsFailure : HostRefusal → Type 0
-IsFailure the.DeviceFailed = Unit {0}
-IsFailure _ = ⊥
+-- a state is not stored because a device failed
+abbrev pub IsDeviceRefusal : HostRefusal → Type 0
+IsDeviceRefusal the.DeviceFailed = Unit {0}
+IsDeviceRefusal _ = ⊥
 
--- a call failed for a device
-abbrev pub HasFailedBy : {T : Type 0} → Result T HostRefusal → Type 0
-HasFailedBy (Ok done) = ⊥
-HasFailedBy (Err refusal) = IsFailure refusal
+-- a call fails because a device did
+abbrev pub FailsBy : {T : Type 0} → Result T HostRefusal → Type 0
+FailsBy (Ok done) = ⊥
+FailsBy (Err refusal) = IsDeviceRefusal refusal
 
 -- one record more, with the body of this state in version 2, in the same generation
 pub record HasOneMore {D : Type 0} (state : HostState) (old new : Journal D) : Type 0 where
   pub same : generation new ≡ generation old
   pub body : List ℕ
   pub is_body : IsBodyIn Two body state
-  pub longer : record_bytes new ≡ record_bytes old + 5 + length body
+  pub longer : record_bytes new ≡ record_bytes old + record_header_size + length body
 
 -- What becomes of a journal that a state was to be added to as one record: that it has it, and one record more; that
 -- memory was refused and nothing changed; or that a device failed, and the journal is to be opened again.
@@ -50,7 +51,7 @@ pub record Adds {D : Type 0} (device : Device D) (state : HostState) (old : Jour
       → HoldsState device state new)
   pub moments : (before : HostState) → before.registered ≡ state.registered → HoldsState device before old
       → GoesOn device before state old new
-  pub failures : CountsFailures (HasFailedBy result) (device.failures (first_disk old))
+  pub failures : CountsFailures (FailsBy result) (device.failures (first_disk old))
       (device.failures (second_disk old)) (device.failures (first_disk new)) (device.failures (second_disk new))
   pub honesty_first : device.honest (first_disk new) ≡ device.honest (first_disk old)
   pub honesty_second : device.honest (second_disk new) ≡ device.honest (second_disk old)
@@ -74,7 +75,7 @@ pub record Installs {D : Type 0} (device : Device D) (state : HostState) (old : 
   pub outcome : InstallsWith old result new
   pub holds : OnOk result (HoldsState device state old → HoldsState device state new)
   pub moments : HoldsState device state old → BeginsAnew device state state old new
-  pub failures : CountsFailures (HasFailedBy result) (device.failures (first_disk old))
+  pub failures : CountsFailures (FailsBy result) (device.failures (first_disk old))
       (device.failures (second_disk old)) (device.failures (first_disk new)) (device.failures (second_disk new))
   pub honesty_first : device.honest (first_disk new) ≡ device.honest (first_disk old)
   pub honesty_second : device.honest (second_disk new) ≡ device.honest (second_disk old)

@@ -210,8 +210,8 @@ pub record WasFound {D : Type 0} (device : Device D) (registered : List Registra
   pub repaired : WasRepaired device a b journal
   pub disks : HandsBack device ⊥ a b (first_disk journal) (second_disk journal)
 
--- While an image was installed in place of what a journal holds, at every moment since both its disks had been synced, a
--- crash left the one generation or the other.
+-- While an image was installed in place of what a journal holds, at every moment since both its disks had been synced,
+-- a crash left the one generation or the other.
 abbrev pub InstallsOrNot : {D : Type 0} → Device D → List ℕ → Journal D → Journal D → Type 0
 InstallsOrNot device image old new = (contents : Contents) → Holds device old contents.0 contents.1
     → HoldsSince device (device.clock (first_disk old)) (device.clock (second_disk old)) (first_disk new)
@@ -274,7 +274,8 @@ pub record WasNotFound {D : Type 0} (device : Device D) (registered : List Regis
       ⊎ AreOfRepaired device a b refused.a refused.b
   pub disks : HandsBack device (IsFailed refused.fault) a b refused.a refused.b
 
--- No host is opened, and both disks are handed back: no state was found, or it was found in version 1 and is left there.
+-- No host is opened, and both disks are handed back: no state was found, or it was found in version 1 and is left
+-- there.
 pub data WasRefused {D : Type 0} (device : Device D) (registered : List Registration) (a b : D)
     (refused : OpenRefused D) : Type 0 where
   NotFound : WasNotFound device registered a b refused → WasRefused device registered a b refused
@@ -330,7 +331,8 @@ Prepares state journal (Err faults.GenerationSpent) = generation journal ≡ las
 Prepares state journal (Err faults.NoMemory) = generation journal ≡ last_generation → ⊥
 Prepares state journal (Err _) = ⊥
 
--- Why a state is not moved of which nothing was written: its generation has the last number, or else memory was refused.
+-- Why a state is not moved of which nothing was written: its generation has the last number, or else memory was
+-- refused.
 abbrev pub MayNotMove : {D : Type 0} → Journal D → StoreFault → Type 0
 MayNotMove was faults.GenerationSpent = generation was ≡ last_generation
 MayNotMove was faults.NoMemory = generation was ≡ last_generation → ⊥

@@ -8,8 +8,8 @@ ghost use Rattle.ash_registry.specs.Text.{text_of};
 ghost use Rattle.ash_state_image.specs.Rules.{IsShaped};
 ghost use Rattle.ash_state_image.specs.Views.{snapshot_of};
 ghost use Rattle.ash_state_image.specs.declared.version.Version.{Version};
-ghost use Rattle.ash_durable.specs.Contents.{after_image, IsBodyWith, ReadsAs};
-ghost use Rattle.ash_durable.specs.Contents.{ReadsImage, ChecksShapes, Restores, LeadsOn, LeadsThrough};
+ghost use Rattle.ash_durable.specs.Contents.{after_image, IsBodyWith, ReadsAs, ReadsImage};
+ghost use Rattle.ash_durable.specs.Contents.{ChecksShapes, Restores, LeadsOn, LeadsThrough};
 
 use crate::fault::StoreFault;
 use ash_journal::Record;
@@ -96,20 +96,20 @@ fn restore(
     }
 }
 
-/// The state to which the body of a record leads, where a host with this registry may be in it; else damage at the gate
-/// before it.
+/// The state to which the next record leads, where a host with this registry may be in it; else damage at the gate
+/// before the record.
 fn next_state(
     alloc: Global,
     registry: Registry,
-    body: &[u8],
-    gate: u64,
+    next: &Record,
 ) -> Result<HostState, StoreFault>
-    requires { (version : Version) × IsBodyWith version (text_of (registered registry)) body.now }
-    ensures { LeadsOn (registered registry) body.now gate result }
+    requires { (version : Version)
+        × IsBodyWith version (text_of (registered registry)) next.now.body.items }
+    ensures { LeadsOn (registered registry) next.now.body.items next.now.gate result }
 {
-    match read_body(alloc, body)? {
-        Some(stored) => restore(alloc, registry, stored.state, gate),
-        None => Err(StoreFault::Damaged(gate)),
+    match read_body(alloc, &next.body)? {
+        Some(stored) => restore(alloc, registry, stored.state, next.gate),
+        None => Err(StoreFault::Damaged(next.gate)),
     }
 }
 
@@ -121,7 +121,7 @@ fn last_state(alloc: Global, first: HostState, records: &[Record]) -> Result<Hos
 {
     let mut state = first;
     for record in records {
-        state = next_state(alloc, state.into_registry(), &record.body, record.gate)?;
+        state = next_state(alloc, state.into_registry(), record)?;
     }
     Ok(state)
 }
@@ -129,9 +129,9 @@ fn last_state(alloc: Global, first: HostState, records: &[Record]) -> Result<Hos
 /// The state of an image and the records after it, with this registry, and their version.
 ///
 /// Faults, the first that holds: `Damaged` where the image or a record has not its shape, or a record has another version
-/// or another text of what was registered than the image; `OtherInterface` where that text is not this registry's; `Damaged` where no
-/// host with this registry may be in the state of the image, and then of a record. An offset is that of the gate before
-/// the record, or 0 for the image. `NoMemory` may come at any time.
+/// or another text of what was registered than the image; `OtherInterface` where that text is not this registry's;
+/// `Damaged` where no host with this registry may be in the state of the image, and then of a record. An offset is that
+/// of the gate before the record, or 0 for the image. `NoMemory` may come at any time.
 pub fn state_in(
     alloc: Global,
     registry: Registry,

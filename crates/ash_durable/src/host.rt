@@ -6,8 +6,9 @@ ghost use Rattle.ash_steps.specs.Requests.{Call, Discard, Get, Load, Number, Obj
 ghost use Rattle.ash_plain_steps.specs.RequestViews.{request_seen, reply_seen};
 ghost use Rattle.ash_sources.specs.SourceFaults.{fault_of};
 ghost use Rattle.ash_states.specs.States.{HostState};
-ghost use Rattle.ash_durable.specs.Hosting.{first, second, Handles, HandlesAll, IsAnswer, IsFull, IsInstalled};
-ghost use Rattle.ash_durable.specs.Hosting.{IsRunning, RefusesFirst, WantsInstall, reply_stopped};
+ghost use Rattle.ash_durable.specs.Hosting.{first, second, Handles, HandlesAll, IsAnswer, IsFull};
+ghost use Rattle.ash_durable.specs.Hosting.{IsInstalled, IsRunning, RefusesFirst, WantsInstall};
+ghost use Rattle.ash_durable.specs.Hosting.{reply_stopped};
 ghost use Rattle.ash_durable.specs.Lives.{LivesOn};
 ghost use Rattle.ash_durable.specs.Replies.{done_of, reply_of};
 ghost use Rattle.ash_durable.specs.Requests.{Commits, MakesRoom, TriesInstall};
@@ -150,20 +151,19 @@ impl<D: Disk> Host<D> {
     {
         match install_state(&self.state, &mut self.journal) {
             Ok(()) => Ok(()),
-            Err(refusal) => match refusal {
-                Refusal::DeviceFailed => {
-                    self.stopped = Some(self.state.seq());
-                    Err(Refusal::DeviceFailed)
-                }
-                refusal => Err(refusal),
-            },
+            Err(Refusal::DeviceFailed) => {
+                self.stopped = Some(self.state.seq());
+                Err(Refusal::DeviceFailed)
+            }
+            Err(refusal) => Err(refusal),
         }
     }
 
     /// The records of the current generation are so long that no more is added.
     fn is_full(&self) -> bool
         ensures full { IsTrue result ↔ IsFull self.now }
-        ensures runs { (state : HostState) → self.now.state ≡ Some state → IsRunning state self.now }
+        ensures runs { (state : HostState) → self.now.state ≡ Some state
+            → IsRunning state self.now }
     {
         self.journal.record_bytes() >= FULL_RECORD_BYTES
     }
@@ -171,17 +171,14 @@ impl<D: Disk> Host<D> {
     /// The state is installed as a new generation before a request.
     fn wants_install(&self, request: &Request<'_>) -> bool
         ensures wanted { IsTrue result ↔ WantsInstall (request_seen request.now) self.now }
-        ensures runs { (state : HostState) → self.now.state ≡ Some state → IsRunning state self.now }
+        ensures runs { (state : HostState) → self.now.state ≡ Some state
+            → IsRunning state self.now }
     {
         let is_full = self.is_full();
         match *request {
-            Request::Load { .. } => is_full,
-            Request::Call { .. } => is_full,
-            Request::Discard { .. } => is_full,
             Request::Snapshot => true,
-            Request::Get { .. } => false,
-            Request::Object { .. } => false,
-            Request::Seq => false,
+            Request::Load { .. } | Request::Call { .. } | Request::Discard { .. } => is_full,
+            Request::Get { .. } | Request::Object { .. } | Request::Seq => false,
         }
     }
 
@@ -285,8 +282,8 @@ impl<D: Disk> Host<D> {
         arguments: &[Argument],
         budget: u64,
     ) -> HostReply
-        ensures handled { Handles D.Disk budget (Call module.now function.now arguments.now) self.old
-            (reply_seen fault_of result) self.new }
+        ensures handled { Handles D.Disk budget (Call module.now function.now arguments.now)
+            self.old (reply_seen fault_of result) self.new }
         ensures refused { RefusesFirst (Call module.now function.now arguments.now) self.old
             (reply_seen fault_of result) self.new }
     {
@@ -382,10 +379,7 @@ impl<D: Disk> Host<D> {
 fn is_answer(reply: &HostReply) -> bool
     ensures { IsTrue result ↔ IsAnswer (reply_seen fault_of reply.now) }
 {
-    match reply {
-        Reply::Answered(_) => true,
-        _ => false,
-    }
+    matches!(reply, Reply::Answered(_))
 }
 
 /// The reply of a host that must be reopened. `seq` is the number of the last answer.

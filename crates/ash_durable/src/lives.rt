@@ -1,8 +1,8 @@
 //! The life of a store, as a theorem.
 
 ghost use Rattle.std.specs.Prelude.{ℕ, List, ◌∷◌, ◌++◌};
-ghost use Rattle.ash_durable.specs.Lives.{AreLeft, BeginWith, Crashed, Event, LeadBy, Life, OnDisks, Outlives, Place};
-ghost use Rattle.ash_durable.specs.Lives.{IsPrefixAt, first_at, second_at};
+ghost use Rattle.ash_durable.specs.Lives.{AreLeft, BeginWith, Crashed, Event, IsPrefixAt, LeadBy};
+ghost use Rattle.ash_durable.specs.Lives.{Life, OnDisks, Outlives, Place, first_at, second_at};
 ghost use Rattle.ash_durable.specs.States.{AreHonest, SettleNow};
 ghost use Rattle.ash_durable.specs.Store.{MayRefuse, WasRefused};
 ghost use Rattle.ash_durable.specs.declared.fault.OpenRefused.{OpenRefused};

@@ -2,7 +2,8 @@
 
 ghost use Rattle.std.specs.Prelude.{◌≡◌};
 ghost use Rattle.ash_journal.specs.Journal.{first_disk, second_disk, HasFailed};
-ghost use Rattle.ash_durable.specs.Store.{Finds, LooksFor, Makes, Moves, Prepares, Repairs, Settled};
+ghost use Rattle.ash_durable.specs.Store.{Finds, LooksFor, Makes, Moves, Prepares, Repairs};
+ghost use Rattle.ash_durable.specs.Store.{Settled};
 ghost use Rattle.ash_registry.specs.Registered.{registered};
 
 use crate::contents::state_in;
@@ -62,7 +63,7 @@ pub struct Found<D> {
 }
 
 /// Why a journal that was opened is of no use, and its disks.
-fn refused<D: Disk>(journal: Journal<D>, fault: StoreFault) -> OpenRefused<D>
+fn refusal_of<D: Disk>(journal: Journal<D>, fault: StoreFault) -> OpenRefused<D>
     ensures fault { result.fault ≡ fault }
     ensures a { result.a ≡ first_disk journal }
     ensures b { result.b ≡ second_disk journal }
@@ -72,13 +73,13 @@ fn refused<D: Disk>(journal: Journal<D>, fault: StoreFault) -> OpenRefused<D>
 }
 
 /// A state that was read of a journal, and the journal once its gates are written over that a crash left.
-fn repaired<D: Disk>(state: HostState, journal: Journal<D>) -> Result<Found<D>, OpenRefused<D>>
+fn repair<D: Disk>(state: HostState, journal: Journal<D>) -> Result<Found<D>, OpenRefused<D>>
     ensures { Repairs D.Disk state journal result }
 {
     let mut journal = journal;
     match journal.settle() {
         Ok(()) => Ok(Found { state, journal }),
-        Err(_) => Err(refused(journal, StoreFault::DeviceFailed)),
+        Err(_) => Err(refusal_of(journal, StoreFault::DeviceFailed)),
     }
 }
 
@@ -101,24 +102,24 @@ fn next_generation<D: Disk>(
 
 /// A state that was read of a journal in version 1, and the journal once it is repaired, and holds the state in a new
 /// generation of version 2. All memory is taken before anything is written.
-fn moved<D: Disk>(state: HostState, journal: Journal<D>) -> Result<Found<D>, OpenRefused<D>>
+fn upgrade<D: Disk>(state: HostState, journal: Journal<D>) -> Result<Found<D>, OpenRefused<D>>
     requires { HasFailed journal → ⊥ }
     ensures { Moves D.Disk state journal result }
 {
     let next = match next_generation(&state, &journal) {
         Ok(next) => next,
-        Err(cause) => return Err(refused(journal, cause)),
+        Err(cause) => return Err(refusal_of(journal, cause)),
     };
-    let mut found = repaired(state, journal)?;
+    let mut found = repair(state, journal)?;
     match found.journal.install_next(next) {
         Ok(()) => Ok(found),
-        Err(_) => Err(refused(found.journal, StoreFault::DeviceFailed)),
+        Err(_) => Err(refusal_of(found.journal, StoreFault::DeviceFailed)),
     }
 }
 
 /// The state that an opened journal holds, and the journal once its gates are written over that a crash left, and once
 /// it is moved where it is of version 1.
-fn settled<D: Disk>(
+fn settle<D: Disk>(
     alloc: Global,
     registry: Registry,
     opened: OpenedJournal<D>,
@@ -133,11 +134,11 @@ fn settled<D: Disk>(
     } = opened;
     let read = match state_in(alloc, registry, &image, &records) {
         Ok(read) => read,
-        Err(fault) => return Err(refused(journal, fault)),
+        Err(fault) => return Err(refusal_of(journal, fault)),
     };
     match read.version {
-        Version::One => moved(read.state, journal),
-        Version::Two => repaired(read.state, journal),
+        Version::One => upgrade(read.state, journal),
+        Version::Two => repair(read.state, journal),
     }
 }
 
@@ -156,7 +157,7 @@ pub fn find<D: Disk>(
     ensures { Finds D.Disk (registered registry) a b result }
 {
     match Journal::open(alloc, a, b) {
-        Ok(opened) => settled(alloc, registry, opened),
+        Ok(opened) => settle(alloc, registry, opened),
         Err(refused) => Err(OpenRefused {
             fault: refused.fault.into(),
             a: refused.first,

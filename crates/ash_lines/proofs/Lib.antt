@@ -8,3 +8,4 @@ pub mod WriterLemmas
 pub mod PrefixLemmas
 pub mod ItemLemmas
 pub mod TextLemmas
+pub mod RefusalLemmas

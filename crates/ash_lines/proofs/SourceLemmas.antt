@@ -1,5 +1,5 @@
 -- Bytes that are read one after another.
-use Rattle.std.proofs.Common.{◌≡◌, ◌<◌, ℕ, ◌==◌, not, true, List, [], ◌∷◌, ◌++◌, length, refl, sym, subst, arith, Ok}
+use Rattle.std.proofs.Common.{◌≡◌, ◌<◌, ℕ, ◌==◌, not, Bool, true, List, [], ◌∷◌, ◌++◌, length, refl, sym, subst, arith, Ok}
 use Rattle.std.proofs.Common.{Err, Some, None, Option, Result, length-append, append_assoc}
 use Rattle.std.proofs.lemmas.List.{append-nil}
 use Rattle.std.proofs.lemmas.List.Folds.{list_all-append}
@@ -13,6 +13,11 @@ use Rattle.ash_lines.specs.declared.line.LineRead.{LineRead}
 use Rattle.ash_lines.specs.declared.line.LineRead.TheVariants as line
 use Rattle.ash_lines.specs.declared.source.ReadFault.{ReadFault}
 use Rattle.ash_lines.specs.declared.source.ReadFault.TheVariants.{TooLong, Failed}
+
+-- So much was skipped: some bytes, or none.
+abbrev pub HasSkipped : Bool → List ℕ → Type 0
+HasSkipped true bytes = 0 < length bytes
+HasSkipped _ bytes = bytes ≡ []
 
 -- a fault after these bytes
 pub faults_after : {S : Type 0} (feed : Feed S) → IsFeed feed → (s t u : S) (bytes more : List ℕ) (fault : ReadFault) → feed.reads s bytes t → Faults feed t more fault u → Faults feed s (bytes ++ more) fault u

@@ -1,19 +1,18 @@
 -- Words that are taken one after another.
 use Rattle.std.proofs.Common.{◌≡◌, ◌<◌, ◌≤◌, ℕ, ◌+◌, ◌==◌, Bool, true, false, List, [], ◌∷◌, ◌++◌, length, get_or, refl}
-use Rattle.std.proofs.Common.{if◌then◌else◌, drop, sym, ap, ◌∙◌, arith, Option, Some, None, is_some, not, append_assoc, zero, suc, lit<}
+use Rattle.std.proofs.Common.{if◌then◌else◌, sym, ap, ◌∙◌, arith, Option, Some, None, is_some, not, append_assoc, zero, suc, lit<}
+use Rattle.std.specs.Prelude.{option_map}
 use Rattle.std.proofs.lemmas.List.{append-nil}
 use Rattle.std.proofs.lemmas.Bool.Decides.{nat_tests}
 use Rattle.std.proofs.lemmas.Grind.{common_steps}
 use Rattle.std.proofs.lemmas.Str.{IsUtf8-from_ascii}
 use Rattle.std.specs.List.{list_all}
 use Rattle.std.specs.Str.{IsUtf8}
-use Rattle.std.specs.Bool.{then_some}
 use Rattle.std.specs.Borrow.{Bor}
 use Rattle.ash_steps.specs.declared.argument.Argument.{Argument}
 use Rattle.ash_lines.specs.Lines.{pieces, onto, is_visible, is_word, both, argument_of, arguments_of, Complete}
 use Rattle.ash_lines.specs.Lines.{BadRequest, call_request, parse_call, parse_line, parse_words}
 use Rattle.ash_lines.specs.Words.{is_none_left, words_left}
-use Rattle.ash_lines.specs.ParsedLines.{given, prepend}
 use Rattle.ash_lines.proofs.LineLemmas.{pieces-space, pieces-other}
 
 -- a line has a piece
@@ -53,17 +52,6 @@ unfolding pieces
 length-pieces [] = omega arith
 length-pieces (byte ∷ more) = let h = length_at byte more (byte == 32) refl (length-pieces more) in omega (arith, h)
 
--- the pieces after the first three
-
-pub length-after : (n : ℕ) (words : List (List ℕ)) → length (drop n words) ≤ length words
-length-after n words = grind (arith, common_steps)
-
-pub after_three : (words : List (List ℕ)) → drop 1 (drop 1 (drop 1 words)) ≡ drop 3 words
-after_three [] = refl
-after_three (one ∷ []) = refl
-after_three (one ∷ two ∷ []) = refl
-after_three (one ∷ two ∷ three ∷ words) = refl
-
 -- a word is text
 
 visible-at : (word : List ℕ) (i : ℕ) → list_all is_visible word ≡ true → get_or word i 0 < 128
@@ -86,6 +74,10 @@ pub arguments-nil : arguments_of [] ≡ Some []
 unfolding arguments_of
 arguments-nil = refl
 
+-- arguments that were read, and then those of the words that are left
+abbrev pub prepend : List Argument → Option (List Argument) → Option (List Argument)
+prepend arguments more = option_map (λ others. arguments ++ others) more
+
 prepend-both : (arguments : List Argument) (argument : Argument) (more : Option (List Argument)) → prepend arguments (both (Some argument) more) ≡ prepend (arguments ++ argument ∷ []) more
 prepend-both arguments argument None = refl
 prepend-both arguments argument (Some others) = ap (λ (x : List Argument). Some x) (sym (append_assoc arguments (argument ∷ []) others))
@@ -101,16 +93,18 @@ arguments-bad arguments left more word e f = rw (e, arguments-cons word more, �
 pub arguments-end : (arguments : List Argument) (left : List (List ℕ)) → left ≡ [] → prepend arguments (arguments_of left) ≡ Some arguments
 arguments-end arguments left e = rw (e, arguments-nil) (ap (λ (x : List Argument). Some x) (append-nil arguments))
 
--- the arguments that were stored, if each word is one
-pub given-stored : (all : Bool) (slice : Bor (List Argument)) (items : List Argument) (words : Option (List Argument)) → slice.now ≡ items → words ≡ (if all then Some items else None) → given (then_some all slice) ≡ words
-given-stored true slice items words e f = ap (λ (x : List Argument). Some x) e ∙ sym f
-given-stored false slice items words e f = sym f
-
 -- a call, with what its arguments are
-pub call-parsed : (words left rest : List (List ℕ)) (module_name function : List ℕ) (arguments : Option (List Argument)) → words ≡ module_name ∷ left → left ≡ function ∷ rest → arguments ≡ arguments_of (drop 2 words) → call_request module_name function arguments ≡ parse_call words
-call-parsed words left rest module_name function arguments e f g =
-    let all : words ≡ module_name ∷ function ∷ rest = e ∙ ap (λ (ws : List (List ℕ)). module_name ∷ ws) f in
-    ap (call_request module_name function) (g ∙ ap (λ (ws : List (List ℕ)). arguments_of (drop 2 ws)) all) ∙ sym (ap parse_call all)
+
+pub call_parsed : (words left rest : List (List ℕ)) (module_name function : List ℕ) (stored : Option (List Argument))
+    → words ≡ module_name ∷ left → left ≡ function ∷ rest → arguments_of rest ≡ stored
+    → call_request module_name function stored ≡ parse_call words
+call_parsed words left rest module_name function stored e f g =
+    ap (call_request module_name function) (sym g)
+    ∙ sym (ap parse_call (e ∙ ap (λ (ws : List (List ℕ)). module_name ∷ ws) f))
+
+pub no_function : (words left : List (List ℕ)) (module_name : List ℕ) → words ≡ module_name ∷ left → left ≡ []
+    → Complete BadRequest ≡ parse_call words
+no_function words left module_name e f = sym (ap parse_call (e ∙ ap (λ (ws : List (List ℕ)). module_name ∷ ws) f))
 
 -- lines
 

@@ -40,11 +40,6 @@ Skips feed old (Ok rests.Bytes) new = (bytes : List ℕ) × ReadsWholeLine feed 
 Skips feed old (Ok rests.Cut) new = (bytes : List ℕ) × ReadsLinePart feed old bytes new × feed.ended new
 Skips feed old (Err fault) new = FaultsInLine feed old fault new
 
--- So much was skipped: some bytes, or none.
-abbrev pub HasSkipped : Bool → List ℕ → Type 0
-HasSkipped true bytes = 0 < length bytes
-HasSkipped _ bytes = bytes ≡ []
-
 -- How reading a line ended, and what the buffer has of it.
 abbrev pub ReadsLine : {S : Type 0} → Feed S → S → Result LineRead ReadFault → List ℕ → S → Type 0
 ReadsLine feed old (Ok line.Whole) buffer new = ReadsWholeLine feed old buffer new × (length buffer ≤ max_line_bytes)

@@ -4,8 +4,9 @@ ghost use Rattle.std.specs.Prelude.{◌≡◌, ◌++◌, codes};
 ghost use Rattle.std.specs.List.{flat_map, list_any};
 ghost use Rattle.ash_evaluator.specs.EndViews.{end_seen};
 ghost use Rattle.ash_lines.specs.Sink.{Writes};
-ghost use Rattle.ash_lines.specs.Replies.{answer_text, end_text, finished_text, exception_text, raised_text};
-ghost use Rattle.ash_lines.specs.Replies.{place_text, seq_text, is_drop, drop_text, drops_text};
+ghost use Rattle.ash_lines.specs.Replies.{answer_text, end_text, finished_text, exception_text};
+ghost use Rattle.ash_lines.specs.Replies.{raised_text, place_text, seq_text, is_drop, drop_text};
+ghost use Rattle.ash_lines.specs.Replies.{drops_text};
 
 use crate::object::write_ok;
 use crate::pieces::write_all;
@@ -136,10 +137,7 @@ fn has_drop(events: &[Event]) -> bool
 fn is_drop(event: Event) -> bool
     ensures drop { result ≡ is_drop event }
 {
-    match event {
-        Event::Dropped(_) => true,
-        _ => false,
-    }
+    matches!(event, Event::Dropped(_))
 }
 
 /// Writes the numbers of the host objects that were dropped, with a blank before each.

@@ -2,7 +2,8 @@
 
 ghost use Rattle.std.specs.Prelude.{◌≡◌};
 ghost use Rattle.ash_sources.specs.SourceFaults.{fault_of};
-ghost use Rattle.ash_lines.specs.FaultDetails.{details_of, lexical_details, syntactic_details, source_details};
+ghost use Rattle.ash_lines.specs.FaultDetails.{details_of, lexical_details, syntactic_details};
+ghost use Rattle.ash_lines.specs.FaultDetails.{source_details};
 
 use crate::details::Details;
 use ash_lex::LexFault;

@@ -3,8 +3,8 @@
 ghost use Rattle.std.specs.Prelude.{◌≡◌, ◌<◌, ◌^◌, IfSome};
 ghost use Rattle.std.specs.List.{list_all};
 ghost use Rattle.std.specs.Str.{bytes_eq};
-ghost use Rattle.ash_lines.specs.Lines.{is_digit, is_number, number_of, length_of, object_number_of};
-ghost use Rattle.ash_lines.specs.Lines.{signed_of, argument_of};
+ghost use Rattle.ash_lines.specs.Lines.{is_digit, is_number, number_of, length_of};
+ghost use Rattle.ash_lines.specs.Lines.{object_number_of, signed_of, argument_of};
 
 use ash_steps::Argument;
 

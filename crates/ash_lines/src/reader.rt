@@ -3,7 +3,8 @@
 ghost use Rattle.std.specs.Prelude.{◌≡◌, ◌^◌, IfOk, None, false};
 ghost use Rattle.std.specs.Io.Buffered.{reader_remaining};
 ghost use Rattle.std.specs.Io.KnownBytes.{Keeps};
-ghost use Rattle.ash_lines.specs.Reader.{reader_feed, reader_is_feed, left_of, allowance_of, ReadsByte};
+ghost use Rattle.ash_lines.specs.Reader.{reader_feed, reader_is_feed, left_of, allowance_of};
+ghost use Rattle.ash_lines.specs.Reader.{ReadsByte};
 
 use crate::source::{ReadFault, Source};
 use std::alloc::{AllocError, Global};
@@ -33,9 +34,12 @@ enum ByteRead {
 }
 
 impl<R: Read + Drop> Reader<R> {
+    /// A source of the bytes of this reader, of which none is read yet. An `Err` means that memory was refused for the
+    /// buffer.
     pub fn new(alloc: Global, reader: R) -> Result<Reader<R>, AllocError>
         ensures left { IfOk result (λ r. left_of R.remaining r ≡ R.remaining reader) }
         ensures allowance { IfOk result (λ r. allowance_of r ≡ 2 ^ 40) }
+        ensures whole { IfOk result (λ r. r.failed ≡ false) }
     {
         match BufReader::new(alloc, reader) {
             Err(_) => Err(AllocError),

@@ -1,12 +1,12 @@
 //! Writing a refusal.
 
-ghost use Rattle.std.specs.Prelude.{◌≡◌, map, string_bytes};
+ghost use Rattle.std.specs.Prelude.{map, string_bytes};
 ghost use Rattle.ash_plain_steps.specs.RequestViews.{refusal_seen};
 ghost use Rattle.ash_sources.specs.SourceFaults.{fault_of};
 ghost use Rattle.ash_lines.specs.Sink.{Writes};
 ghost use Rattle.ash_lines.specs.FaultDetails.{details_of};
-ghost use Rattle.ash_lines.specs.RefusalTexts.{refusal_code, refusal_details, names_text};
-ghost use Rattle.ash_lines.specs.RefusalTexts.{details_text, label_text, refused_text, fault_text, refusal_text};
+ghost use Rattle.ash_lines.specs.RefusalTexts.{names_text, details_text, label_text, refused_text};
+ghost use Rattle.ash_lines.specs.RefusalTexts.{fault_text, refusal_text};
 
 use crate::details::Details;
 use crate::faults::source_details;
@@ -16,7 +16,7 @@ use ash_plain_steps::request::Refusal;
 use ash_sources::fault::SourceFault;
 use itoa::Buffer;
 
-/// Writes the refusal of a request.
+/// Writes the refusal of a request. That of a source is the refusal of the source.
 pub(crate) fn write_refusal<K: Sink>(
     output: &mut K,
     refusal: &Refusal<SourceFault>,
@@ -24,7 +24,10 @@ pub(crate) fn write_refusal<K: Sink>(
     ensures text { Writes K.outlet output.old (refusal_text (refusal_seen fault_of refusal.now))
         result output.new }
 {
-    write_refused(output, refusal_code(refusal), refusal_details(refusal))
+    match refusal.code() {
+        Ok(code) => write_label(output, code),
+        Err(fault) => write_fault(output, fault),
+    }
 }
 
 /// Writes the refusal of a source.
@@ -32,39 +35,6 @@ pub(crate) fn write_fault<K: Sink>(output: &mut K, fault: &SourceFault) -> Resul
     ensures text { Writes K.outlet output.old (fault_text (fault_of fault.now)) result output.new }
 {
     write_refused(output, fault.code(), source_details(fault))
-}
-
-/// The number and the name of a refusal.
-fn refusal_code(refusal: &Refusal<SourceFault>) -> &'static str
-    ensures code { result.now ≡ refusal_code (refusal_seen fault_of refusal.now) }
-{
-    match refusal {
-        Refusal::BadSource(fault) => fault.code(),
-        Refusal::NoModule => "401 NoModule",
-        Refusal::ModuleTaken => "402 ModuleTaken",
-        Refusal::NoFunction => "403 NoFunction",
-        Refusal::NotCallable => "404 NotCallable",
-        Refusal::BadArguments => "405 BadArguments",
-        Refusal::NoGlobal => "406 NoGlobal",
-        Refusal::NoObject => "407 NoObject",
-        Refusal::TooManyModules => "408 TooManyModules",
-        Refusal::BadName => "409 BadName",
-        Refusal::SequenceSpent => "410 SequenceSpent",
-        Refusal::DeviceFailed => "507 DeviceFailed",
-        Refusal::Reopen => "508 Reopen",
-        Refusal::NoMemory => "509 NoMemory",
-        Refusal::GenerationSpent => "511 GenerationSpent",
-    }
-}
-
-/// What a refusal reports of a source.
-fn refusal_details(refusal: &Refusal<SourceFault>) -> Details<'_>
-    ensures details { details_of result ≡ refusal_details (refusal_seen fault_of refusal.now) }
-{
-    match refusal {
-        Refusal::BadSource(fault) => source_details(fault),
-        _ => Details::Nothing,
-    }
 }
 
 /// Writes a refusal by its number and its name, and what it reports of a source.

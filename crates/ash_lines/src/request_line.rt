@@ -1,13 +1,15 @@
 //! What a line asks.
 
-ghost use Rattle.std.specs.Prelude.{◌≡◌, ◌≤◌, ◌∷◌, [], true, Some, None, length, drop, MatchOption};
+ghost use Rattle.std.specs.Prelude.{◌≡◌, ◌≤◌, ◌∷◌, [], List, true, Some, None, length, MatchOption};
 ghost use Rattle.std.specs.Prelude.{vec_capacity, if◌then◌else◌};
 ghost use Rattle.std.specs.List.{list_all};
-ghost use Rattle.ash_lines.specs.Lines.{Line, Complete, is_word, arguments_of, parse_line, parse_verb};
-ghost use Rattle.ash_lines.specs.Lines.{max_line_bytes, max_arguments, parse_load, parse_call, parse_discard};
-ghost use Rattle.ash_lines.specs.Lines.{parse_get, parse_object, parse_lone};
+ghost use Rattle.ash_steps.specs.declared.argument.Argument.{Argument};
+ghost use Rattle.ash_lines.specs.Lines.{Line, Complete, is_word, arguments_of, max_line_bytes};
+ghost use Rattle.ash_lines.specs.Lines.{max_arguments, parse_line, parse_verb, parse_load};
+ghost use Rattle.ash_lines.specs.Lines.{parse_call, parse_discard, parse_get, parse_object};
+ghost use Rattle.ash_lines.specs.Lines.{parse_lone};
 ghost use Rattle.ash_lines.specs.Words.{words_left};
-ghost use Rattle.ash_lines.specs.ParsedLines.{parsed_of, arguments_in, given, IsNotOneWord, IsNotTwoWords};
+ghost use Rattle.ash_lines.specs.ParsedLines.{parsed_of, IsNotOneWord, IsNotTwoWords};
 
 use crate::line::MAX_LINE_BYTES;
 use crate::number::{is_same, parse_argument, parse_length, parse_object_number};
@@ -24,10 +26,19 @@ pub const MAX_ARGUMENTS: usize = MAX_LINE_BYTES + 1;
 pub enum ParsedLine<'a> {
     /// A request of the host, all of it.
     Request(Request<'a>),
+    /// A call with the arguments that are stored.
+    Call(CallHeader<'a>),
     /// A load of the source that follows the line.
     Load(LoadHeader<'a>),
     Quit,
     BadRequest,
+}
+
+/// The line of a call, without its arguments.
+#[derive(Clone, Copy)]
+pub struct CallHeader<'a> {
+    pub module: &'a str,
+    pub function: &'a str,
 }
 
 /// The line of a load.
@@ -38,24 +49,12 @@ pub struct LoadHeader<'a> {
     pub length: u32,
 }
 
-/// Stores the arguments of a call, which are the words of the line after the third, in place of what the buffer had.
-/// Whether each of these words is an argument.
-pub fn store_arguments(line: &[u8], arguments: &mut Vec<Argument>) -> bool
+/// What a line asks. The arguments of a call are stored in place of what the buffer had.
+pub fn parse_line<'a>(line: &'a [u8], arguments: &mut Vec<Argument>) -> ParsedLine<'a>
     requires short { length line.now ≤ max_line_bytes }
     requires room { max_arguments ≤ vec_capacity arguments.old }
-    ensures stored { arguments_in line.now
-        ≡ (if result then Some arguments.new.items else None) }
+    ensures parsed { parsed_of arguments.new.items result ≡ parse_line line.now }
     ensures room { max_arguments ≤ vec_capacity arguments.new }
-{
-    let words = Words::of(line);
-    let rest = words.after_next().after_next().after_next();
-    parse_arguments(rest, arguments)
-}
-
-/// What a line asks, which has these arguments, if each of its words after the third is one.
-pub fn parse_line<'a>(line: &'a [u8], arguments: Option<&'a [Argument]>) -> ParsedLine<'a>
-    requires given { given arguments ≡ arguments_in line.now }
-    ensures parsed { parsed_of result ≡ parse_line line.now }
 {
     if !is_all_words(line) {
         return ParsedLine::BadRequest;
@@ -67,14 +66,13 @@ pub fn parse_line<'a>(line: &'a [u8], arguments: Option<&'a [Argument]>) -> Pars
     }
 }
 
-fn parse_verb<'a>(
-    verb: &[u8],
-    words: Words<'a>,
-    arguments: Option<&'a [Argument]>,
-) -> ParsedLine<'a>
+fn parse_verb<'a>(verb: &[u8], words: Words<'a>, arguments: &mut Vec<Argument>) -> ParsedLine<'a>
     requires words { list_all is_word (words_left words.rest) ≡ true }
-    requires given { given arguments ≡ arguments_of (drop 2 (words_left words.rest)) }
-    ensures parsed { parsed_of result ≡ parse_verb verb.now (words_left words.entry.rest) }
+    requires short { length (words_left words.rest) ≤ max_arguments }
+    requires room { max_arguments ≤ vec_capacity arguments.old }
+    ensures parsed { parsed_of arguments.new.items result
+        ≡ parse_verb verb.now (words_left words.entry.rest) }
+    ensures room { max_arguments ≤ vec_capacity arguments.new }
 {
     if is_same(verb, b"load") {
         parse_load(words)
@@ -99,8 +97,9 @@ fn parse_verb<'a>(
 
 /// A request of one word, if that is all of the line.
 fn parse_lone<'a>(request: ParsedLine<'a>, words: Words<'_>) -> ParsedLine<'a>
-    ensures parsed { (line : Line) → parsed_of request.entry ≡ Complete line
-        → parsed_of result ≡ parse_lone line (words_left words.entry.rest) }
+    ensures parsed { (arguments : List Argument) (line : Line)
+        → parsed_of arguments request.entry ≡ Complete line
+        → parsed_of arguments result ≡ parse_lone line (words_left words.entry.rest) }
 {
     if words.is_empty() {
         request
@@ -111,7 +110,8 @@ fn parse_lone<'a>(request: ParsedLine<'a>, words: Words<'_>) -> ParsedLine<'a>
 
 fn parse_load<'a>(words: Words<'a>) -> ParsedLine<'a>
     requires words { list_all is_word (words_left words.rest) ≡ true }
-    ensures parsed { parsed_of result ≡ parse_load (words_left words.entry.rest) }
+    ensures parsed { (arguments : List Argument)
+        → parsed_of arguments result ≡ parse_load (words_left words.entry.rest) }
 {
     match two_words(words) {
         None => ParsedLine::BadRequest,
@@ -122,10 +122,13 @@ fn parse_load<'a>(words: Words<'a>) -> ParsedLine<'a>
     }
 }
 
-fn parse_call<'a>(mut words: Words<'a>, arguments: Option<&'a [Argument]>) -> ParsedLine<'a>
+fn parse_call<'a>(mut words: Words<'a>, arguments: &mut Vec<Argument>) -> ParsedLine<'a>
     requires words { list_all is_word (words_left words.rest) ≡ true }
-    requires given { given arguments ≡ arguments_of (drop 2 (words_left words.rest)) }
-    ensures parsed { parsed_of result ≡ parse_call (words_left words.entry.rest) }
+    requires short { length (words_left words.rest) ≤ max_arguments }
+    requires room { max_arguments ≤ vec_capacity arguments.old }
+    ensures parsed { parsed_of arguments.new.items result
+        ≡ parse_call (words_left words.entry.rest) }
+    ensures room { max_arguments ≤ vec_capacity arguments.new }
 {
     let Some(module) = words.next() else {
         return ParsedLine::BadRequest;
@@ -133,19 +136,19 @@ fn parse_call<'a>(mut words: Words<'a>, arguments: Option<&'a [Argument]>) -> Pa
     let Some(function) = words.next() else {
         return ParsedLine::BadRequest;
     };
-    match arguments {
-        None => ParsedLine::BadRequest,
-        Some(arguments) => ParsedLine::Request(Request::Call {
-            module: word_str(module),
-            function: word_str(function),
-            arguments,
-        }),
+    if !store_arguments(words, arguments) {
+        return ParsedLine::BadRequest;
     }
+    ParsedLine::Call(CallHeader {
+        module: word_str(module),
+        function: word_str(function),
+    })
 }
 
 fn parse_discard<'a>(words: Words<'a>) -> ParsedLine<'a>
     requires words { list_all is_word (words_left words.rest) ≡ true }
-    ensures parsed { parsed_of result ≡ parse_discard (words_left words.entry.rest) }
+    ensures parsed { (arguments : List Argument)
+        → parsed_of arguments result ≡ parse_discard (words_left words.entry.rest) }
 {
     match one_word(words) {
         None => ParsedLine::BadRequest,
@@ -155,7 +158,8 @@ fn parse_discard<'a>(words: Words<'a>) -> ParsedLine<'a>
 
 fn parse_get<'a>(words: Words<'a>) -> ParsedLine<'a>
     requires words { list_all is_word (words_left words.rest) ≡ true }
-    ensures parsed { parsed_of result ≡ parse_get (words_left words.entry.rest) }
+    ensures parsed { (arguments : List Argument)
+        → parsed_of arguments result ≡ parse_get (words_left words.entry.rest) }
 {
     match two_words(words) {
         None => ParsedLine::BadRequest,
@@ -165,7 +169,8 @@ fn parse_get<'a>(words: Words<'a>) -> ParsedLine<'a>
 
 fn parse_object<'a>(words: Words<'a>) -> ParsedLine<'a>
     requires words { list_all is_word (words_left words.rest) ≡ true }
-    ensures parsed { parsed_of result ≡ parse_object (words_left words.entry.rest) }
+    ensures parsed { (arguments : List Argument)
+        → parsed_of arguments result ≡ parse_object (words_left words.entry.rest) }
 {
     match one_word(words) {
         None => ParsedLine::BadRequest,
@@ -176,11 +181,12 @@ fn parse_object<'a>(words: Words<'a>) -> ParsedLine<'a>
     }
 }
 
-/// Whether each word is an argument. They are stored, up to a word that is none.
-fn parse_arguments(mut words: Words<'_>, arguments: &mut Vec<Argument>) -> bool
+/// Stores arguments, which are the words, in place of what the buffer had, up to a word that is none. Whether each word
+/// is an argument.
+fn store_arguments(mut words: Words<'_>, arguments: &mut Vec<Argument>) -> bool
     requires short { length (words_left words.rest) ≤ max_arguments }
     requires room { max_arguments ≤ vec_capacity arguments.old }
-    ensures read { arguments_of (words_left words.entry.rest)
+    ensures stored { arguments_of (words_left words.entry.rest)
         ≡ (if result then Some arguments.new.items else None) }
     ensures room { max_arguments ≤ vec_capacity arguments.new }
 {

@@ -1,6 +1,6 @@
 //! The words of a line.
 
-ghost use Rattle.std.specs.Prelude.{◌≡◌, [], ◌∷◌, ◌==◌, drop, position, MatchOption, Some, None};
+ghost use Rattle.std.specs.Prelude.{◌≡◌, [], ◌∷◌, ◌==◌, position, MatchOption, Some, None};
 ghost use Rattle.std.specs.List.{list_all};
 ghost use Rattle.ash_lines.specs.Lines.{pieces, is_visible, is_word};
 ghost use Rattle.ash_lines.specs.Words.{words_left, is_none_left};
@@ -27,17 +27,6 @@ impl<'a> Words<'a> {
         ensures empty { result ≡ is_none_left (words_left self.now.rest) }
     {
         self.rest.is_none()
-    }
-
-    /// The pieces after the next one.
-    pub(crate) fn after_next(self) -> Words<'a>
-        ensures pieces { words_left result.rest ≡ drop 1 (words_left self.entry.rest) }
-    {
-        let mut words = self;
-        match words.next() {
-            None => Words { rest: None },
-            Some(_) => words,
-        }
     }
 
     /// The next piece.

@@ -1,6 +1,6 @@
 //! A sink over any writer.
 
-ghost use Rattle.std.specs.Prelude.{◌≡◌, ◌≤◌, [], ◌++◌, length, take, IfOk, IfErr, OnOk};
+ghost use Rattle.std.specs.Prelude.{◌≡◌, ◌≤◌, [], ◌++◌, length, take, false, IfOk, IfErr, OnOk};
 ghost use Rattle.std.specs.Io.KnownBytes.{Keeps, Appends};
 ghost use Rattle.ash_lines.specs.Writer.{writer_outlet, writer_is_outlet, WritesOut, WritesThrough};
 
@@ -20,6 +20,7 @@ impl<'a, W: Write> Writer<'a, W> {
     pub fn new(writer: &'a mut W, mut buffer: Vec<u8>) -> Writer<'a, W>
         ensures buffered { result.buffer.items ≡ [] }
         ensures writer { result.writer ≡ writer.entry }
+        ensures whole { result.failed ≡ false }
     {
         buffer.clear();
         Writer {

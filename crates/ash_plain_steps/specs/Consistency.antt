@@ -21,8 +21,8 @@ abbrev pub IsRead : {Fault : Type 0} → Embedding Fault → code_module.LoadedM
 IsRead embedding m = embedding.read m.source.items ≡ Ok (module_of m.tree)
 
 -- The modules ascend by their names, and the typed tree of each is what its source is read as.
-pub record AreConsistent {Fault : Type 0} (embedding : Embedding Fault) (ms : List code_module.LoadedModule)
-    : Type 0 where
+pub record AreConsistent {Fault : Type 0} (embedding : Embedding Fault)
+    (ms : List code_module.LoadedModule) : Type 0 where
   pub ascending : Ascend (modules_seen ms)
   pub read : AllByRecursion (IsRead embedding) ms
 

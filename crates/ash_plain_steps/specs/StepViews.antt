@@ -60,8 +60,8 @@ module _ {Code Fault : Type 0} (fault : Code → Fault) (takes : Fault → Type 
 
 -- A module that can be loaded: a sequence number is left, its tree is what its source is read as, and none has its
 -- name.
-pub record IsLoadable {Fault : Type 0} (embedding : Embedding Fault) (state : PlainState) (new : NewModule)
-    : Type 0 where
+pub record IsLoadable {Fault : Type 0} (embedding : Embedding Fault) (state : PlainState)
+    (new : NewModule) : Type 0 where
   pub numbered : state.seq < max_seq
   pub read : embedding.read new.source.now ≡ Ok (module_of new.tree)
   pub absent : find_module new.name.now (state_seen state) ≡ None
@@ -82,5 +82,5 @@ IsPerformable embedding state _ = Unit {0}
 pub record IsAfterCall {Code Fault : Type 0} (fault : Code → Fault) (ms : List LoadedModule) (place : ℕ)
     (m : LoadedModule) (outcome : code_outcome.Outcome) (old : State) (new : code_step.Step Code) : Type 0 where
   pub globals : new.state.modules.items ≡ set ms place (record m { globals = outcome.world.globals })
-  pub stepped : step_seen fault new ≡ answered (end_seen outcome.end) (modules_seen new.state.modules.items)
-      (world_seen outcome.world) old
+  pub stepped : step_seen fault new
+      ≡ answered (end_seen outcome.end) (modules_seen new.state.modules.items) (world_seen outcome.world) old

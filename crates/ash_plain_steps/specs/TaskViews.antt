@@ -1,6 +1,6 @@
 -- What the code's tasks represent, and what the code gives where it refuses.
-use Rattle.std.specs.Prelude.{◌≡◌, ℕ, List, Option, Some, None, Result, Ok, Err}
-use Rattle.std.specs.Prelude.{option_map, slice_get, if◌then◌else◌, codes}
+use Rattle.std.specs.Prelude.{◌≡◌, ℕ, List, Option, Some, None, Result, Ok, Err, option_map, slice_get}
+use Rattle.std.specs.Prelude.{if◌then◌else◌, codes}
 use Rattle.std.specs.List.{find, position_from}
 use Rattle.std.specs.Str.{bytes_eq}
 use Rattle.std.specs.Option.{option_and_then}
@@ -11,8 +11,8 @@ use Rattle.ash_typed.specs.SoundModules.{names_of_globals}
 use Rattle.ash_steps.specs.States.{has_name}
 use Rattle.ash_phrases.specs.Classes.{dotted}
 use Rattle.ash_steps.specs.Requests.{BadSource, ObjectContents, Fields, HostState, Elements}
-use Rattle.ash_steps.specs.Tasks.{Task, Initialize, Invoke, Remove, Read, Show, Count}
-use Rattle.ash_steps.specs.Tasks.{Rewrite, TaskResult, class_placed, shown_fields}
+use Rattle.ash_steps.specs.Tasks.{Task, Initialize, Invoke, Remove, Read, Show, Count, Rewrite, TaskResult}
+use Rattle.ash_steps.specs.Tasks.{class_placed, shown_fields}
 use Rattle.ash_plain_steps.specs.declared.state.LoadedModule.{LoadedModule}
 use Rattle.ash_plain_steps.specs.declared.request.Refusal as refusal
 use Rattle.ash_plain_steps.specs.declared.request.Refusal.TheVariants as refusals
@@ -25,7 +25,8 @@ use Rattle.ash_plain_steps.specs.RequestViews.{refusal_seen, shown_seen}
 abbrev pub task_seen : List LoadedModule → task.Task → Option Task
 task_seen ms (tasks.Initialize new) = Some (Initialize new.name.now new.source.now (module_of new.tree))
 task_seen ms (tasks.Invoke call) =
-    option_map (λ m. Invoke (loaded_seen m) (module_of m.tree) call.function call.args.items) (slice_get ms call.module)
+    option_map (λ m. Invoke (loaded_seen m) (module_of m.tree) call.function call.args.items)
+    (slice_get ms call.module)
 task_seen ms (tasks.Remove place) = option_map (λ m. Remove (loaded_seen m).name) (slice_get ms place)
 task_seen ms (tasks.Read word) = Some (Read word)
 task_seen ms (tasks.Show shown) = Some (Show (shown_seen shown))
@@ -54,11 +55,11 @@ abbrev pub GivesTask : {Code Fault : Type 0} → (Code → Fault) → (Fault →
 GivesTask fault takes ms (Ok t) wanted = option_map (λ one. Ok one) (task_seen ms t) ≡ Some wanted
 GivesTask fault takes ms (Err r) wanted = RefusesAs fault takes r wanted
 
--- The code finds what the task is of that the definitions give, or refuses.
-abbrev pub FindsForTask : {X Code Fault : Type 0} → (Code → Fault) → (Fault → Type 0) → (X → Task)
+-- The code finds what a task is made of, or refuses.
+abbrev pub FindsFor : {X Code Fault : Type 0} → (Code → Fault) → (Fault → Type 0) → (X → Task)
     → Result X (refusal.Refusal Code) → TaskResult Fault → Type 0
-FindsForTask fault takes view (Ok x) wanted = wanted ≡ Ok (view x)
-FindsForTask fault takes view (Err r) wanted = RefusesAs fault takes r wanted
+FindsFor fault takes view (Ok x) wanted = wanted ≡ Ok (view x)
+FindsFor fault takes view (Err r) wanted = RefusesAs fault takes r wanted
 
 -- the module of a name
 abbrev pub module_named : List ℕ → List LoadedModule → Option LoadedModule

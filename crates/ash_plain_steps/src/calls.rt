@@ -3,7 +3,7 @@
 ghost use Rattle.ash_typed.specs.Modules.{module_of};
 ghost use Rattle.ash_steps.specs.States.{LoadedModule};
 ghost use Rattle.ash_steps.specs.Tasks.{Invoke, call_in};
-ghost use Rattle.ash_plain_steps.specs.TaskViews.{FindsForTask};
+ghost use Rattle.ash_plain_steps.specs.TaskViews.{FindsFor};
 
 use crate::arguments::{arguments_of, is_callable};
 use crate::functions::place_of_function;
@@ -23,7 +23,7 @@ pub(crate) fn call_in<S: Sources>(
     name: &str,
     arguments: &[Argument],
 ) -> Result<(usize, Vec<Word>), Refusal<S::Fault>>
-    ensures { (m : LoadedModule) → FindsForTask S.fault_seen S.TakesMemory
+    ensures { (m : LoadedModule) → FindsFor S.fault_seen S.TakesMemory
         (λ found. Invoke m (module_of tree.now) found.0 found.1.items) result
         (call_in m (module_of tree.now) name.now arguments.now) }
 {

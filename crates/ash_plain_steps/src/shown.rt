@@ -1,7 +1,7 @@
 //! Objects as replies show them.
 
-ghost use Rattle.std.specs.Prelude.{◌≡◌, ◌+◌, map, codes, slice_get, option_map};
-ghost use Rattle.std.specs.Prelude.{IfOk, OnErr, IsSome, string_bytes};
+ghost use Rattle.std.specs.Prelude.{◌≡◌, ◌+◌, map, codes, slice_get, option_map, IfOk, OnErr};
+ghost use Rattle.std.specs.Prelude.{IsSome, string_bytes};
 ghost use Rattle.std.specs.List.{zip};
 ghost use Rattle.ash_host.specs.Objects.{handles_to, count_of};
 ghost use Rattle.ash_typed.specs.BodyViews.{value_of};

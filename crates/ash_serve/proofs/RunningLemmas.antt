@@ -5,11 +5,13 @@ use Rattle.std.proofs.lemmas.List.{append-nil}
 use Rattle.std.specs.Option.{option_to_list}
 use Rattle.std.specs.Io.Buffered.{reader_remaining}
 use Rattle.std.specs.Io.KnownBytes.{Appends, Keeps, Consumes, IsAtEnd, prepend_known}
+use Rattle.ash_steps.specs.Requests.{Request, Reply}
+use Rattle.ash_sources.specs.SourceFaults.{SourceFault}
 use Rattle.ash_lines.specs.Lines.{Line, HostRequest, Quit, BadRequest, LineTooLong, ConsistsOf}
 use Rattle.ash_lines.specs.Replies.{LineReply, HostReply, QuitReply, BadRequestReply, LineTooLongReply, reply_line}
 use Rattle.ash_lines.specs.Replies.{text_of}
 use Rattle.ash_lines.specs.Sink.{WritesAll}
-use Rattle.ash_serve.specs.Serving.{RequestRelation, Preserves, RepliesTo, RepliesToAll, Log, Serves, HandlesLine}
+use Rattle.ash_serve.specs.Serving.{RequestRelation, RepliesTo, RepliesToAll, Log, Serves, HandlesLine}
 use Rattle.ash_serve.specs.Serving.{EndsBetweenRequests}
 use Rattle.ash_serve.specs.Running.{Run, RunEnds, ReadsPrefix, ReadsProperPrefix, ReadsAll, GoOn, EndsWithQuit}
 use Rattle.ash_lines.specs.Reader.{left_of, allowance_of, reader_feed, reader_is_feed}
@@ -158,6 +160,12 @@ run_writes remaining contents handles budget s t k o h i input r before x e a b 
     (subst (λ (y : _). RunEnds input handles budget h (contents k.writer.now) r i (contents y)) (sym (f (serves_name remaining contents handles budget s t k o h i r w))) ends)
 
 -- what each request preserves, a run preserves
+
+-- What holds of a host before a request holds of it afterwards.
+abbrev pub Preserves : {H : Type 0} → RequestRelation H → (H → Type 0) → Type 0
+Preserves {H} handles holds =
+    (budget : ℕ) (request : Request) (old new : H) (reply : Reply SourceFault)
+    → handles budget request old reply new → holds old → holds new
 
 replies-preserve : {H : Type 0} (handles : RequestRelation H) (holds : H → Type 0) → Preserves handles holds → (budget : ℕ) (line : Line) (line_reply : LineReply) (old new : H) → RepliesTo handles budget old line line_reply new → holds old → holds new
 replies-preserve handles holds is budget (HostRequest request) (HostReply reply) old new a h = is budget request old new reply a h

@@ -66,7 +66,8 @@ WritesVerdict outlet old verdict (Err _) new = ⊥
 -- A script was read: all that a source gives, or the first 65,537 bytes, by which it is seen to be too long.
 abbrev pub ReadsScript : {S : Type 0} → Feed S → S → List ℕ → S → Type 0
 ReadsScript feed old script new =
-    feed.reads old script new × ((length script ≡ max_prefix_bytes) ⊎ ((length script < max_prefix_bytes) × feed.ended new))
+    feed.reads old script new
+    × ((length script ≡ max_prefix_bytes) ⊎ ((length script < max_prefix_bytes) × feed.ended new))
 
 -- The script of a source was read and the verdict on it was written; or a read or a write failed, or there was no
 -- memory.

@@ -33,12 +33,6 @@ DependsOnPrefix {H} handles =
     (budget : ℕ) (name source : List ℕ) (old new : H) (reply : Reply SourceFault)
     → handles budget (Load name (source_prefix source)) old reply new → handles budget (Load name source) old reply new
 
--- What holds of a host before a request holds of it afterwards.
-abbrev pub Preserves : {H : Type 0} → RequestRelation H → (H → Type 0) → Type 0
-Preserves {H} handles holds =
-    (budget : ℕ) (request : Request) (old new : H) (reply : Reply SourceFault)
-    → handles budget request old reply new → holds old → holds new
-
 -- The reply to a line: what the host replies to its request, or one that leaves the host as it is.
 abbrev pub RepliesTo : {H : Type 0} → RequestRelation H → ℕ → H → Line → LineReply → H → Type 0
 RepliesTo handles budget old (HostRequest request) (HostReply reply) new = handles budget request old reply new

@@ -43,8 +43,5 @@ pub fn serve<S: Source, K: Sink, H: RequestHandler>(
 fn ends_run(reply: &LineReply) -> bool
     ensures quit { result ≡ ends_run (line_reply_of reply.now) }
 {
-    match reply {
-        LineReply::Quit => true,
-        _ => false,
-    }
+    matches!(reply, LineReply::Quit)
 }

@@ -11,7 +11,7 @@ use crate::handler::RequestHandler;
 use ash_lines::bytes::{BytesRead, MAX_PREFIX_BYTES, read_bytes};
 use ash_lines::line::{LineRead, LineRest, MAX_LINE_BYTES, read_line, skip_line};
 use ash_lines::reply::LineReply;
-use ash_lines::request_line::{LoadHeader, MAX_ARGUMENTS, ParsedLine, parse_line, store_arguments};
+use ash_lines::request_line::{LoadHeader, MAX_ARGUMENTS, ParsedLine, parse_line};
 use ash_lines::source::Source;
 use ash_plain_steps::request::Request;
 use ash_steps::Argument;
@@ -77,11 +77,16 @@ impl Session {
         ensures budget { self.new.budget ≡ self.old.budget }
     {
         let line = self.line.as_slice();
-        let arguments = store_arguments(line, &mut self.arguments).then_some(
-            self.arguments.as_slice(),
-        );
-        match parse_line(line, arguments) {
+        match parse_line(line, &mut self.arguments) {
             ParsedLine::Request(request) => Ok(LineReply::Host(host.handle(&request, self.budget))),
+            ParsedLine::Call(header) => {
+                let request = Request::Call {
+                    module: header.module,
+                    function: header.function,
+                    arguments: self.arguments.as_slice(),
+                };
+                Ok(LineReply::Host(host.handle(&request, self.budget)))
+            }
             ParsedLine::Load(header) => {
                 handle_load(input, host, self.budget, header, &mut self.prefix)
             }

@@ -51,7 +51,7 @@ pub fn serve_stored<D: Disk, R: Read + Drop, W: Write>(
     } = service;
     match Host::open(alloc, a, b, registry) {
         Ok(host) => serve_host(alloc, host, reader, writer, budget),
-        Err(refused) => refusal(refused),
+        Err(refused) => end_without_host(refused),
     }
 }
 
@@ -75,7 +75,7 @@ pub fn serve_new<D: Disk, R: Read + Drop, W: Write>(
     } = service;
     match Host::create(alloc, a, b, registry) {
         Ok(host) => serve_host(alloc, host, reader, writer, budget),
-        Err(refused) => refusal(refused),
+        Err(refused) => end_without_host(refused),
     }
 }
 
@@ -99,7 +99,7 @@ fn serve_host<D: Disk, R: Read + Drop, W: Write>(
 }
 
 /// Why there is no host, and the disks that it was to have.
-fn refusal<D>(refused: OpenRefused<D>) -> ServiceEnd<D>
+fn end_without_host<D>(refused: OpenRefused<D>) -> ServiceEnd<D>
     ensures end { result.end ≡ Err (faults.Store refused.fault) }
     ensures a { result.a ≡ refused.a }
     ensures b { result.b ≡ refused.b }

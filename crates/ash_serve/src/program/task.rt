@@ -39,7 +39,7 @@ impl<'a> Task<'a> {
     pub fn read(alloc: Global, words: &'a [String]) -> Result<Task<'a>, Fault> {
         let matches = match command(alloc)?.try_get_matches_from(words) {
             Ok(matches) => matches,
-            Err(error) => return Err(refusal(error.kind())),
+            Err(error) => return Err(fault_of_words(error.kind())),
         };
         match matches.subcommand() {
             Some(("try", matches)) => Ok(Task::Try {
@@ -98,8 +98,8 @@ fn file_word<'a>(alloc: Global) -> Arg<'a> {
         .action(ArgAction::Set)
 }
 
-/// A request for help is a use of words like any other wrong one.
-fn refusal(kind: ErrorKind) -> Fault {
+/// Why words are refused. A request for help is a use of words like any other wrong one.
+fn fault_of_words(kind: ErrorKind) -> Fault {
     match kind {
         ErrorKind::OutOfMemory => Fault::NoMemory,
         _ => Fault::Usage,

@@ -1,11 +1,9 @@
-use Rattle.std.proofs.Common.{rules, ◌≡◌, ◌+◌, ◌∙◌, ℕ, List, Ok, Err, drop, sym, subst}
+use Rattle.std.proofs.Common.{rules, ◌≡◌, ◌+◌, ◌∙◌, List, Ok, Err, drop, sym, subst}
 use Rattle.std.specs.List.{AllByRecursion}
 use Rattle.ash_journal.specs.declared.record.Record.{Record}
 use Rattle.ash_journal.specs.Reading.{bodies_of}
 use Rattle.ash_registry.specs.Registrations.{Registration}
-use Rattle.ash_registry.specs.Registered.{registered}
 use Rattle.ash_registry.specs.Text.{text_of}
-use Rattle.ash_durable.specs.States.{IsBodyOf}
 use Rattle.ash_durable.specs.Contents.{IsBodyWith, LeadsOn, LeadsThrough}
 use Rattle.ash_durable.proofs.Reading.{left_from, through_more, through_none}
 use Rattle.ash_durable.proofs.contents.last_state.Goals as goal
@@ -21,10 +19,8 @@ loop-record-preserved c =
     let shaped = subst (λ (l : List Record).
     AllByRecursion (IsBodyWith version (text_of before.registered)) (bodies_of l))
     left c.loop-record.invariant.shaped.1 in
-    let on : LeadsOn before.registered r.body.items r.gate (Ok next) = (
-      c.in_ok-state.ensures.0 ∙ c.into_registry.ensures.same,
-      subst (λ (body : List ℕ). IsBodyOf body next) c.deref.ensures.value c.in_ok-state.ensures.1,
-    ) in
+    let on : LeadsOn before.registered r.body.items r.gate (Ok next) =
+    (c.in_ok-state.ensures.0 ∙ c.into_registry.ensures.same, c.in_ok-state.ensures.1) in
     record {
       shaped = (
         version,
@@ -46,8 +42,7 @@ returns-in_err-state c =
     let reported : c.from_residual.result ≡ Err fault = search rules in
     let on : LeadsOn before.registered r.body.items r.gate (Err fault) =
     subst (λ (of : List Registration). LeadsOn of r.body.items r.gate (Err fault)) c.into_registry.ensures.same
-    (subst (λ (body : List ℕ). LeadsOn (registered c.into_registry.result) body r.gate (Err fault))
-    c.deref.ensures.value c.in_err-state.ensures) in
+    c.in_err-state.ensures in
     rw reported (c.loop-record.invariant.leads (Err fault)
     (subst (λ (l : List Record). LeadsThrough before l (Err fault)) (sym left)
     (through_none before r later fault on)))

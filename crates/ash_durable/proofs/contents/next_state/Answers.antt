@@ -1,8 +1,10 @@
-use Rattle.std.proofs.Common.{◌≡◌, ◌∙◌, true, false, ap}
+use Rattle.std.proofs.Common.{◌≡◌, ◌∙◌, ℕ, List, true, false, ap, sym, subst}
 use Rattle.ash_registry.specs.Registered.{registered}
 use Rattle.ash_registry.specs.Text.{text_of}
+use Rattle.ash_state_image.specs.Rules.{IsBody}
 use Rattle.ash_state_image.specs.Snapshots.{Snapshot}
 use Rattle.ash_state_image.specs.Views.{snapshot_of}
+use Rattle.ash_durable.specs.Contents.{IsBodyWith}
 use Rattle.ash_durable.proofs.ContentsStates.{body_once}
 use Rattle.ash_durable.proofs.Reading.{image_shaped, leads_on, no_body_with}
 use Rattle.ash_durable.proofs.contents.next_state.Goals as goal
@@ -17,15 +19,20 @@ pub returns-in-Some : goal.returns-in-Some
 returns-in-Some c =
     let stored = c.in-Some.stored in
     let s = snapshot_of stored.state in
-    let is_body = rw c.in-Some.is at c.in_ok-stored.ensures.found in
+    let body = c.args.next.now.body.items in
+    let is_body : IsBody body stored.version s = subst (λ (bytes : List ℕ). IsBody bytes stored.version s)
+    c.deref.ensures.value (rw c.in-Some.is at c.in_ok-stored.ensures.found) in
     let text : s.registered ≡ text_of (registered c.args.registry) =
     ap (λ (t : Snapshot). t.registered)
-    (body_once c.args.body.now stored.version c.requires.0 s c.requires.1.0 is_body c.requires.1.1) ∙ c.requires.1.2 in
-    leads_on (registered c.args.registry) c.args.body.now stored.version s c.args.gate c.restore.result is_body text
+    (body_once body stored.version c.requires.0 s c.requires.1.0 is_body c.requires.1.1) ∙ c.requires.1.2 in
+    leads_on (registered c.args.registry) body stored.version s c.args.next.now.gate c.restore.result is_body text
     c.restore.ensures
 
 pub returns-in-None : goal.returns-in-None
 returns-in-None c =
-    let no : false ≡ true = (no_body_with c.requires.0 (text_of (registered c.args.registry)) c.args.body.now
-    c.in_ok-stored.field-0 c.in-None.is c.in_ok-stored.ensures.only).1 c.requires.1 in
+    let text = text_of (registered c.args.registry) in
+    let shaped = subst (λ (bytes : List ℕ). IsBodyWith c.requires.0 text bytes) (sym c.deref.ensures.value)
+    c.requires.1 in
+    let no : false ≡ true = (no_body_with c.requires.0 text c.deref.result.now
+    c.in_ok-stored.field-0 c.in-None.is c.in_ok-stored.ensures.only).1 shaped in
     absurd (cc)

@@ -6,7 +6,7 @@ use Rattle.ash_durable.proofs.store.find.Goals as goal
 pub returns-in-Ok : goal.returns-in-Ok
 returns-in-Ok g c =
     let e = c.in-Ok.ensures in
-    finds g.D.Disk (registered c.args.registry) c.args.a c.args.b c.in-Ok.opened c.settled.result
+    finds g.D.Disk (registered c.args.registry) c.args.a c.args.b c.in-Ok.opened c.settle.result
     (record {
       holds = λ honest. e.found honest.honest_first honest.honest_second;
       placed = λ honest. e.offsets honest.honest_first honest.honest_second;
@@ -16,7 +16,7 @@ returns-in-Ok g c =
       read = record { read_first = e.first_read; read_second = e.second_read };
       counts = e.cause;
     })
-    c.settled.ensures
+    c.settle.ensures
 
 pub returns-in-Err : goal.returns-in-Err
 returns-in-Err g c =
@@ -28,5 +28,5 @@ returns-in-Err g c =
     (λ honest. e.extends honest.honest_first honest.honest_second)
     e.first_read e.second_read e.cause)
 
-pub settled-requires : goal.settled-requires
-settled-requires g c = c.in-Ok.ensures.sound
+pub settle-requires : goal.settle-requires
+settle-requires g c = c.in-Ok.ensures.sound

@@ -1,5 +1,6 @@
 use Rattle.std.proofs.Common.{List, ℕ}
-use Rattle.ash_lines.specs.Reading.{ReadsLinePart, HasSkipped}
+use Rattle.ash_lines.specs.Reading.{ReadsLinePart}
+use Rattle.ash_lines.proofs.SourceLemmas.{HasSkipped}
 use Rattle.ash_lines.proofs.line.skip_line.Given as goal
 
 abbrev pub invariant-bytes : goal.invariant-bytes

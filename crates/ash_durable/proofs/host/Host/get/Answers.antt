@@ -12,4 +12,4 @@ returns-clause-handled g c budget =
 pub returns-clause-unchanged : goal.returns-clause-unchanged
 returns-clause-unchanged g c =
     reads_only g.D.Disk 0 (Get c.args.module.now c.args.name.now) c.args.self.now
-    (reply_seen fault_of c.handle.result) c.handle.new.self (λ no. no) (λ no. no) c.handle.ensures.handled
+    (reply_seen fault_of c.handle.result) c.handle.new.self (λ no. no) (λ no. no.0) c.handle.ensures.handled

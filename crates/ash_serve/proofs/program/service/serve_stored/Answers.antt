@@ -10,6 +10,6 @@ returns-in-Ok g c = record {
 
 pub returns-in-Err : goal.returns-in-Err
 returns-in-Err g c =
-    let e = c.refusal.ensures in record {
-      serves = serves_refused g.D.Disk (Opens g.D.Disk (registered c.args.service.registry) c.args.service.a c.args.service.b) c.in-Err.refused _ _ _ c.refusal.result.end c.refusal.result.a c.refusal.result.b e.end e.a e.b c.in-Err.ensures.opened;
+    let e = c.end_without_host.ensures in record {
+      serves = serves_refused g.D.Disk (Opens g.D.Disk (registered c.args.service.registry) c.args.service.a c.args.service.b) c.in-Err.refused _ _ _ c.end_without_host.result.end c.end_without_host.result.a c.end_without_host.result.b e.end e.a e.b c.in-Err.ensures.opened;
     }

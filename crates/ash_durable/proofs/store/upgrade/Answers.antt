@@ -1,12 +1,12 @@
 use Rattle.std.proofs.Common.{◌≡◌, true, false, inl, inr, refl}
 use Rattle.std.proofs.lemmas.Bool.{false≢true}
 use Rattle.ash_durable.proofs.Moving.{next_settled, not_prepared, was_moved, was_not_moved}
-use Rattle.ash_durable.proofs.store.moved.Goals as goal
+use Rattle.ash_durable.proofs.store.upgrade.Goals as goal
 
 pub returns-in-Err : goal.returns-in-Err
 returns-in-Err g c =
-    inl (not_prepared c.args.state c.args.journal c.in-Err.cause c.refused.result c.refused.ensures.fault
-    c.refused.ensures.a c.refused.ensures.b c.in-Err.ensures)
+    inl (not_prepared c.args.state c.args.journal c.in-Err.cause c.refusal_of.result c.refusal_of.ensures.fault
+    c.refusal_of.ensures.a c.refusal_of.ensures.b c.in-Err.ensures)
 
 pub install_next-requires : goal.install_next-requires
 install_next-requires g c =
@@ -46,7 +46,7 @@ returns-in-Err-install_next g c =
     inr (inr (
       old,
       settled,
-      was_not_moved g.D.Disk c.args.state old c.install_next.new.self prepared.0 prepared.1 c.refused-in-Err-install_next.result
-          (true ≡ true) refl c.refused-in-Err-install_next.ensures.fault c.refused-in-Err-install_next.ensures.a c.refused-in-Err-install_next.ensures.b e.untouched
+      was_not_moved g.D.Disk c.args.state old c.install_next.new.self prepared.0 prepared.1 c.refusal_of-in-Err-install_next.result
+          (true ≡ true) refl c.refusal_of-in-Err-install_next.ensures.fault c.refusal_of-in-Err-install_next.ensures.a c.refusal_of-in-Err-install_next.ensures.b e.untouched
           (λ was bodies holds. e.run prepared.0 was bodies next holds) e.cause e.honesty_first e.honesty_second,
     ))

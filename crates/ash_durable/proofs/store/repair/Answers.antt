@@ -1,7 +1,7 @@
 use Rattle.std.proofs.Common.{◌≡◌, true, false, refl}
 use Rattle.std.proofs.lemmas.Bool.{false≢true}
 use Rattle.ash_durable.proofs.Finding.{has_settled, failed_to_settle}
-use Rattle.ash_durable.proofs.store.repaired.Goals as goal
+use Rattle.ash_durable.proofs.store.repair.Goals as goal
 
 pub returns-in-Ok : goal.returns-in-Ok
 returns-in-Ok g c =
@@ -21,8 +21,8 @@ returns-in-Ok g c =
 pub returns-in-Err : goal.returns-in-Err
 returns-in-Err g c =
     let e = c.in-Err.ensures in
-    failed_to_settle g.D.Disk c.args.journal c.settle.new.self c.refused.result (true ≡ true) refl
-    c.refused.ensures.fault c.refused.ensures.a c.refused.ensures.b
+    failed_to_settle g.D.Disk c.args.journal c.settle.new.self c.refusal_of.result (true ≡ true) refl
+    c.refusal_of.ensures.fault c.refusal_of.ensures.a c.refusal_of.ensures.b
     (record {
       only_pending = e.untouched;
       only_gates = λ contents finds. e.gates _ _ finds;
