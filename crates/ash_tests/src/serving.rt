@@ -217,7 +217,6 @@ static NUMBERED: [(RunFault, &str); 5] = [
     (RunFault::NoMemory, "509 NoMemory"),
 ];
 
-
 #[test]
 fn a_check_whose_file_or_line_fails(rt: HostRuntime) -> Result<(), Fail> {
     let registry = Registry::new(rt.alloc());
@@ -252,6 +251,11 @@ fn each_fault_has_its_number_and_a_sentence(rt: HostRuntime) -> Result<(), Fail>
         check_text(&rt, fault.code(), wanted, "the code of a fault");
     }
     let sentence = format!(in rt.alloc(); "{}", Fault::Run(RunFault::Truncated))?;
-    check_text(&rt, &sentence, "the input ended inside a request", "a fault as a sentence");
+    check_text(
+        &rt,
+        &sentence,
+        "the input ended inside a request",
+        "a fault as a sentence",
+    );
     Ok(())
 }
