@@ -1,6 +1,6 @@
 -- Entries of objects, as the code has them and as the definitions see them.
-use Rattle.std.proofs.Common.{◌≡◌, ℕ, Bool, true, false, cond, not, List, [], ◌∷◌, ◌++◌, refl, sym, ap, subst, ◌∙◌, nat_eq, arith, Option, Some, None, map}
-use Rattle.std.specs.Prelude.{filter, ◌&&◌}
+use Rattle.std.proofs.Common.{◌≡◌, ℕ, Bool, true, false, cond, List, [], ◌∷◌, refl, sym, ap, subst, ◌∙◌, nat_eq, arith, Option, Some, None, map}
+use Rattle.std.specs.Prelude.{filter}
 use Rattle.std.specs.Borrow.{Bor}
 use Rattle.std.specs.Option.{option_map, option_copied}
 use Rattle.std.specs.List.Sorted.{IsStrictlySortedBy}
@@ -11,7 +11,7 @@ use Rattle.std.proofs.Common.{Less, Equal, Greater}
 use Rattle.std.specs.BTreeMap.{is_at, insert_entry}
 use Rattle.std.proofs.lemmas.Bool.Decides.{nat_tests}
 use Rattle.std.proofs.lemmas.Map.Keys.{IsStrictlyIncreasing-from_sorted}
-use Rattle.ash_host.specs.Objects.{Plain, Objects, IsInOrder, object_at, with_at}
+use Rattle.ash_host.specs.Objects.{Plain, IsInOrder, object_at, with_at}
 use Rattle.ash_plain_data.specs.declared.object.Object as object
 use Rattle.ash_plain_data.specs.ObjectViews.{object_seen, entry_seen}
 

@@ -1,18 +1,19 @@
 -- What is found from what is held is what can be reached, and what goes is what a sweep takes.
 use Rattle.std.proofs.Common.{◌≡◌, ◌<◌, ◌≤◌, ◌+◌, ℕ, zero, suc, Bool, true, false, cond, not, List, [], ◌∷◌, ◌++◌, ◌⊎◌, inl, inr, length, get_or, refl, sym, subst, ap, ◌∙◌, nat_eq, arith, Option, Some, None, map, append-nil, append_assoc, length-append}
-use Rattle.std.specs.Prelude.{filter, ◌&&◌, ◌||◌, is_some, IsSome, Contains}
-use Rattle.std.specs.List.{list_any, IsDistinct}
+use Rattle.std.specs.Prelude.{slice_get, filter, ◌&&◌, is_some, Contains}
+use Rattle.std.specs.List.{IsDistinct}
 use Rattle.std.specs.Option.{option_map_or, is_none}
 use Rattle.std.specs.Map.{keys_of}
 use Rattle.std.proofs.lemmas.Bool.{eqb-true, eq-eqb}
 use Rattle.std.proofs.lemmas.Cmp.{nat_eq_equiv}
-use Rattle.std.proofs.lemmas.List.{get_or_append_left, get_or_read}
+use Rattle.std.proofs.lemmas.List.{get_or_append_left}
+use Rattle.std.proofs.lemmas.Option.{get_or_from_slice_get}
 use Rattle.std.proofs.lemmas.List.Folds.{list_any-append}
 use Rattle.std.proofs.lemmas.Map.Keys.{IsDistinct-push}
 use Rattle.std.proofs.lemmas.Map.Steps.{length-le_from_keys}
 use Rattle.ash_host.specs.declared.word.Word.{Word}
-use Rattle.ash_host.specs.Objects.{Plain, Objects, object_at, numbers, Lives, references, Refers, handles, fields_of, is_host}
-use Rattle.ash_host.specs.Reach.{Reachable, Root, Field, ReachableIn, is_among, is_reachable, after_sweep, hosts_gone, drops_of_sweep}
+use Rattle.ash_host.specs.Objects.{Plain, Objects, object_at, numbers, Lives, references, handles, fields_of, is_host}
+use Rattle.ash_host.specs.Reach.{Root, Field, ReachableIn, is_among, is_reachable, after_sweep, drops_of_sweep}
 use Rattle.ash_host.proofs.Membership.{or_cases, or_first, or_second, is_among_yes, is_among_says, is_among-numbers, refers_lives}
 use Rattle.ash_host.proofs.ReachLaws.{is_reachable_says, is_reachable_yes, object_at-after_sweep}
 use Rattle.ash_plain_data.specs.declared.object.Object as object
@@ -177,9 +178,9 @@ module _ (objects : Objects (List ℕ)) where
       low_or_last i low = grind arith
 
   -- the same, by what the calls of the code give
-  pub search_step : (held found : List ℕ) (next one : ℕ) (words : List Word) (numbers new : List ℕ) → next < length found → one ≡ get_or found next one → words ≡ option_map_or fields_of (object_at one objects) [] → numbers ≡ handles words → new ≡ with_found objects numbers found → IsSearch held found next → IsSearch held new (next + 1)
+  pub search_step : (held found : List ℕ) (next one : ℕ) (words : List Word) (numbers new : List ℕ) → next < length found → slice_get found next ≡ Some one → words ≡ option_map_or fields_of (object_at one objects) [] → numbers ≡ handles words → new ≡ with_found objects numbers found → IsSearch held found next → IsSearch held new (next + 1)
   search_step held found next one words numbers new below is read listed made s =
-      let at : one ≡ get_or found next 0 = get_or_read found next one below is 0 in
+      let at : one ≡ get_or found next 0 = sym (get_or_from_slice_get found next one 0 is) in
       let all : numbers ≡ references objects (get_or found next 0) = listed ∙ ap handles read ∙ handles_of_words (object_at one objects) ∙ ap (references objects) at in
       subst (λ (l : List ℕ). IsSearch held l (next + 1)) (sym (made ∙ ap (λ (ns : List ℕ). with_found objects ns found) all)) (search_goes_on held found next below s)
 

@@ -1,5 +1,5 @@
 -- How the code finds what can be reached, and what goes.
-use Rattle.std.specs.Prelude.{ℕ, Bool, not, ◌&&◌, if◌then◌else◌, List, [], ◌∷◌, nat_eq, is_some, filter}
+use Rattle.std.specs.Prelude.{ℕ, not, ◌&&◌, if◌then◌else◌, List, [], ◌∷◌, nat_eq, is_some, filter}
 use Rattle.std.specs.Map.{keys_of}
 use Rattle.indexmap.specs.IndexSet.{insert_key}
 use Rattle.ash_host.specs.Objects.{Objects, object_at, is_host}

@@ -2,7 +2,6 @@
 
 ghost use Rattle.std.specs.Prelude.{◌≡◌, ◌++◌, ℕ, [], map, length, filter};
 ghost use Rattle.std.specs.Prelude.{option_map, IfOk, OnOk, IsSome};
-ghost use Rattle.std.specs.List.{list_any};
 ghost use Rattle.std.specs.Option.{option_map_or};
 ghost use Rattle.ash_host.specs.declared.event.Event.TheVariants.{Dropped};
 ghost use Rattle.ash_host.specs.Objects.{object_at, with_at, handles, fields_of};

@@ -1,12 +1,10 @@
-use Rattle.std.proofs.Common.{◌≡◌, ◌++◌, List, ap, sym, ◌∙◌, map, not}
+use Rattle.std.proofs.Common.{◌++◌, List, ap, ◌∙◌, map, not}
 use Rattle.std.specs.Prelude.{filter, ◌&&◌}
 use Rattle.std.specs.Map.{keys_of}
-use Rattle.ash_host.specs.declared.event.Event.{Event}
 use Rattle.ash_host.specs.declared.event.Event.TheVariants.{Dropped}
 use Rattle.ash_host.specs.Objects.{is_host}
 use Rattle.ash_host.specs.Reach.{is_among}
 use Rattle.ash_plain_data.specs.ObjectViews.{entry_seen}
-use Rattle.ash_plain.specs.Sweeping.{gone}
 use Rattle.ash_plain.proofs.Sweeps.{swept_objects, swept_hosts, gone_seen}
 use Rattle.ash_plain.proofs.Entries.{seen_filter}
 use Rattle.ash_plain.proofs.objects.Objects.sweep.Goals as goal
