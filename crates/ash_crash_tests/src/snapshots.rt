@@ -306,7 +306,12 @@ static AT_THE_SIZE: [Full; 2] = [
 fn a_byte_less_than_the_limit(rt: HostRuntime) -> Result<(), Fail> {
     let full = full_file(rt.alloc(), 1, AT_THE_LIMIT)?;
     let records = full.len().saturating_sub(EMPTY.len());
-    check(&rt, &(records as u64), &FULL_RECORD_BYTES, "the bytes of records");
+    check(
+        &rt,
+        &(records as u64),
+        &FULL_RECORD_BYTES,
+        "the bytes of records",
+    );
     for row in &AT_THE_SIZE {
         check_full(&rt, rt.alloc(), row)?;
     }

@@ -15,5 +15,9 @@ calls_seen e = calls_within (program_seen e.program.now) e.depth
 -- what a loop repeats
 abbrev pub turn_seen : Calls → ℕ → ℕ → loop_code.Loop → Turn
 turn_seen calls depth line (loop_code.Loop' test c es a l k) =
-    record { line = line; condition = condition_or_true calls (option_map expr_of c);
-    steps = evaluate_all calls (map expr_of es.items); body = statement calls depth (stmt_at l k) }
+    record {
+      line = line;
+      condition = condition_or_true calls (option_map expr_of c);
+      steps = evaluate_all calls (map expr_of es.items);
+      body = statement calls depth (stmt_at l k);
+    }

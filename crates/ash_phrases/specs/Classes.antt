@@ -99,8 +99,12 @@ entry_of_method c f = record { name = dotted c.name f.name; line = f.line; field
 -- A construction is entered at the line of the constructor's name, or of the class's where no constructor is written.
 abbrev pub entry_of_construction : Class → Entry
 entry_of_construction c =
-    record { name = dotted c.name c.name; line = option_map_or (λ (f : Function). f.line) c.constructor c.line;
-    fields = c.fields; body = option_map_or (λ (f : Function). f.body) c.constructor no_stmt }
+    record {
+      name = dotted c.name c.name;
+      line = option_map_or (λ (f : Function). f.line) c.constructor c.line;
+      fields = c.fields;
+      body = option_map_or (λ (f : Function). f.body) c.constructor no_stmt;
+    }
 
 abbrev pub entry_of : Module → Callee → Option Entry
 entry_of m (FreeFunction place) = option_map entry_of_function (slice_get m.functions place)

@@ -88,9 +88,14 @@ constructing fields body =
     program (module_of (a ∷ []) [] (function f None [] (evaluate (Call (targets.Class 0) [] (exprs [])) ∷ []) ∷ []))
   where
     a : Class
-    a = record { name = codes "A"; line = 2; interfaces = []; fields = fields;
-        constructor = Some (record { name = codes "A"; line = 3; result = None; parameters = []; body = stmts body });
-        methods = [] }
+    a = record {
+      name = codes "A";
+      line = 2;
+      interfaces = [];
+      fields = fields;
+      constructor = Some (record { name = codes "A"; line = 3; result = None; parameters = []; body = stmts body });
+      methods = [];
+    }
 
 -- `int k = 1 / 0;` among the fields
 abbrev pub failing_field : Program

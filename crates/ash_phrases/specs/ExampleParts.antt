@@ -81,8 +81,16 @@ program m = record { name = codes "m"; tree = m }
 -- worlds, and what is compared of an outcome
 
 abbrev pub empty_world : World
-empty_world = record { globals = []; outside = []; objects = []; last = 0; services = []; pool = []; answers = [];
-    events = [] }
+empty_world = record {
+  globals = [];
+  outside = [];
+  objects = [];
+  last = 0;
+  services = [];
+  pool = [];
+  answers = [];
+  events = [];
+}
 
 abbrev pub end_of : Option Outcome → Option End
 end_of outcome = option_map (λ (o : Outcome). o.end) outcome
@@ -143,13 +151,23 @@ abbrev pub counters : ℕ → List HostRecord → World
 counters count answers = with_counters count answers empty_world
 
 abbrev pub started : ℕ → ℕ → HostRecord
-started object n = record { target = host_targets.Object object; call = calls.Start (words.Int (pos n) ∷ []);
-    before = int_bytes (pos 0); answer = Nothing; after = int_bytes (pos n) }
+started object n = record {
+  target = host_targets.Object object;
+  call = calls.Start (words.Int (pos n) ∷ []);
+  before = int_bytes (pos 0);
+  answer = Nothing;
+  after = int_bytes (pos n);
+}
 
 abbrev pub added : ℕ → ℕ → ℕ → ℕ → HostRecord
 added object n old sum =
-    record { target = host_targets.Object object; call = calls.Invoke 1 (words.Int (pos n) ∷ []);
-    before = int_bytes (pos old); answer = Value (words.Int (pos sum)); after = int_bytes (pos sum) }
+    record {
+      target = host_targets.Object object;
+      call = calls.Invoke 1 (words.Int (pos n) ∷ []);
+      before = int_bytes (pos old);
+      answer = Value (words.Int (pos sum));
+      after = int_bytes (pos sum);
+    }
 
 abbrev pub counter : VarType
 counter = handle_of_kind 1
@@ -167,12 +185,22 @@ counter_value object = Held object (members.Property 1 int)
 
 abbrev pub tallied_by : ℕ → ℕ → ℕ → HostRecord
 tallied_by n old sum =
-    record { target = host_targets.Service 0; call = calls.Invoke 1 (words.Int (pos n) ∷ []);
-    before = int_bytes (pos old); answer = Value (words.Int (pos sum)); after = int_bytes (pos sum) }
+    record {
+      target = host_targets.Service 0;
+      call = calls.Invoke 1 (words.Int (pos n) ∷ []);
+      before = int_bytes (pos old);
+      answer = Value (words.Int (pos sum));
+      after = int_bytes (pos sum);
+    }
 
 abbrev pub totalled : ℕ → HostRecord
-totalled n = record { target = host_targets.Service 0; call = calls.Invoke 2 []; before = int_bytes (pos n);
-    answer = Value (words.Int (pos n)); after = int_bytes (pos n) }
+totalled n = record {
+  target = host_targets.Service 0;
+  call = calls.Invoke 2 [];
+  before = int_bytes (pos n);
+  answer = Value (words.Int (pos n));
+  after = int_bytes (pos n);
+}
 
 abbrev pub tally : ℕ → Expr
 tally n = Call (targets.Service 0 1 (Some int)) (int ∷ []) (exprs (number n ∷ []))

@@ -73,8 +73,14 @@ right_side_first = program (module_of (p ∷ [])
     handle = handle_of_class 0
 
     p : Class
-    p = record { name = codes "P"; line = 1; interfaces = []; fields = named (codes "v") int None ∷ [];
-        constructor = None; methods = [] }
+    p = record {
+      name = codes "P";
+      line = 1;
+      interfaces = [];
+      fields = named (codes "v") int None ∷ [];
+      constructor = None;
+      methods = [];
+    }
 
     n : Place
     n = global 1 int
@@ -157,10 +163,15 @@ only_what_decides = program (module_of [] (record { line = 1; values = variable 
 
 -- on five lines: `int f()`, `{`, `int a = 1, b = 2;`, `return a / (b - 2);`, `}`
 abbrev pub on_lines : Program
-on_lines = program (module_of [] [] (record { name = f; line = 1; result = Some int; parameters = [];
-    body = stmts (Declare 3 (variable int (Some (number 1)) ∷ variable int (Some (number 2)) ∷ [])
-    ∷ Return 4 (Some (calculate calculators.Divide (Read (local 0 int))
-    (calculate calculators.Subtract (Read (local 1 int)) (number 2)))) ∷ []) } ∷ []))
+on_lines = program (module_of [] [] (record {
+  name = f;
+  line = 1;
+  result = Some int;
+  parameters = [];
+  body = stmts (Declare 3 (variable int (Some (number 1)) ∷ variable int (Some (number 2)) ∷ [])
+      ∷ Return 4 (Some (calculate calculators.Divide (Read (local 0 int))
+      (calculate calculators.Subtract (Read (local 1 int)) (number 2)))) ∷ []);
+} ∷ []))
 
 -- `int f(int x) { return x++ * 10 + ++x; }`
 abbrev pub counting : Program

@@ -38,8 +38,10 @@ frame_of function line this locals =
 -- Enters a frame.
 abbrev pub enter : List ℕ → ℕ → Word → List Word → Run (Unit {0})
 enter function line this locals =
-    change (λ activity. record activity { frame = frame_of function line this locals;
-    callers = activity.frame ∷ activity.callers })
+    change (λ activity. record activity {
+      frame = frame_of function line this locals;
+      callers = activity.frame ∷ activity.callers;
+    })
 
 -- the activity of the nearest caller, which holds the result; the first frame of a run has none, and stays
 abbrev pub back_in : List Frame → Word → Activity → Activity

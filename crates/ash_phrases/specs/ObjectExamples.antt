@@ -65,8 +65,14 @@ shared = program (module_of (b ∷ []) [] (function f None []
     handle = handle_of_class 0
 
     b : Class
-    b = record { name = codes "B"; line = 1; interfaces = []; fields = variable counter None ∷ []; constructor = None;
-        methods = [] }
+    b = record {
+      name = codes "B";
+      line = 1;
+      interfaces = [];
+      fields = variable counter None ∷ [];
+      constructor = None;
+      methods = [];
+    }
 
     new : Stmt
     new = Declare 1 (variable handle (Some (Call (targets.Class 0) [] (exprs []))) ∷ [])
@@ -101,8 +107,13 @@ adding = only (Some int) [] (Declare 1 (variable (vars.Object (objects.Host 1)) 
 -- a record of a call of method 1 or 2 of counter 1, which is at 1 and stays there
 abbrev pub answered : ℕ → ℕ → HostAnswer → HostRecord
 answered method argument answer =
-    record { target = hosts.Object 1; call = calls.Invoke method (words.Int (pos argument) ∷ []);
-    before = int_bytes (pos 1); answer = answer; after = int_bytes (pos 1) }
+    record {
+      target = hosts.Object 1;
+      call = calls.Invoke method (words.Int (pos argument) ∷ []);
+      before = int_bytes (pos 1);
+      answer = answer;
+      after = int_bytes (pos 1);
+    }
 
 -- `class Q { int w = 1; }`
 -- `class P { Q q; Q@ r; int v = 2; P(int k) { v = v + k; @r = q; } }`
@@ -116,8 +127,14 @@ constructed = program (module_of (q ∷ p ∷ [])
     own = vars.Object (objects.Class 0)
 
     q : Class
-    q = record { name = codes "Q"; line = 1; interfaces = []; fields = named (codes "w") int (Some (number 1)) ∷ [];
-        constructor = None; methods = [] }
+    q = record {
+      name = codes "Q";
+      line = 1;
+      interfaces = [];
+      fields = named (codes "w") int (Some (number 1)) ∷ [];
+      constructor = None;
+      methods = [];
+    }
 
     field : ℕ → VarType → Place
     field place of = Held (This 1) (members.Field 1 place of)
@@ -127,10 +144,16 @@ constructed = program (module_of (q ∷ p ∷ [])
         ∷ evaluate (Assign (field 1 (handle_of_class 0)) (Read (field 0 own))) ∷ []
 
     p : Class
-    p = record { name = codes "P"; line = 1; interfaces = [];
-        fields = named (codes "q") own (Some (Call (targets.Class 0) [] (exprs [])))
-        ∷ named (codes "r") (handle_of_class 0) None ∷ named (codes "v") int (Some (number 2)) ∷ []; constructor =
-        Some (function (codes "P") None (int ∷ []) body); methods = [] }
+    p = record {
+      name = codes "P";
+      line = 1;
+      interfaces = [];
+      fields = named (codes "q") own (Some (Call (targets.Class 0) [] (exprs [])))
+          ∷ named (codes "r") (handle_of_class 0) None ∷ named (codes "v") int (Some (number 2)) ∷ [];
+      constructor =
+          Some (function (codes "P") None (int ∷ []) body);
+      methods = [];
+    }
 
     main : Function
     main = function f (Some int) [] (returning (Read
@@ -140,8 +163,12 @@ constructed = program (module_of (q ∷ p ∷ [])
 -- `int f() { @g = B(); return g.v(); } bool c() { A@ a = cast<A>(g); return a is null; }`
 abbrev pub through_an_interface : Program
 through_an_interface =
-    program (record { interfaces = i ∷ []; classes = a ∷ b ∷ []; functions = main ∷ test ∷ [];
-    globals = record { line = 1; values = variable of_i None ∷ [] } ∷ [] })
+    program (record {
+      interfaces = i ∷ [];
+      classes = a ∷ b ∷ [];
+      functions = main ∷ test ∷ [];
+      globals = record { line = 1; values = variable of_i None ∷ [] } ∷ [];
+    })
   where
     of_i : VarType
     of_i = vars.Handle (objects.Interface 0)
@@ -150,13 +177,23 @@ through_an_interface =
     g = global 0 of_i
 
     i : Interface
-    i = record { name = codes "I"; line = 1; classes_before = 0;
-        methods = record { name = codes "v"; result = Some int; parameters = [] } ∷ [] }
+    i = record {
+      name = codes "I";
+      line = 1;
+      classes_before = 0;
+      methods = record { name = codes "v"; result = Some int; parameters = [] } ∷ [];
+    }
 
     class_named : List ℕ → ℕ → Class
     class_named name n =
-        record { name = name; line = 1; interfaces = record { interface = 0; methods = 0 ∷ [] } ∷ []; fields = [];
-        constructor = None; methods = function (codes "v") (Some int) [] (returning (number n) ∷ []) ∷ [] }
+        record {
+          name = name;
+          line = 1;
+          interfaces = record { interface = 0; methods = 0 ∷ [] } ∷ [];
+          fields = [];
+          constructor = None;
+          methods = function (codes "v") (Some int) [] (returning (number n) ∷ []) ∷ [];
+        }
 
     a : Class
     a = class_named (codes "A") 3
@@ -211,8 +248,10 @@ in_an_array = program
 
 -- `array<int> a; int f(uint n) { a.resize(n); return a[0]; }`
 abbrev pub resized : Program
-resized = program (module_of [] (record { line = 1;
-    values = variable of (Some (Call (targets.Array (elements.Integer ints.Int)) [] (exprs []))) ∷ [] } ∷ [])
+resized = program (module_of [] (record {
+  line = 1;
+  values = variable of (Some (Call (targets.Array (elements.Integer ints.Int)) [] (exprs []))) ∷ [];
+} ∷ [])
     (function f (Some int) (vars.Integer ints.Uint ∷ [])
     (evaluate (Invoke (Read (global 0 of)) (methods.Array arrays.Resize) (vars.Integer ints.Uint ∷ [])
     (exprs (Read (local 0 (vars.Integer ints.Uint)) ∷ [])))

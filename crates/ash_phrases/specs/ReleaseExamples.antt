@@ -37,8 +37,13 @@ declared n = Declare 1 (variable counter (Some (new_counter n)) ∷ [])
 -- a record of a read of the property of a counter
 abbrev pub value_read : ℕ → ℕ → HostRecord
 value_read object n =
-    record { target = hosts.Object object; call = calls.Get 1; before = int_bytes (pos n);
-    answer = Value (words.Int (pos n)); after = int_bytes (pos n) }
+    record {
+      target = hosts.Object object;
+      call = calls.Get 1;
+      before = int_bytes (pos n);
+      answer = Value (words.Int (pos n));
+      after = int_bytes (pos n);
+    }
 
 -- `void f() { if (Counter(1).value == 1) {} Counter@ b = Counter(2); }`
 abbrev pub after_a_condition : Program
@@ -91,9 +96,15 @@ in_a_construction = program (module_of (a ∷ []) []
     body = evaluate (Assign (Held (This 0) (members.Field 0 0 counter)) Null) ∷ []
 
     a : Class
-    a = record { name = codes "A"; line = 1; interfaces = [];
-        fields = variable counter (Some (new_counter 1)) ∷ variable counter (Some (new_counter 2)) ∷ []; constructor =
-        Some (function (codes "A") None [] body); methods = [] }
+    a = record {
+      name = codes "A";
+      line = 1;
+      interfaces = [];
+      fields = variable counter (Some (new_counter 1)) ∷ variable counter (Some (new_counter 2)) ∷ [];
+      constructor =
+          Some (function (codes "A") None [] body);
+      methods = [];
+    }
 
 -- `int two(Counter@ h, int k) { return k; } int use() { Counter@ b = Counter(2); return 1; }`
 -- `void f() { Counter@ a = Counter(1); two(@a = null, use()); }`
@@ -157,5 +168,9 @@ held_by_an_argument = program (module_of [] [] (two ∷ main ∷ []))
 
 -- the world that `read_before` is called in
 abbrev pub one_counter : World
-one_counter = record empty_world { globals = words.Object 1 ∷ []; objects = (1, Host 1 (int_bytes (pos 1))) ∷ [];
-    last = 1; answers = added 1 1 1 2 ∷ [] }
+one_counter = record empty_world {
+  globals = words.Object 1 ∷ [];
+  objects = (1, Host 1 (int_bytes (pos 1))) ∷ [];
+  last = 1;
+  answers = added 1 1 1 2 ∷ [];
+}

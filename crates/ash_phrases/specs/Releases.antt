@@ -37,8 +37,10 @@ roots frames world = world.outside ++ handles world.globals ++ flat_map roots_of
 -- What can't be reached goes, the host objects among it by ascending number.
 unfoldable pub sweep : List Frame → World → World
 sweep frames world =
-    record world { objects = after_sweep (roots frames world) world.objects;
-    events = world.events ++ map Dropped (drops_of_sweep (roots frames world) world.objects) }
+    record world {
+      objects = after_sweep (roots frames world) world.objects;
+      events = world.events ++ map Dropped (drops_of_sweep (roots frames world) world.objects);
+    }
 
 -- A release point.
 unfoldable pub release : Run (Unit {0})

@@ -174,8 +174,12 @@ abbrev mutual
 
   pub loop : Calls → ℕ → ℕ → Loop → Run Flow
   loop calls depth line (repeated test c es s) =
-      repeat test depth (record { line = line; condition = condition_or_true calls c; steps = evaluate_all calls es;
-      body = statement calls depth s })
+      repeat test depth (record {
+        line = line;
+        condition = condition_or_true calls c;
+        steps = evaluate_all calls es;
+        body = statement calls depth s;
+      })
 
   pub statements : Calls → ℕ → Stmts → Run Flow
   statements calls depth no_stmt = give On

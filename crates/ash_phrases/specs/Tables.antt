@@ -136,18 +136,22 @@ conversions_to kind =
 -- `break; }`
 -- `return a; }`
 abbrev pub every_statement : Program
-every_statement = program (module_of [] [] (record
-    { name = f; line = 1; result = Some int; parameters = [];
-    body = stmts (Declare 2 (variable int (Some (number 0)) ∷ variable int (Some (number 1)) ∷ []) ∷ Empty 3
-    ∷ Evaluate 4 (Assign a (number 5)) ∷ Block 5 (stmts (Evaluate 5 (Assign a (number 6)) ∷ Empty 6 ∷ []))
-    ∷ If 7 (compare comparators.Equal a 6) (Evaluate 8 (Assign b (number 2)))
-    (branch (Evaluate 9 (Assign b (number 3)))) ∷ Repeat 10
-    (repeated tests.First (Some (compare comparators.Less a 8)) [] (more 11 a))
-    ∷ Repeat 12 (repeated tests.Last (Some (compare comparators.Less a 9)) [] (more 13 a))
-    ∷ For 14 (declared_head (variable int (Some (number 0)) ∷ []))
-    (repeated tests.First (Some (compare comparators.Less i 1)) (Count i ints.Int steps.IncrementAfter ∷ [])
-    (more 15 b)) ∷ Switch 16 ints.Int (Read a) (cases (labelled (labels.Case 9) (stmts (Break 17 ∷ [])) ∷ []))
-    ∷ Return 18 (Some (Read a)) ∷ []) } ∷ []))
+every_statement = program (module_of [] [] (record {
+  name = f;
+  line = 1;
+  result = Some int;
+  parameters = [];
+  body = stmts (Declare 2 (variable int (Some (number 0)) ∷ variable int (Some (number 1)) ∷ []) ∷ Empty 3
+      ∷ Evaluate 4 (Assign a (number 5)) ∷ Block 5 (stmts (Evaluate 5 (Assign a (number 6)) ∷ Empty 6 ∷ []))
+      ∷ If 7 (compare comparators.Equal a 6) (Evaluate 8 (Assign b (number 2)))
+      (branch (Evaluate 9 (Assign b (number 3)))) ∷ Repeat 10
+      (repeated tests.First (Some (compare comparators.Less a 8)) [] (more 11 a))
+      ∷ Repeat 12 (repeated tests.Last (Some (compare comparators.Less a 9)) [] (more 13 a))
+      ∷ For 14 (declared_head (variable int (Some (number 0)) ∷ []))
+      (repeated tests.First (Some (compare comparators.Less i 1)) (Count i ints.Int steps.IncrementAfter ∷ [])
+      (more 15 b)) ∷ Switch 16 ints.Int (Read a) (cases (labelled (labels.Case 9) (stmts (Break 17 ∷ [])) ∷ []))
+      ∷ Return 18 (Some (Read a)) ∷ []);
+} ∷ []))
   where
     a : Place
     a = local 0 int

@@ -13,5 +13,10 @@ call_seen (host_calls.Get property) = calls.Get property
 call_seen (host_calls.Set property value) = calls.Set property value
 
 abbrev pub record_seen : host_record.HostRecord → HostRecord
-record_seen r = record { target = r.target; call = call_seen r.call; before = r.before.items; answer = r.answer;
-    after = r.after.items }
+record_seen r = record {
+  target = r.target;
+  call = call_seen r.call;
+  before = r.before.items;
+  answer = r.answer;
+  after = r.after.items;
+}

@@ -17,5 +17,9 @@ callee_seen (callees.Method class place) = Method class place
 callee_seen (callees.Construction class) = Construction class
 
 abbrev pub entry_seen : entry.Entry → Entry
-entry_seen e = record { name = string_bytes e.name; line = e.line; fields = map value_of e.fields.now;
-    body = body_of e.body.now }
+entry_seen e = record {
+  name = string_bytes e.name;
+  line = e.line;
+  fields = map value_of e.fields.now;
+  body = body_of e.body.now;
+}

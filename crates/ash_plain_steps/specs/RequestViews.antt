@@ -44,8 +44,12 @@ abbrev pub named_seen : String Memory × contents.ObjectContents → List ℕ ×
 named_seen d = (string_bytes d.0, contents_seen d.1)
 
 abbrev pub shown_seen : shown.Shown → Shown
-shown_seen s = record { number = s.number; type_name = string_bytes s.type_name; count = s.count;
-    contents = contents_seen s.contents }
+shown_seen s = record {
+  number = s.number;
+  type_name = string_bytes s.type_name;
+  count = s.count;
+  contents = contents_seen s.contents;
+}
 
 module _ {Code Fault : Type 0} (fault : Code → Fault) where
   abbrev pub refusal_seen : refusal.Refusal Code → Refusal Fault

@@ -14,8 +14,13 @@ abbrev pub modules_seen : List code_module.LoadedModule → List LoadedModule
 modules_seen ms = map loaded_seen ms
 
 abbrev pub state_seen : PlainState → State
-state_seen s = record { modules = modules_seen s.modules.items; objects = s.objects;
-    services = map (λ state. state.items) s.services.items; last = s.last; seq = s.seq }
+state_seen s = record {
+  modules = modules_seen s.modules.items;
+  objects = s.objects;
+  services = map (λ state. state.items) s.services.items;
+  last = s.last;
+  seq = s.seq;
+}
 
 abbrev pub hosts_seen : hosts.Hosts → Hosts
 hosts_seen h = record { pool = map box_seen h.pool.items; answers = map record_seen h.answers.items }

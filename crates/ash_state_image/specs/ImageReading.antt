@@ -70,8 +70,14 @@ registered_at = checked_at is_text (text_at 4)
 -- what follows the version
 unfoldable pub snapshot_at : Version → List ℕ → Option (Snapshot × List ℕ)
 snapshot_at version = as_at (λ (x : List ℕ × (ℕ × (ℕ × (List (ℕ × List ℕ) × (List Loaded × List (ℕ × Plain ℕ)))))).
-    record { registered = x.0; seq = x.1.0; last = x.1.1.0; services = x.1.1.1.0; modules = x.1.1.1.1.0;
-    objects = x.1.1.1.1.1 })
+    record {
+      registered = x.0;
+      seq = x.1.0;
+      last = x.1.1.0;
+      services = x.1.1.1.0;
+      modules = x.1.1.1.1.0;
+      objects = x.1.1.1.1.1;
+    })
     (pair_at registered_at (pair_at (number_at 8) (pair_at (number_at 8)
     (pair_at services_at (pair_at modules_at (objects_at version))))))
 

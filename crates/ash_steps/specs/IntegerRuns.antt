@@ -48,13 +48,23 @@ abbrev pub failing_late : Module
 failing_late = module_of [] (alone (named (codes "n") int (Some (number 0))) ∷ []) (main ∷ t ∷ [])
   where
     main : Function
-    main = record { name = f; line = 2; result = Some int; parameters = int ∷ [];
-        body = stmts (Evaluate 3 (Assign (global 0 int) (number 1)) ∷ Evaluate 3 (tally 4)
-        ∷ Return 4 (Some (calculate calculators.Divide (number 10) (Read (local 0 int)))) ∷ []) }
+    main = record {
+      name = f;
+      line = 2;
+      result = Some int;
+      parameters = int ∷ [];
+      body = stmts (Evaluate 3 (Assign (global 0 int) (number 1)) ∷ Evaluate 3 (tally 4)
+          ∷ Return 4 (Some (calculate calculators.Divide (number 10) (Read (local 0 int)))) ∷ []);
+    }
 
     t : Function
-    t = record { name = codes "t"; line = 6; result = Some int; parameters = [];
-        body = stmts (Return 6 (Some total) ∷ []) }
+    t = record {
+      name = codes "t";
+      line = 6;
+      result = Some int;
+      parameters = [];
+      body = stmts (Return 6 (Some total) ∷ []);
+    }
 
 -- `int t() { return total(); }`
 abbrev pub totalling : Module
@@ -115,8 +125,10 @@ shifting = functions (by (codes "a") calculators.ShiftRight 28 ∷ by (codes "b"
 -- a state with as many modules as there may be, named `a` to `p`
 abbrev pub full_of_modules : State → State
 full_of_modules state =
-    record state { modules = map (λ (n : ℕ). record { name = (97 + n) ∷ []; source = 0 ∷ []; globals = [] })
-    (range_with_len 0 16) }
+    record state {
+      modules = map (λ (n : ℕ). record { name = (97 + n) ∷ []; source = 0 ∷ []; globals = [] })
+          (range_with_len 0 16);
+    }
 
 -- a state whose sequence number is the greatest
 abbrev pub spent : State → State

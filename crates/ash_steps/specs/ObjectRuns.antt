@@ -42,8 +42,12 @@ let_go_early = functions (function f None [] (declared 1 ∷ declared 2 ∷ eval
 -- `bool c() { A@ a = cast<A>(g); return a is null; }`
 abbrev pub through_an_interface : Module
 through_an_interface =
-    record { interfaces = i ∷ []; classes = a ∷ b ∷ []; functions = main ∷ other ∷ test ∷ [];
-    globals = alone (named (codes "g") of_i None) ∷ [] }
+    record {
+      interfaces = i ∷ [];
+      classes = a ∷ b ∷ [];
+      functions = main ∷ other ∷ test ∷ [];
+      globals = alone (named (codes "g") of_i None) ∷ [];
+    }
   where
     of_i : VarType
     of_i = vars.Handle (objects.Interface 0)
@@ -55,13 +59,23 @@ through_an_interface =
     g = global 0 of_i
 
     i : Interface
-    i = record { name = codes "I"; line = 1; classes_before = 0;
-        methods = record { name = codes "v"; result = Some int; parameters = [] } ∷ [] }
+    i = record {
+      name = codes "I";
+      line = 1;
+      classes_before = 0;
+      methods = record { name = codes "v"; result = Some int; parameters = [] } ∷ [];
+    }
 
     class_of : List ℕ → List Initialization → Expr → Class
     class_of name fields e =
-        record { name = name; line = 1; interfaces = record { interface = 0; methods = 0 ∷ [] } ∷ []; fields = fields;
-        constructor = None; methods = function (codes "v") (Some int) [] (returning e ∷ []) ∷ [] }
+        record {
+          name = name;
+          line = 1;
+          interfaces = record { interface = 0; methods = 0 ∷ [] } ∷ [];
+          fields = fields;
+          constructor = None;
+          methods = function (codes "v") (Some int) [] (returning e ∷ []) ∷ [];
+        }
 
     a : Class
     a = class_of (codes "A") (named (codes "k") int None ∷ []) (Read (Held (This 0) (members.Field 0 0 int)))
@@ -120,5 +134,8 @@ numbers_spent state = record state { last = 18446744073709551615 }
 -- a module `m` is loaded, which declares no global, and this many objects live
 abbrev pub with_objects : ℕ → State → State
 with_objects count state =
-    record state { modules = record { name = codes "m"; source = 0 ∷ []; globals = [] } ∷ [];
-    objects = map (λ (n : ℕ). (n, Script (codes "k") 0 [])) (range_with_len 1 count); last = count }
+    record state {
+      modules = record { name = codes "m"; source = 0 ∷ []; globals = [] } ∷ [];
+      objects = map (λ (n : ℕ). (n, Script (codes "k") 0 [])) (range_with_len 1 count);
+      last = count;
+    }

@@ -78,8 +78,16 @@ globals_of ms = flat_map (λ (m : LoadedModule). m.globals) ms
 -- outside
 abbrev pub world_of : List Word → List LoadedModule → State → Hosts → World
 world_of globals others state hosts =
-    record { globals = globals; outside = handles (globals_of others); objects = state.objects; last = state.last;
-    services = state.services; pool = hosts.pool; answers = hosts.answers; events = [] }
+    record {
+      globals = globals;
+      outside = handles (globals_of others);
+      objects = state.objects;
+      last = state.last;
+      services = state.services;
+      pool = hosts.pool;
+      answers = hosts.answers;
+      events = [];
+    }
 
 -- the state that a run leaves, with these modules: one request more is answered
 abbrev pub state_after : List LoadedModule → World → State → State

@@ -31,8 +31,11 @@ module _ {Fault : Type 0} where
   -- an answer, which raises the sequence number by one
   abbrev pub answered : End → List LoadedModule → World → State → Step Fault
   answered end ms world old =
-      record { reply = Answered end (old.seq + 1) world.events; state = state_after ms world old;
-      hosts = hosts_left world }
+      record {
+        reply = Answered end (old.seq + 1) world.events;
+        state = state_after ms world old;
+        hosts = hosts_left world;
+      }
 
   -- A module is loaded where its initializers come to their end. Else it goes, and all that they did else stays.
   abbrev pub after_load_with : List ℕ → List ℕ → State → End → World → Step Fault

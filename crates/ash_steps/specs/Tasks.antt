@@ -191,8 +191,12 @@ module _ {Fault : Type 0} (embedding : Embedding Fault) where
 
   abbrev pub shown : ℕ → State → List ℕ × ObjectContents → Shown
   shown number state of =
-      record { number = number; type_name = of.0; count = count_of number (globals_of state.modules) state.objects;
-      contents = of.1 }
+      record {
+        number = number;
+        type_name = of.0;
+        count = count_of number (globals_of state.modules) state.objects;
+        contents = of.1;
+      }
 
   abbrev pub showing : ℕ → State → TaskResult Fault
   showing number state =

@@ -30,8 +30,11 @@ use Rattle.ash_typing.specs.TypedModules.{signature_name, listed_name, environme
 -- module.
 abbrev pub names_before : List Registration → List written.Item → Names
 names_before registrations before =
-    record { registered = registrations; taken = item_names before;
-    room = max_globals - length (variable_names (globals_of before)) }
+    record {
+      registered = registrations;
+      taken = item_names before;
+      room = max_globals - length (variable_names (globals_of before));
+    }
 
 -- Those of the members before. There are at most `max_class_members` fields and methods in a class.
 abbrev pub names_of_members : List written.Member → Names

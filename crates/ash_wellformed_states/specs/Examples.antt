@@ -6,8 +6,13 @@ use Rattle.ash_steps.specs.Examples.{adding, name_of_kind}
 
 -- a host that offers nothing
 abbrev pub no_host : Host
-no_host = record { kinds = []; factories = λ kind. []; methods = λ kind id. []; properties = λ kind id. [];
-    functions = λ service id. [] }
+no_host = record {
+  kinds = [];
+  factories = λ kind. [];
+  methods = λ kind id. [];
+  properties = λ kind id. [];
+  functions = λ service id. [];
+}
 
 -- a program that reads each source as one module: `int n = 2; int f(int k) { n += k; return n; }`
 abbrev pub read_adding : Embedding (Unit {0})
