@@ -98,11 +98,7 @@ fn restore(
 
 /// The state to which the next record leads, where a host with this registry may be in it; else damage at the gate
 /// before the record.
-fn next_state(
-    alloc: Global,
-    registry: Registry,
-    next: &Record,
-) -> Result<HostState, StoreFault>
+fn next_state(alloc: Global, registry: Registry, next: &Record) -> Result<HostState, StoreFault>
     requires { (version : Version)
         × IsBodyWith version (text_of (registered registry)) next.now.body.items }
     ensures { LeadsOn (registered registry) next.now.body.items next.now.gate result }
