@@ -151,11 +151,13 @@ impl<D: Disk> Host<D> {
     {
         match install_state(&self.state, &mut self.journal) {
             Ok(()) => Ok(()),
-            Err(Refusal::DeviceFailed) => {
-                self.stopped = Some(self.state.seq());
-                Err(Refusal::DeviceFailed)
-            }
-            Err(refusal) => Err(refusal),
+            Err(refusal) => match refusal {
+                Refusal::DeviceFailed => {
+                    self.stopped = Some(self.state.seq());
+                    Err(Refusal::DeviceFailed)
+                }
+                refusal => Err(refusal),
+            },
         }
     }
 

@@ -9,7 +9,7 @@ use Rattle.ash_sources.specs.declared.fault.SourceFault.{SourceFault as CodeFaul
 use Rattle.ash_lines.specs.RefusalTexts.{label_text, fault_text, refusal_text}
 
 -- the text of what is returned: a code, or a source's fault
-text_seen : Result (List ℕ) CodeFault → List ℕ
+abbrev text_seen : Result (List ℕ) CodeFault → List ℕ
 text_seen (Ok code) = label_text code
 text_seen (Err fault) = fault_text (fault_of fault)
 
