@@ -2,4 +2,4 @@ use Rattle.ash_states.proofs.Admitted.{have_steps}
 use Rattle.ash_states.proofs.laws.requests_have_steps.Goals as goal
 
 pub returns : goal.returns
-returns c = have_steps
+returns c = record { steps = have_steps }
