@@ -37,7 +37,7 @@ listed "comments and other lines" "low 1 edits, refused on 2026-01-02"
 echo 'pub fn one() -> &str { "// 1" }' > "$scratch/crates/low/src/lib.rt"
 enters
 echo 'pub fn one() -> &str { "//  1" }' > "$scratch/crates/low/src/lib.rt"
-listed "a string that looks like a comment" "low 1 edits, not on record as it stands"
+listed "a string that looks like a comment" "low 1 edits, not on record as it is"
 echo 'pub fn one() -> u8 { 1 }' > "$scratch/crates/low/src/lib.rt"
 enters
 sed -i 's/{ 1 }/{ 3 }/' "$scratch/crates/low/src/lib.rt"
