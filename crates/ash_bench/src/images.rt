@@ -1,8 +1,8 @@
 //! How fast the image of a whole state is read, restored and written: `ash_bench image`.
 //!
-//! The state has as much as a host may have: 16 modules and 4,096 objects. In each module a global has an array, which
-//! has 254 objects of 32 fields, and each of these fields has a handle of the last object of the module. So 130,048 handles
-//! are followed where the objects are looked for that can be reached.
+//! The state has as much as a host may have: 16 modules and 4,096 objects. In each module a global has an array,
+//! which has 254 objects of 32 fields, and each of these fields has a handle of the last object of the module. So
+//! 130,048 handles are followed where the objects are looked for that can be reached.
 
 use crate::rates::Timing;
 use anyhow::{Result, bail, ensure};

@@ -62,8 +62,8 @@ static WITH_OBJECTS: Plan = Plan {
     reached: REACHED_FROM_NOTHING,
 };
 
-// A store of version 1. To open it is a sync of each disk, and an installation on the second one. Then come a request, the
-// opening again, and a request.
+// A store of version 1. To open it is a sync of each disk, and an installation on the second one. Then come a
+// request, the opening again, and a request.
 static FROM_VERSION_ONE: Plan = Plan {
     is_new: false,
     source: SOURCE,

@@ -1,5 +1,5 @@
-//! The opening of an empty store of version 1, which moves it, with a stop at each call of either disk. Whatever a crash
-//! leaves then, the next opening leaves the first file as it was, and the state in version 2 in the second.
+//! The opening of an empty store of version 1, which moves it, with a stop at each call of either disk. Whatever a
+//! crash leaves then, the next opening leaves the first file as it was, and the state in version 2 in the second.
 
 use crate::checks::{check, check_bytes};
 use crate::crashes::{Crash, crash_of};
@@ -34,8 +34,8 @@ fn found(alloc: Global, a: Fused, b: Fused) -> Result<Host<Fused>, OpenRefused<F
     Host::open(alloc, a, b, Registry::new(alloc))
 }
 
-/// An opening on disks that fail after so many calls: whether there is a host, and the disks. Only a failure of a disk may
-/// keep it from that.
+/// An opening on disks that fail after so many calls: whether there is a host, and the disks. Only a failure of a
+/// disk may keep it from that.
 fn opened_on_fuses(
     alloc: Global,
     calls: (u64, u64),
@@ -107,8 +107,8 @@ fn check_moments(
     Ok(())
 }
 
-/// Stops an opening at each call of one disk, and looks at what crashes leave. Gives how many stops there were until it was
-/// done.
+/// Stops an opening at each call of one disk, and looks at what crashes leave. Gives how many stops there were until
+/// it was done.
 fn count_stops(rt: &impl Abort, alloc: Global, failing: Failing) -> Result<u64, Fail> {
     for calls in 0..100 {
         let (is_open, disks) = opened_on_fuses(alloc, fuses(failing, calls, u64::MAX))?;

@@ -53,9 +53,9 @@ const ROWS: [Row; 6] = [
             + 2 * 255
             + 6 * 255,
     ),
-    // The version, a length of the text that is 8 less, where all else is read 8 bytes before, 15 characters of text, the
-    // numbers, of which the last is 2 at the least, name and source, the class, the type and the value of a field, and a
-    // kind.
+    // The version, a length of the text that is 8 less, where all else is read 8 bytes before, 15 characters of text,
+    // the numbers, of which the last is 2 at the least, name and source, the class, the type and the value of a
+    // field, and a kind.
     (
         "objects with two tags, in version 1",
         ONE,

@@ -233,9 +233,9 @@ pub(crate) const STORED: Parts = &[
     b"\x01\xff\xff\xff\xff",
 ];
 
-/// The module `B` and the module `a`, which was loaded before it and has the objects of lower numbers, after two requests.
-/// Each has an object of a class, and an array of handles to such. Those of `a` are of the second module, those of `B` of
-/// the second class of the first.
+/// The module `B` and the module `a`, which was loaded before it and has the objects of lower numbers, after two
+/// requests. Each has an object of a class, and an array of handles to such. Those of `a` are of the second module,
+/// those of `B` of the second class of the first.
 pub(crate) const OF_TWO_MODULES: Parts = &[
     b"\x00\x00\x00\x00",
     b"\x02\x00\x00\x00\x00\x00\x00\x00",

@@ -112,9 +112,9 @@ fn frames_of_images(rt: HostRuntime) -> Result<(), Fail> {
     check_rows(&rt, rt.alloc(), &FRAMES)
 }
 
-// In `THREE_TAGS` the last number is at 39, the service at 47, the numbers in the first global and the third at 116 and
-// 134, and the objects at 142: the object 1 at 146, its tag at 154; the object 2 at 164, its tag at 172; the object 4 at
-// 189, its tag at 197.
+// In `THREE_TAGS` the last number is at 39, the service at 47, the numbers in the first global and the third at 116
+// and 134, and the objects at 142: the object 1 at 146, its tag at 154; the object 2 at 164, its tag at 172; the
+// object 4 at 189, its tag at 197.
 const OBJECTS: [Row; 18] = [
     (
         "an array in version 1",

@@ -40,8 +40,8 @@ fn registry_of(alloc: Global, registered: Registered) -> Result<Registry, Regist
     Ok(registry)
 }
 
-/// The host with this registry that is in the state that was stored: its text is that of the registry, and what it holds
-/// is of the types that its sources say.
+/// The host with this registry that is in the state that was stored: its text is that of the registry, and what it
+/// holds is of the types that its sources say.
 fn restored(
     alloc: Global,
     registry: Registry,
@@ -67,8 +67,8 @@ fn reads_as(
     }
 }
 
-/// An image: what it is called, its version, what follows it, what is registered, and how many changes of one byte leave
-/// the image of a host.
+/// An image: what it is called, its version, what follows it, what is registered, and how many changes of one byte
+/// leave the image of a host.
 type Row = (&'static str, &'static [u8], Parts, Registered, usize);
 
 const ROWS: [Row; 5] = [
@@ -97,10 +97,10 @@ const ROWS: [Row; 5] = [
         Registered::Nothing,
         1 + 16 * 255 + 52 + (52 + 3) + 4 * 255,
     ),
-    // The numbers, of which the last is 2 at the least; the name; in the source three names of one letter, of which two
-    // are taken by each other and by the class, nine blanks, of which two may be `;`, two a letter of the name after
-    // them or `_`, and one an `@`, and the `@` of the first global, which may be a blank; the value of the field, and of
-    // the elements.
+    // The numbers, of which the last is 2 at the least; the name; in the source three names of one letter, of which
+    // two are taken by each other and by the class, nine blanks, of which two may be `;`, two a letter of the name
+    // after them or `_`, and one an `@`, and the `@` of the first global, which may be a blank; the value of the
+    // field, and of the elements.
     (
         "an object and an array",
         TWO,
@@ -241,8 +241,8 @@ fn images_of_no_host(rt: HostRuntime) -> Result<(), Fail> {
 /// The image of objects of two modules with another byte at a place, which is the image of no host: what it is called.
 type Exchanged = (&'static str, usize, u8);
 
-// The object 1 begins at 179, the object 2 at 197, the object 3 at 213, and the object 4 at 226. After its number and its
-// tag each has its module, where an array has what its elements are before that, and then its class.
+// The object 1 begins at 179, the object 2 at 197, the object 3 at 213, and the object 4 at 226. After its number and
+// its tag each has its module, where an array has what its elements are before that, and then its class.
 const EXCHANGED: [Exchanged; 5] = [
     ("an object of the first class of the other module", 188, 0),
     ("elements of the first class of the other module", 207, 0),

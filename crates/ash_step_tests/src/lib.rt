@@ -4,9 +4,9 @@
 //! not wait for them.
 //!
 //! `calls` has what host objects and services answer, as `Counter` and `Tally` do; `registered` what is registered;
-//! `requests`, `replies` and `states` the texts of a row; `rows` runs them. The rows: `classes`, `counters`, `services`,
-//! `modules`, `interfaces`, `arrays`, `limits`, `integers`, `sources`, `points` of the release points, and `ticks` of
-//! what host objects take.
+//! `requests`, `replies` and `states` the texts of a row; `rows` runs them. The rows: `classes`, `counters`,
+//! `services`, `modules`, `interfaces`, `arrays`, `limits`, `integers`, `sources`, `points` of the release points,
+//! and `ticks` of what host objects take.
 #![tactic(auto)]
 
 #[cfg(test)]

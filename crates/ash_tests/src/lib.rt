@@ -1,6 +1,7 @@
 //! Tests of serving: requests and their replies, byte for byte, where a disk, a reader or a writer fails or is
-//! interrupted and after a crash, and stores with what the program registers. It has tests alone, so that the crates with the code are proved
-//! once; what requests to the program itself show is in the transcripts and rows of `tests/`.
+//! interrupted and after a crash, and stores with what the program registers. It has tests alone, so that the crates
+//! with the code are proved once; what requests to the program itself show is in the transcripts and rows of
+//! `tests/`.
 //!
 //! `hosts` makes the hosts of the others and has them serve requests, and `rows` compares their replies: the rows are
 //! in `limits`, `integers`, `exceptions`, `classes`, `interfaces`, `arrays` and `requests`.
