@@ -10,7 +10,7 @@ use Rattle.std.specs.List.{Contains}
 use Rattle.ash_registrations.specs.Registrations.{Registration}
 use Rattle.ash_tree.specs.Tree.{Class, Item}
 use Rattle.ash_typed.specs.Modules.{Module}
-use Rattle.ash_typing.specs.Items.{module_typed}
+use Rattle.ash_typing.specs.Items.{check_module}
 use Rattle.ash_expressions.specs.declared.error.CheckError.{CheckError}
 use Rattle.ash_expressions.specs.declared.error.CheckError.TheVariants as errors
 use Rattle.ash_expressions.specs.Agreement.{FailsWith}
@@ -25,7 +25,7 @@ use Rattle.ash_check.specs.Checks.{Reports, HoldsNamed, LeadsTo, IsNamedCycle}
 -- faults
 
 -- a fault of the walk is what is reported
-pub error_is_reported : (registrations : List Registration) (items : List Item) (error : CheckError) → FailsWith error (module_typed registrations items) → Reports (checked registrations items) (fault_of_error error)
+pub error_is_reported : (registrations : List Registration) (items : List Item) (error : CheckError) → FailsWith error (check_module registrations items) → Reports (checked registrations items) (fault_of_error error)
 unfolding checked
 error_is_reported registrations items (errors.Fault f) fails = ap (checked_by (classes_of items)) fails
 error_is_reported registrations items errors.NoMemory fails = tt
@@ -36,12 +36,12 @@ reported_if_err (Ok done) why answer P is reports = absurd is
 reported_if_err (Err fault) why answer P is reports = subst (λ f. Reports answer f) (sym is) reports
 
 -- where no rule is broken and no class reaches itself, the typed module
-pub typed_is_checked : (registrations : List Registration) (items : List Item) (typed : Module) → module_typed registrations items ≡ Ok typed → reported_cycle (classes_of items) ≡ None → checked registrations items ≡ Ok typed
+pub typed_is_checked : (registrations : List Registration) (items : List Item) (typed : Module) → check_module registrations items ≡ Ok typed → reported_cycle (classes_of items) ≡ None → checked registrations items ≡ Ok typed
 unfolding checked
 typed_is_checked registrations items typed fine none = ap (checked_by (classes_of items)) fine ∙ ap (λ path. unless_cycle (classes_of items) path typed) none
 
 -- else the cycle that is reported
-pub cycle_is_reported : (registrations : List Registration) (items : List Item) (typed : Module) (first : ℕ) (others : List ℕ) → module_typed registrations items ≡ Ok typed → reported_cycle (classes_of items) ≡ Some (first, others) → checked registrations items ≡ Err (Cyclic (names_of_cycle (classes_of items) (first, others)))
+pub cycle_is_reported : (registrations : List Registration) (items : List Item) (typed : Module) (first : ℕ) (others : List ℕ) → check_module registrations items ≡ Ok typed → reported_cycle (classes_of items) ≡ Some (first, others) → checked registrations items ≡ Err (Cyclic (names_of_cycle (classes_of items) (first, others)))
 unfolding checked
 cycle_is_reported registrations items typed first others fine some = ap (checked_by (classes_of items)) fine ∙ ap (λ path. unless_cycle (classes_of items) path typed) some
 

@@ -5,9 +5,9 @@ use Rattle.ash_tree.specs.Tree.{Class, Item}
 use Rattle.ash_typed.specs.Modules.{Module}
 use Rattle.ash_typing.specs.declared.fault.Fault.{Fault}
 use Rattle.ash_typing.specs.TypingResult.{TypingResult}
-use Rattle.ash_typing.specs.Items.{module_typed}
+use Rattle.ash_typing.specs.Items.{check_module}
 use Rattle.ash_typing.specs.TypedModules.{IsTyped}
-use Rattle.ash_typing.proofs.ModuleLaws.{module_typed-exact}
+use Rattle.ash_typing.proofs.ModuleLaws.{check_module-exact}
 use Rattle.ash_classes.specs.References.{Refers, classes_of}
 use Rattle.ash_classes.specs.ReportedCycle.{reported_cycle}
 use Rattle.ash_classes.specs.Paths.{IsReportedCycle, Reaches}
@@ -39,9 +39,9 @@ by_accepted : (classes : List Class) (r : TypingResult Module) (typed : Module) 
 by_accepted classes (Ok m) typed h = let u = unless_accepted classes (reported_cycle classes) m typed h in (ap Ok u.1, u.0)
 by_accepted classes (Err f) typed h = absurd (not_accepted (Broken f) typed h)
 
-typed_accepted : (registrations : List Registration) (items : List Item) (typed : Module) → checked registrations items ≡ Ok typed → (module_typed registrations items ≡ Ok typed) × (reported_cycle (classes_of items) ≡ None)
+typed_accepted : (registrations : List Registration) (items : List Item) (typed : Module) → checked registrations items ≡ Ok typed → (check_module registrations items ≡ Ok typed) × (reported_cycle (classes_of items) ≡ None)
 unfolding checked
-typed_accepted registrations items typed h = by_accepted (classes_of items) (module_typed registrations items) typed h
+typed_accepted registrations items typed h = by_accepted (classes_of items) (check_module registrations items) typed h
 
 pub accepted_is : (registrations : List Registration) (items : List Item) (typed : Module) → (checked registrations items ≡ Ok typed) ↔ (IsTyped registrations items typed × ((class : ℕ) → Reaches (Refers (classes_of items)) class class → ⊥))
 accepted_is registrations items typed = (go, back)
@@ -49,11 +49,11 @@ accepted_is registrations items typed = (go, back)
     go : checked registrations items ≡ Ok typed → IsTyped registrations items typed × ((class : ℕ) → Reaches (Refers (classes_of items)) class class → ⊥)
     go h =
         let t = typed_accepted registrations items typed h in
-        let is : IsTyped registrations items typed = (module_typed-exact registrations items typed).0 t.0 in
+        let is : IsTyped registrations items typed = (check_module-exact registrations items typed).0 t.0 in
         (is, (none_is_reported (classes_of items)).0 t.1)
 
     back : IsTyped registrations items typed × ((class : ℕ) → Reaches (Refers (classes_of items)) class class → ⊥) → checked registrations items ≡ Ok typed
-    back h = typed_is_checked registrations items typed ((module_typed-exact registrations items typed).1 h.0) ((none_is_reported (classes_of items)).1 h.1)
+    back h = typed_is_checked registrations items typed ((check_module-exact registrations items typed).1 h.0) ((none_is_reported (classes_of items)).1 h.1)
 
 -- what is refused for a cycle
 
@@ -68,9 +68,9 @@ by_cyclic : (classes : List Class) (r : TypingResult Module) (names : List (List
 by_cyclic classes (Ok m) names h = let u = unless_cyclic classes (reported_cycle classes) m names h in (m, refl, u.0, u.1, u.2)
 by_cyclic classes (Err f) names h = absurd (other_fault f names h)
 
-typed_cyclic : (registrations : List Registration) (items : List Item) (names : List (List ℕ)) → checked registrations items ≡ Err (Cyclic names) → (typed : Module) × (module_typed registrations items ≡ Ok typed) × (cycle : ℕ × List ℕ) × (reported_cycle (classes_of items) ≡ Some cycle) × (names ≡ names_of_cycle (classes_of items) cycle)
+typed_cyclic : (registrations : List Registration) (items : List Item) (names : List (List ℕ)) → checked registrations items ≡ Err (Cyclic names) → (typed : Module) × (check_module registrations items ≡ Ok typed) × (cycle : ℕ × List ℕ) × (reported_cycle (classes_of items) ≡ Some cycle) × (names ≡ names_of_cycle (classes_of items) cycle)
 unfolding checked
-typed_cyclic registrations items names h = by_cyclic (classes_of items) (module_typed registrations items) names h
+typed_cyclic registrations items names h = by_cyclic (classes_of items) (check_module registrations items) names h
 
 -- by the cycle that is returned
 pub cycle_is : (registrations : List Registration) (items : List Item) (names : List (List ℕ)) → (checked registrations items ≡ Err (Cyclic names)) ↔ ((typed : Module) × (first : ℕ) × (others : List ℕ) × IsTyped registrations items typed × IsReportedCycle (Refers (classes_of items)) first others × (names ≡ names_of_cycle (classes_of items) (first, others)))
@@ -79,13 +79,13 @@ cycle_is registrations items names = (go, back)
     go : checked registrations items ≡ Err (Cyclic names) → (typed : Module) × (first : ℕ) × (others : List ℕ) × IsTyped registrations items typed × IsReportedCycle (Refers (classes_of items)) first others × (names ≡ names_of_cycle (classes_of items) (first, others))
     go h =
         let t = typed_cyclic registrations items names h in
-        let is : IsTyped registrations items t.0 = (module_typed-exact registrations items t.0).0 t.1 in
+        let is : IsTyped registrations items t.0 = (check_module-exact registrations items t.0).0 t.1 in
         (t.0, (t.2).0, (t.2).1, is, (reported_is (classes_of items) (t.2).0 (t.2).1).0 t.3, t.4)
 
     back : (typed : Module) × (first : ℕ) × (others : List ℕ) × IsTyped registrations items typed × IsReportedCycle (Refers (classes_of items)) first others × (names ≡ names_of_cycle (classes_of items) (first, others)) → checked registrations items ≡ Err (Cyclic names)
     back h =
         let found : reported_cycle (classes_of items) ≡ Some (h.1, h.2) = (reported_is (classes_of items) h.1 h.2).1 h.4 in
-        cycle_is_reported registrations items h.0 h.1 h.2 ((module_typed-exact registrations items h.0).1 h.3) found ∙ ap (λ ns. Err (Cyclic ns)) (sym h.5)
+        cycle_is_reported registrations items h.0 h.1 h.2 ((check_module-exact registrations items h.0).1 h.3) found ∙ ap (λ ns. Err (Cyclic ns)) (sym h.5)
 
 some_cycle : (classes : List Class) (path : Option (ℕ × List ℕ)) → reported_cycle classes ≡ path → (class : ℕ) → Reaches (Refers classes) class class → (cycle : ℕ × List ℕ) × (reported_cycle classes ≡ Some cycle)
 some_cycle classes None h class reaches = absurd ((none_is_reported classes).0 h class reaches)
@@ -121,6 +121,6 @@ by_broken : (classes : List Class) (r : TypingResult Module) (f : Fault) → che
 by_broken classes (Ok m) f h = absurd (unless_broken classes (reported_cycle classes) m f h)
 by_broken classes (Err other) f h = ap Err (same_fault other f h)
 
-pub broken_is : (registrations : List Registration) (items : List Item) (fault : Fault) → (checked registrations items ≡ Err (Broken fault)) ↔ (module_typed registrations items ≡ Err fault)
+pub broken_is : (registrations : List Registration) (items : List Item) (fault : Fault) → (checked registrations items ≡ Err (Broken fault)) ↔ (check_module registrations items ≡ Err fault)
 unfolding checked
-broken_is registrations items fault = (by_broken (classes_of items) (module_typed registrations items) fault, λ h. ap (checked_by (classes_of items)) h)
+broken_is registrations items fault = (by_broken (classes_of items) (check_module registrations items) fault, λ h. ap (checked_by (classes_of items)) h)

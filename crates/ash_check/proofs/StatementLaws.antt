@@ -19,12 +19,12 @@ use Rattle.ash_typed.specs.declared.tree.statements.Stmt as typed_stmt
 use Rattle.ash_typed.specs.declared.tree.statements.Case as typed_case
 use Rattle.ash_integers.specs.declared.int_type.IntType.{IntType}
 use Rattle.ash_typed.specs.BodyViews as typed_views
-use Rattle.ash_typing.specs.Switches.{label_typed}
+use Rattle.ash_typing.specs.Switches.{check_label}
 use Rattle.ash_typing.specs.TypingResult.{TypingResult, ◌>>=◌}
 use Rattle.ash_typed.specs.StatementTree.{Initialization, Stmt, Block, Stmts, no_stmt, stmt, stmts, Case, labelled}
 use Rattle.ash_typed.specs.StatementTree.{Cases, no_case, next_case, cases}
 use Rattle.ash_typing.specs.Environment.{Declared}
-use Rattle.ash_typing.specs.Statements.{stmt_typed, stmts_typed, cases_typed}
+use Rattle.ash_typing.specs.Statements.{check_stmt, check_stmts, check_cases}
 use Rattle.ash_expressions.specs.declared.signatures.Binding as code_binding
 use Rattle.ash_expressions.specs.declared.error.CheckError.{CheckError}
 use Rattle.ash_expressions.specs.declared.error.CheckError.TheVariants as errors
@@ -73,11 +73,11 @@ after_more done s (Ok ss) = ap Ok (before_more done s ss)
 after_more done s (Err f) = refl
 
 -- a statement, and those after it
-pub next_stmt : (done : List Stmt) (scope next : Scope) (s : written.Stmt) (ss : written.Stmts) (t : Stmt) → stmt_typed scope s ≡ Ok t → next ≡ after scope s → stmts_after done (stmts_typed scope (written.stmt s ss)) ≡ stmts_after (done ++ t ∷ []) (stmts_typed next ss)
+pub next_stmt : (done : List Stmt) (scope next : Scope) (s : written.Stmt) (ss : written.Stmts) (t : Stmt) → check_stmt scope s ≡ Ok t → next ≡ after scope s → stmts_after done (check_stmts scope (written.stmt s ss)) ≡ stmts_after (done ++ t ∷ []) (check_stmts next ss)
 next_stmt done scope next s ss t h k =
-    ap (λ r. stmts_after done (r >>= λ x. stmts_typed (after scope s) ss >>= λ xs. Ok (stmt x xs))) h
-    ∙ after_more done t (stmts_typed (after scope s) ss)
-    ∙ ap (λ x. stmts_after (done ++ t ∷ []) (stmts_typed x ss)) (sym k)
+    ap (λ r. stmts_after done (r >>= λ x. check_stmts (after scope s) ss >>= λ xs. Ok (stmt x xs))) h
+    ∙ after_more done t (check_stmts (after scope s) ss)
+    ∙ ap (λ x. stmts_after (done ++ t ∷ []) (check_stmts x ss)) (sym k)
 
 -- locals with others after them
 
@@ -125,31 +125,31 @@ block_of_source source ss items is i = ap (stmt_at source.place) is ∙ block_is
 pub switch_of_source : (source : code_stmt.Stmt) (e : code_expr.Expr) (cs : Vec code_case.Case Global) (items : List code_case.Case) → source.kind ≡ kinds.Switch e cs → items ≡ cs.items → stmt_of source ≡ written.Switch source.place (expr_of e) (written.cases (map case_of items))
 switch_of_source source e cs items is i = ap (stmt_at source.place) is ∙ switch_is source.place e cs ∙ ap (λ xs. written.Switch source.place (expr_of e) (written.cases (map case_of xs))) (sym i)
 
-pub block_typed : (scope inner : Scope) (s : written.Stmt) (p : Place) (ss : written.Stmts) (body : Stmts) → s ≡ written.Block p ss → inner ≡ block_of scope → stmts_typed inner ss ≡ Ok body → stmt_typed scope s ≡ Ok (Block p.line body)
-block_typed scope inner s p ss body is k h =
-    ap (stmt_typed scope) is ∙ ap (λ x. stmts_typed x ss >>= λ b. Ok (Block p.line b)) (sym k) ∙ ap (λ r. r >>= λ b. Ok (Block p.line b)) h
+pub block_checked : (scope inner : Scope) (s : written.Stmt) (p : Place) (ss : written.Stmts) (body : Stmts) → s ≡ written.Block p ss → inner ≡ block_of scope → check_stmts inner ss ≡ Ok body → check_stmt scope s ≡ Ok (Block p.line body)
+block_checked scope inner s p ss body is k h =
+    ap (check_stmt scope) is ∙ ap (λ x. check_stmts x ss >>= λ b. Ok (Block p.line b)) (sym k) ∙ ap (λ r. r >>= λ b. Ok (Block p.line b)) h
 
-pub block_fails : (scope inner : Scope) (s : written.Stmt) (p : Place) (ss : written.Stmts) (e : CheckError) → s ≡ written.Block p ss → inner ≡ block_of scope → FailsWith e (stmts_typed inner ss) → FailsWith e (stmt_typed scope s)
+pub block_fails : (scope inner : Scope) (s : written.Stmt) (p : Place) (ss : written.Stmts) (e : CheckError) → s ≡ written.Block p ss → inner ≡ block_of scope → FailsWith e (check_stmts inner ss) → FailsWith e (check_stmt scope s)
 block_fails scope inner s p ss (errors.Fault f) is k h =
-    ap (stmt_typed scope) is ∙ ap (λ x. stmts_typed x ss >>= λ b. Ok (Block p.line b)) (sym k) ∙ ap (λ r. r >>= λ b. Ok (Block p.line b)) h
+    ap (check_stmt scope) is ∙ ap (λ x. check_stmts x ss >>= λ b. Ok (Block p.line b)) (sym k) ∙ ap (λ r. r >>= λ b. Ok (Block p.line b)) h
 block_fails scope inner s p ss errors.NoMemory is k h = tt
 
 -- a turn of the walk over a block, and its end
 
-pub block_step : (done new : List typed_stmt.Stmt) (one : typed_stmt.Stmt) (scope next : Scope) (body : List code_stmt.Stmt) (i : ℕ) (s : code_stmt.Stmt) (whole : TypingResult Stmts) → new ≡ done ++ one ∷ [] → i < length body → s ≡ get_or body i s → stmt_typed scope (stmt_of s) ≡ Ok (typed_views.stmt_of one) → next ≡ after scope (stmt_of s) → stmts_after (map typed_views.stmt_of done) (stmts_typed scope (written.stmts (map stmt_of (drop i body)))) ≡ whole → stmts_after (map typed_views.stmt_of new) (stmts_typed next (written.stmts (map stmt_of (drop (i + 1) body)))) ≡ whole
+pub block_step : (done new : List typed_stmt.Stmt) (one : typed_stmt.Stmt) (scope next : Scope) (body : List code_stmt.Stmt) (i : ℕ) (s : code_stmt.Stmt) (whole : TypingResult Stmts) → new ≡ done ++ one ∷ [] → i < length body → s ≡ get_or body i s → check_stmt scope (stmt_of s) ≡ Ok (typed_views.stmt_of one) → next ≡ after scope (stmt_of s) → stmts_after (map typed_views.stmt_of done) (check_stmts scope (written.stmts (map stmt_of (drop i body)))) ≡ whole → stmts_after (map typed_views.stmt_of new) (check_stmts next (written.stmts (map stmt_of (drop (i + 1) body)))) ≡ whole
 block_step done new one scope next body i s whole n within is h k so =
     let rest : List code_stmt.Stmt = drop (i + 1) body in
     let begins : drop i body ≡ s ∷ rest = drop-cons body i s within ∙ ap (λ x. x ∷ drop (suc i) body) (sym is) ∙ ap (λ m. s ∷ drop m body) (sym (add-one i)) in
-    ap (λ xs. stmts_after (map typed_views.stmt_of xs) (stmts_typed next (written.stmts (map stmt_of rest)))) n
-    ∙ ap (λ xs. stmts_after xs (stmts_typed next (written.stmts (map stmt_of rest)))) (map-append typed_views.stmt_of done (one ∷ []))
+    ap (λ xs. stmts_after (map typed_views.stmt_of xs) (check_stmts next (written.stmts (map stmt_of rest)))) n
+    ∙ ap (λ xs. stmts_after xs (check_stmts next (written.stmts (map stmt_of rest)))) (map-append typed_views.stmt_of done (one ∷ []))
     ∙ sym (next_stmt (map typed_views.stmt_of done) scope next (stmt_of s) (written.stmts (map stmt_of rest)) (typed_views.stmt_of one) h k)
-    ∙ ap (λ xs. stmts_after (map typed_views.stmt_of done) (stmts_typed scope (written.stmts (map stmt_of xs)))) (sym begins)
+    ∙ ap (λ xs. stmts_after (map typed_views.stmt_of done) (check_stmts scope (written.stmts (map stmt_of xs)))) (sym begins)
     ∙ so
 
-pub block_end : (done : List typed_stmt.Stmt) (scope : Scope) (body : List code_stmt.Stmt) (i : ℕ) (whole : TypingResult Stmts) → length body ≤ i → stmts_after (map typed_views.stmt_of done) (stmts_typed scope (written.stmts (map stmt_of (drop i body)))) ≡ whole → whole ≡ Ok (stmts (map typed_views.stmt_of done))
+pub block_end : (done : List typed_stmt.Stmt) (scope : Scope) (body : List code_stmt.Stmt) (i : ℕ) (whole : TypingResult Stmts) → length body ≤ i → stmts_after (map typed_views.stmt_of done) (check_stmts scope (written.stmts (map stmt_of (drop i body)))) ≡ whole → whole ≡ Ok (stmts (map typed_views.stmt_of done))
 block_end done scope body i whole past so =
     sym so
-    ∙ ap (λ xs. stmts_after (map typed_views.stmt_of done) (stmts_typed scope (written.stmts (map stmt_of xs)))) (drop_of_length-le body past)
+    ∙ ap (λ xs. stmts_after (map typed_views.stmt_of done) (check_stmts scope (written.stmts (map stmt_of xs)))) (drop_of_length-le body past)
     ∙ no_stmt_after (map typed_views.stmt_of done)
 
 -- a turn of the walk over the labels of a switch, its faults, and its end
@@ -167,21 +167,21 @@ cases_after_more done c (Ok cs) = ap Ok (cases_more done c cs)
 cases_after_more done c (Err f) = refl
 
 abbrev walked : Scope → Option IntType → List Label → List Case → List code_case.Case → TypingResult Cases
-walked scope int_type before done labels = cases_after done (cases_typed scope int_type before (written.cases (map case_of labels)))
+walked scope int_type before done labels = cases_after done (check_cases scope int_type before (written.cases (map case_of labels)))
 
 abbrev first_label : Scope → Option IntType → List Label → List Case → code_case.Case → List code_case.Case → TypingResult Label → TypingResult Stmts → TypingResult Cases
-first_label scope int_type before done x rest known body = cases_after done (known >>= λ label. body >>= λ ss. cases_typed scope int_type (before ++ (code_case.out-Case x).label ∷ []) (written.cases (map case_of rest)) >>= λ cs. Ok (next_case (labelled label ss) cs))
+first_label scope int_type before done x rest known body = cases_after done (known >>= λ label. body >>= λ ss. check_cases scope int_type (before ++ (code_case.out-Case x).label ∷ []) (written.cases (map case_of rest)) >>= λ cs. Ok (next_case (labelled label ss) cs))
 
 abbrev known_at : Option IntType → List Label → code_case.Case → List code_case.Case → TypingResult Label
-known_at int_type before x rest = label_typed int_type before (is_last (written.cases (map case_of rest))) (code_case.out-Case x).place.at (code_case.out-Case x).label
+known_at int_type before x rest = check_label int_type before (is_last (written.cases (map case_of rest))) (code_case.out-Case x).place.at (code_case.out-Case x).label
 
 abbrev body_at : Scope → code_case.Case → TypingResult Stmts
-body_at scope x = stmts_typed scope (written.stmts (map stmt_of (code_case.out-Case x).body.items))
+body_at scope x = check_stmts scope (written.stmts (map stmt_of (code_case.out-Case x).body.items))
 
 first_is : (scope : Scope) (int_type : Option IntType) (before : List Label) (done : List Case) (labels : List code_case.Case) (i : ℕ) (x : code_case.Case) → i < length labels → x ≡ get_or labels i x → walked scope int_type before done (drop i labels) ≡ first_label scope int_type before done x (drop (i + 1) labels) (known_at int_type before x (drop (i + 1) labels)) (body_at scope x)
 first_is scope int_type before done labels i x within is =
     ap (walked scope int_type before done) (begins_at labels i x within is)
-    ∙ ap (λ c. cases_after done (cases_typed scope int_type before (written.next_case c (written.cases (map case_of (drop (i + 1) labels)))))) (case_is x)
+    ∙ ap (λ c. cases_after done (check_cases scope int_type before (written.next_case c (written.cases (map case_of (drop (i + 1) labels)))))) (case_is x)
 
 pub cases_step : (done new : List typed_case.Case) (one : typed_case.Case) (scope next : Scope) (int_type : Option IntType) (before more : List Label) (labels : List code_case.Case) (i : ℕ) (x : code_case.Case) (known : Label) (body : Stmts) (whole : TypingResult Cases) → new ≡ done ++ one ∷ [] → more ≡ before ++ (code_case.out-Case x).label ∷ [] → next ≡ scope → i < length labels → x ≡ get_or labels i x → known_at int_type before x (drop (i + 1) labels) ≡ Ok known → body_at scope x ≡ Ok body → typed_views.case_of one ≡ labelled known body → walked scope int_type before (map typed_views.case_of done) (drop i labels) ≡ whole → walked next int_type more (map typed_views.case_of new) (drop (i + 1) labels) ≡ whole
 cases_step done new one scope next int_type before more labels i x known body whole n m same within is h k one_is so =
@@ -193,7 +193,7 @@ cases_step done new one scope next int_type before more labels i x known body wh
     ∙ ap (λ y. walked scope int_type added (map typed_views.case_of y) rest) n
     ∙ ap (λ y. walked scope int_type added y rest) (map-append typed_views.case_of done (one ∷ []))
     ∙ ap (λ y. walked scope int_type added (earlier ++ y ∷ []) rest) one_is
-    ∙ sym (cases_after_more earlier (labelled known body) (cases_typed scope int_type added (written.cases (map case_of rest))))
+    ∙ sym (cases_after_more earlier (labelled known body) (check_cases scope int_type added (written.cases (map case_of rest))))
     ∙ sym (ap (first_label scope int_type before earlier x rest (Ok known)) k)
     ∙ sym (ap (λ y. first_label scope int_type before earlier x rest y (body_at scope x)) h)
     ∙ sym (first_is scope int_type before earlier labels i x within is)

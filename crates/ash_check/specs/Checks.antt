@@ -8,7 +8,7 @@ use Rattle.ash_tree.specs.Tree.{Class, Item}
 use Rattle.ash_typing.specs.declared.fault.Fault.{Fault}
 use Rattle.ash_typing.specs.TypingResult.{TypingResult}
 use Rattle.ash_typed.specs.Modules.{Module}
-use Rattle.ash_typing.specs.Items.{module_typed}
+use Rattle.ash_typing.specs.Items.{check_module}
 use Rattle.ash_classes.specs.References.{RefersTo, classes_of}
 use Rattle.ash_classes.specs.ReportedCycle.{reported_cycle}
 use Rattle.ash_check.specs.declared.faults.CheckFault.{CheckFault}
@@ -40,7 +40,7 @@ checked_by classes (Err fault) = Err (Broken fault)
 
 -- The typed module of a script; or its first fault; or, where no rule is broken, the classes that could form a cycle.
 unfoldable pub checked : List Registration → List Item → Result Module ScriptFault
-checked registrations items = checked_by (classes_of items) (module_typed registrations items)
+checked registrations items = checked_by (classes_of items) (check_module registrations items)
 
 -- what the code's faults report
 

@@ -13,7 +13,7 @@ use Rattle.ash_typed.specs.declared.tree.expressions.Expr as typed_expr
 use Rattle.ash_tree.specs.Tree as written
 use Rattle.ash_typing.specs.TypingResult.{TypingResult, ◌>>=◌}
 use Rattle.ash_typing.specs.Environment.{Environment, inside}
-use Rattle.ash_typing.specs.Items.{Names, Row, Signatures, Listed, Members, Walked, no_members, members_typed}
+use Rattle.ash_typing.specs.Items.{Names, Row, Signatures, Listed, Members, Walked, no_members, check_members}
 use Rattle.ash_typing.specs.Items.{class_of_members}
 use Rattle.ash_typed.specs.Modules.{Implementation, Class, variables_of, signature_of, implementation_of, class_of}
 use Rattle.ash_typed.specs.Modules.{module_of}
@@ -72,4 +72,4 @@ optional_expr value = option_map expr_of value
 -- the class of this place, with the interfaces that it lists
 abbrev pub class_with : Environment → ℕ → written.Class → List Implementation → TypingResult Class
 class_with env place c listed =
-    members_typed (inside env place) (no_members c listed) c.members >>= λ ms. Ok (class_of_members ms)
+    check_members (inside env place) (no_members c listed) c.members >>= λ ms. Ok (class_of_members ms)

@@ -17,7 +17,7 @@ use ash_tree::Stmt;
 use ash_typing::Ty;
 
 /// Checks the body of a function that returns this type, whose parameters are the locals.
-#[tactic(auto, unfolding(ash_typing::specs::Statements::body_typed))]
+#[tactic(auto, unfolding(ash_typing::specs::Statements::check_body))]
 pub(crate) fn check_body<'a>(
     env: &Environment<'_, 'a>,
     mut locals: Vec<Binding<'a>>,
@@ -25,7 +25,7 @@ pub(crate) fn check_body<'a>(
     body: &'a [Stmt],
 ) -> CheckResult<Vec<ash_typed::Stmt>>
     ensures { Agrees (λ b. body_of b.items) result
-        (definition.body_typed
+        (definition.check_body
         (with_locals (environment_of env.now) (map binding_of locals.entry.items)) of
         (map stmt_of body.now)) }
 {

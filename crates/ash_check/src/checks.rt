@@ -163,5 +163,5 @@ pub fn check_is_exact()
         (names ≡ names_of_cycle (classes_of items) (first, others))) }
     ensures broken { (registrations : List Registration) (items : List Item) (fault : Fault) →
         (checked registrations items ≡ Err (Broken fault))
-        ↔ (definition.module_typed registrations items ≡ Err fault) }
+        ↔ (definition.check_module registrations items ≡ Err fault) }
 {}

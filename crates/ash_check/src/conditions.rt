@@ -13,10 +13,10 @@ use ash_typed::{Expr as Tree, Stmt, StmtKind};
 use std::alloc::{AllocError, Global};
 
 /// `if (condition) inner`
-#[tactic(auto, unfolding(ash_typing::specs::Statements::if_typed))]
+#[tactic(auto, unfolding(ash_typing::specs::Statements::check_if))]
 pub(crate) fn build_if(line: usize, condition: TypedExpr, inner: Box<Stmt>) -> CheckResult<Stmt>
     ensures { Agrees stmt_of result
-        (definition.if_typed line (Ok (typed_of condition)) (Ok (stmt_of inner.value))) }
+        (definition.check_if line (Ok (typed_of condition)) (Ok (stmt_of inner.value))) }
 {
     check_bool(condition.at, condition.ty)?;
     Ok(if_stmt(line, condition.tree, inner))
@@ -37,7 +37,7 @@ fn if_stmt(line: usize, condition: Tree, then: Box<Stmt>) -> Stmt
 }
 
 /// `if (condition) inner else other`
-#[tactic(auto, unfolding(ash_typing::specs::Statements::if_else_typed))]
+#[tactic(auto, unfolding(ash_typing::specs::Statements::check_if_else))]
 pub(crate) fn build_if_else(
     line: usize,
     condition: TypedExpr,
@@ -45,7 +45,7 @@ pub(crate) fn build_if_else(
     other: Box<Stmt>,
 ) -> CheckResult<Stmt>
     ensures { Agrees stmt_of result
-        (definition.if_else_typed line (Ok (typed_of condition)) (Ok (stmt_of inner.value))
+        (definition.check_if_else line (Ok (typed_of condition)) (Ok (stmt_of inner.value))
         (Ok (stmt_of other.value))) }
 {
     check_bool(condition.at, condition.ty)?;

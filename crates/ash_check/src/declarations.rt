@@ -241,14 +241,14 @@ fn check_initializer(
 }
 
 /// Checks a variable of this type.
-#[tactic(auto, unfolding(ash_typing::specs::Declarations::decl_typed))]
+#[tactic(auto, unfolding(ash_typing::specs::Declarations::check_decl))]
 pub(crate) fn check_decl(
     env: &Environment,
     written: WrittenType,
     decl: &Decl,
 ) -> CheckResult<Initialization>
     ensures { Agrees value_of result
-        (definition.decl_typed (environment_of env.now) written.at written.of (decl_of decl.now)) }
+        (definition.check_decl (environment_of env.now) written.at written.of (decl_of decl.now)) }
 {
     let value = check_initializer(env, written, decl.place.at, &decl.initializer)?;
     Ok(Initialization {

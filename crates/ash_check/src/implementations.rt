@@ -144,7 +144,7 @@ pub(crate) struct ListedInterfaces<'a> {
 }
 
 /// Checks one of the interfaces that the class of this place lists, after those so far.
-#[tactic(auto, unfolding(ash_typing::specs::Items::listed_typed))]
+#[tactic(auto, unfolding(ash_typing::specs::Items::check_listed))]
 fn check_listed<'a>(
     env: &Environment,
     class: usize,
@@ -152,7 +152,7 @@ fn check_listed<'a>(
     name: &'a TypeName,
 ) -> CheckResult<()>
     ensures { Agrees (λ _. listed_interfaces_of listed.new) result
-        (definition.listed_typed (environment_of env.now) class (listed_interfaces_of listed.old)
+        (definition.check_listed (environment_of env.now) class (listed_interfaces_of listed.old)
         (type_name_of name.now)) }
 {
     let at = name.place.at;

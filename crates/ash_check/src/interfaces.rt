@@ -23,14 +23,14 @@ pub(crate) struct InterfaceParts<'a> {
 }
 
 /// Checks a method that an interface declares, after those so far.
-#[tactic(auto, unfolding(ash_typing::specs::Items::signature_typed))]
+#[tactic(auto, unfolding(ash_typing::specs::Items::check_signature))]
 fn check_signature<'a>(
     env: &Environment<'_, 'a>,
     parts: &mut InterfaceParts<'a>,
     method: &'a InterfaceMethod,
 ) -> CheckResult<()>
     ensures { Agrees (λ _. interface_parts_of parts.new) result
-        (definition.signature_typed (environment_of env.now) (interface_parts_of parts.old)
+        (definition.check_signature (environment_of env.now) (interface_parts_of parts.old)
         (interface_method_of method.now)) }
 {
     let of = check_result_type(env, &method.result)?;
@@ -47,14 +47,14 @@ fn check_signature<'a>(
 }
 
 /// Checks an interface that is after so many classes.
-#[tactic(auto, unfolding(ash_typing::specs::Items::interface_typed))]
+#[tactic(auto, unfolding(ash_typing::specs::Items::check_interface))]
 pub(crate) fn check_interface<'a>(
     env: &Environment<'_, 'a>,
     classes: usize,
     interface: &'a ash_tree::Interface,
 ) -> CheckResult<Interface>
     ensures { Agrees interface_of result
-        (definition.interface_typed (environment_of env.now) classes
+        (definition.check_interface (environment_of env.now) classes
         (written_interface interface.now)) }
 {
     let mut parts = InterfaceParts {

@@ -28,14 +28,14 @@ use indexmap::IndexSet;
 use std::alloc::Global;
 
 /// Checks variables of a module or of a class.
-#[tactic(auto, unfolding(ash_typing::specs::Items::vars_typed))]
+#[tactic(auto, unfolding(ash_typing::specs::Items::check_vars))]
 fn check_vars<'a>(
     env: &Environment<'_, 'a>,
     names: &mut Names<'a>,
     vars: &'a Vars,
 ) -> CheckResult<Variables>
     ensures { Agrees (row_of (names_of names.new)) result
-        (definition.vars_typed (environment_of env.now) (names_of names.old) (vars_of vars.now)) }
+        (definition.check_vars (environment_of env.now) (names_of names.old) (vars_of vars.now)) }
 {
     let place = place_of(&vars.of);
     let of = check_variable_type(&vars.of, ty_in(env, &vars.of))?;
@@ -76,7 +76,7 @@ fn check_constructor_name<'a>(
 }
 
 /// Checks a member of a class, after those so far.
-#[tactic(auto, using(crate::proofs::NodeLaws::values_append), unfolding(ash_typing::specs::Items::member_typed))]
+#[tactic(auto, using(crate::proofs::NodeLaws::values_append), unfolding(ash_typing::specs::Items::check_member))]
 fn check_member<'a>(
     env: &Environment<'_, 'a>,
     names: &mut Names<'a>,
@@ -84,7 +84,7 @@ fn check_member<'a>(
     member: &'a Member,
 ) -> CheckResult<()>
     ensures { Agrees (λ _. members_of (names_of names.new) class.new) result
-        (definition.member_typed (environment_of env.now)
+        (definition.check_member (environment_of env.now)
         (members_of (names_of names.old) class.old) (member_of member.now)) }
 {
     match member {
@@ -145,14 +145,14 @@ fn check_members<'a>(
 }
 
 /// Checks the class of this place.
-#[tactic(auto, unfolding(ash_typing::specs::Items::class_typed))]
+#[tactic(auto, unfolding(ash_typing::specs::Items::check_class))]
 fn check_class<'a>(
     env: &Environment<'_, 'a>,
     place: usize,
     class: &'a ash_tree::Class,
 ) -> CheckResult<Class>
     ensures { Agrees class_of result
-        (definition.class_typed (environment_of env.now) place (written_class class.now)) }
+        (definition.check_class (environment_of env.now) place (written_class class.now)) }
 {
     let listed = check_listed_interfaces(env, place, &class.interfaces)?;
     check_members(env, place, class, listed.interfaces)
@@ -170,7 +170,7 @@ fn check_type_count(at: usize, typed: &Module) -> CheckResult<usize>
 }
 
 /// Checks an item of a module, after those so far.
-#[tactic(auto, unfolding(ash_typing::specs::Items::item_typed))]
+#[tactic(auto, unfolding(ash_typing::specs::Items::check_item))]
 fn check_item<'a>(
     env: &Environment<'_, 'a>,
     names: &mut Names<'a>,
@@ -178,7 +178,7 @@ fn check_item<'a>(
     item: &'a Item,
 ) -> CheckResult<()>
     ensures { Agrees (λ _. walked_of (names_of names.new) typed.new) result
-        (definition.item_typed (environment_of env.now) (walked_of (names_of names.old) typed.old)
+        (definition.check_item (environment_of env.now) (walked_of (names_of names.old) typed.old)
         (item_of item.now)) }
 {
     match item {
@@ -244,14 +244,14 @@ fn check_items<'a>(
 }
 
 /// Checks a module.
-#[tactic(auto, unfolding(ash_typing::specs::Items::module_typed))]
+#[tactic(auto, unfolding(ash_typing::specs::Items::check_module))]
 pub(crate) fn check_module(
     alloc: Global,
     registry: &Registrations,
     declared: &ash_tree::Module,
 ) -> CheckResult<Module>
     ensures { Agrees module_of result
-        (definition.module_typed (registered registry.now) (written_module declared.now)) }
+        (definition.check_module (registered registry.now) (written_module declared.now)) }
 {
     let signatures = module_signatures(alloc, registry, declared)?;
     check_items(alloc, registry, &signatures, &declared.items)

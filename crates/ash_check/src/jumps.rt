@@ -19,10 +19,10 @@ use ash_typed::{Expr as Tree, Stmt as TypedStmt, StmtKind as TypedKind};
 use ash_typing::{Rule, Ty};
 
 /// `break`, which has to leave a loop or a `switch`.
-#[tactic(auto, unfolding(ash_typing::specs::Statements::break_typed))]
+#[tactic(auto, unfolding(ash_typing::specs::Statements::check_break))]
 pub(crate) fn check_break(scope: &Scope, place: Place) -> CheckResult<TypedStmt>
     ensures { Agrees stmt_of result
-        (definition.break_typed (scope.now.in_loop || scope.now.in_switch) place) }
+        (definition.check_break (scope.now.in_loop || scope.now.in_switch) place) }
 {
     let leaves = scope.in_loop || scope.in_switch;
     if !leaves {
@@ -35,9 +35,9 @@ pub(crate) fn check_break(scope: &Scope, place: Place) -> CheckResult<TypedStmt>
 }
 
 /// `continue`, which has to be in a loop.
-#[tactic(auto, unfolding(ash_typing::specs::Statements::continue_typed))]
+#[tactic(auto, unfolding(ash_typing::specs::Statements::check_continue))]
 pub(crate) fn check_continue(scope: &Scope, place: Place) -> CheckResult<TypedStmt>
-    ensures { Agrees stmt_of result (definition.continue_typed scope.now.in_loop place) }
+    ensures { Agrees stmt_of result (definition.check_continue scope.now.in_loop place) }
 {
     if !scope.in_loop {
         return Err(fault_at(Rule::Misplaced, place.at));
@@ -68,7 +68,7 @@ fn build_return_value(env: &Environment, of: Ty, at: usize, value: TypedExpr) ->
 }
 
 /// `return`, with a value where its function returns one.
-#[tactic(auto, unfolding(ash_typing::specs::Statements::return_typed))]
+#[tactic(auto, unfolding(ash_typing::specs::Statements::check_return))]
 pub(crate) fn check_return(
     scope: &Scope,
     locals: &[Binding],
@@ -76,7 +76,7 @@ pub(crate) fn check_return(
     value: &Option<Expr>,
 ) -> CheckResult<TypedStmt>
     ensures { Agrees stmt_of result
-        (definition.return_typed (scope_of scope.now (map binding_of locals.now)) place
+        (definition.check_return (scope_of scope.now (map binding_of locals.now)) place
         (option_map written.expr_of value.now)) }
 {
     let value = match value {

@@ -22,7 +22,7 @@ fn check_local_decls<'n>(
     decls: &'n [Decl],
 ) -> CheckResult<Vec<Initialization>>
     ensures typed { Agrees values_of result
-        (definition.decls_typed (scope_of scope.now (locals_of locals.old)) written.at written.of
+        (definition.check_decls (scope_of scope.now (locals_of locals.old)) written.at written.of
         (map decl_of decls.now)) }
     ensures locals { IfOk result
         (λ _. locals_of locals.new ≡ locals_of locals.old
@@ -40,14 +40,14 @@ fn check_local_decls<'n>(
 }
 
 /// Checks variables of one type.
-#[tactic(auto, unfolding(ash_typing::specs::Statements::vars_typed))]
+#[tactic(auto, unfolding(ash_typing::specs::Statements::check_vars))]
 pub(crate) fn check_local_vars<'n>(
     scope: &Scope<'_, 'n>,
     locals: &mut Vec<Binding<'n>>,
     vars: &'n Vars,
 ) -> CheckResult<Vec<Initialization>>
     ensures typed { Agrees values_of result
-        (definition.vars_typed (scope_of scope.now (locals_of locals.old)) (vars_of vars.now)) }
+        (definition.check_vars (scope_of scope.now (locals_of locals.old)) (vars_of vars.now)) }
     ensures locals { IfOk result
         (λ _. locals_of locals.new ≡ locals_of locals.old
         ++ scopes.declared_in (scope_of scope.now (locals_of locals.old)) (vars_of vars.now)) }

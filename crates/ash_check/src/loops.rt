@@ -23,14 +23,14 @@ use std::alloc::{AllocError, Global};
 
 /// Checks the head of a `for`, which the grammar has as a statement: nothing, variables, which are added to the locals,
 /// or an expression.
-#[tactic(auto, using(ash_tree::proofs::Rows::block_is, ash_tree::proofs::Rows::switch_is), unfolding(ash_typing::specs::Statements::head_typed))]
+#[tactic(auto, using(ash_tree::proofs::Rows::block_is, ash_tree::proofs::Rows::switch_is), unfolding(ash_typing::specs::Statements::check_head))]
 pub(crate) fn check_for_head<'n>(
     scope: &Scope<'_, 'n>,
     locals: &mut Vec<Binding<'n>>,
     source: &'n Source,
 ) -> CheckResult<Head>
     ensures typed { Agrees head_of result
-        (definition.head_typed (scope_of scope.now (locals_of locals.old))
+        (definition.check_head (scope_of scope.now (locals_of locals.old))
         (written.stmt_of source.now)) }
     ensures locals { IfOk result
         (λ _. scope_of scope.now (locals_of locals.new)
@@ -61,7 +61,7 @@ pub(crate) fn check_for_head<'n>(
 }
 
 /// `while (condition) inner`
-#[tactic(auto, unfolding(ash_typing::specs::Statements::while_typed))]
+#[tactic(auto, unfolding(ash_typing::specs::Statements::check_while))]
 pub(crate) fn build_while(
     alloc: Global,
     line: usize,
@@ -69,7 +69,7 @@ pub(crate) fn build_while(
     inner: Box<Stmt>,
 ) -> CheckResult<Stmt>
     ensures { Agrees stmt_of result
-        (definition.while_typed line (Ok (typed_of condition)) (Ok (stmt_of inner.value))) }
+        (definition.check_while line (Ok (typed_of condition)) (Ok (stmt_of inner.value))) }
 {
     check_bool(condition.at, condition.ty)?;
     let inside = nodes::repetition(Test::First, Some(condition.tree), Vec::new(alloc), inner);
@@ -77,7 +77,7 @@ pub(crate) fn build_while(
 }
 
 /// `do inner while (condition);`
-#[tactic(auto, unfolding(ash_typing::specs::Statements::do_while_typed))]
+#[tactic(auto, unfolding(ash_typing::specs::Statements::check_do_while))]
 pub(crate) fn build_do_while(
     alloc: Global,
     line: usize,
@@ -85,7 +85,7 @@ pub(crate) fn build_do_while(
     condition: TypedExpr,
 ) -> CheckResult<Stmt>
     ensures { Agrees stmt_of result
-        (definition.do_while_typed line (Ok (stmt_of inner.value)) (Ok (typed_of condition))) }
+        (definition.check_do_while line (Ok (stmt_of inner.value)) (Ok (typed_of condition))) }
 {
     check_bool(condition.at, condition.ty)?;
     let inside = nodes::repetition(Test::Last, Some(condition.tree), Vec::new(alloc), inner);
@@ -102,10 +102,10 @@ pub(crate) struct CheckedFor {
 }
 
 /// `for (head condition; steps) body`
-#[tactic(auto, unfolding(ash_typing::specs::Statements::for_typed))]
+#[tactic(auto, unfolding(ash_typing::specs::Statements::check_for))]
 pub(crate) fn build_for(alloc: Global, line: usize, parts: CheckedFor) -> CheckResult<Stmt>
     ensures { Agrees stmt_of result
-        (definition.for_typed line (Ok (head_of parts.head))
+        (definition.check_for line (Ok (head_of parts.head))
         (Ok (optional_typed_of parts.condition)) (Ok (all_typed_of parts.steps))
         (Ok (stmt_of parts.body.value))) }
 {
@@ -124,7 +124,7 @@ pub(crate) fn check_optional_expr(
     condition: &Option<Expr>,
 ) -> CheckResult<Option<TypedExpr>>
     ensures { Agrees optional_typed_of result
-        (definition.maybe_typed (environment_of env.now)
+        (definition.check_optional (environment_of env.now)
         (option_map written.expr_of condition.now)) }
 {
     match condition {

@@ -45,7 +45,7 @@ fn check_passed_type(written: &Type, of: Ty) -> CheckResult<Ty>
 /// Checks the type of a result.
 pub(crate) fn check_result_type(env: &Environment, of: &Option<Type>) -> CheckResult<Ty>
     ensures { Agrees (λ t. t) result
-        (definition.result_typed (environment_of env.now) (option_map type_of of.now)) }
+        (definition.check_result (environment_of env.now) (option_map type_of of.now)) }
 {
     match of {
         None => Ok(Ty::Void),
@@ -59,7 +59,7 @@ pub(crate) fn check_parameters<'a>(
     parameters: &'a [Parameter],
 ) -> CheckResult<Vec<Binding<'a>>>
     ensures { Agrees (λ all. map binding_of all.items) result
-        (definition.parameters_typed (environment_of env.now) []
+        (definition.check_parameters (environment_of env.now) []
         (map parameter_of parameters.now)) }
 {
     let mut all = Vec::with_capacity(env.alloc, parameters.len())?;
@@ -85,14 +85,14 @@ pub(crate) fn types_of(alloc: Global, all: &[Binding]) -> Result<Vec<VarType>, A
 }
 
 /// Checks a function that returns this type, a method or a constructor.
-#[tactic(auto, unfolding(ash_typing::specs::Items::routine_typed, ash_typing::specs::Items::returning))]
+#[tactic(auto, unfolding(ash_typing::specs::Items::check_routine, ash_typing::specs::Items::returning))]
 pub(crate) fn check_routine<'a>(
     env: &Environment<'_, 'a>,
     of: Ty,
     routine: Routine<'a>,
 ) -> CheckResult<Function>
     ensures { Agrees function_of result
-        (definition.routine_typed (environment_of env.now) of (routine_of routine.entry)) }
+        (definition.check_routine (environment_of env.now) of (routine_of routine.entry)) }
 {
     let locals = check_parameters(env, routine.parameters)?;
     let parameters = types_of(env.alloc, &locals)?;

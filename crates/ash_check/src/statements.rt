@@ -50,7 +50,7 @@ fn check_stmt<'n>(
     source: &'n Stmt,
 ) -> CheckResult<TypedStmt>
     ensures typed { Agrees stmt_of result
-        (definition.stmt_typed (scope_of scope.now (locals_of locals.old))
+        (definition.check_stmt (scope_of scope.now (locals_of locals.old))
         (written.stmt_of source.now)) }
     ensures locals { IfOk result
         (λ _. scope_of scope.now (locals_of locals.new)
@@ -108,7 +108,7 @@ fn check_declaration<'n>(
     vars: &'n Vars,
 ) -> CheckResult<TypedStmt>
     ensures typed { Agrees stmt_of result
-        (definition.stmt_typed (scope_of scope.now (locals_of locals.old))
+        (definition.check_stmt (scope_of scope.now (locals_of locals.old))
         (Declare place (written.vars_of vars.now))) }
     ensures locals { IfOk result
         (λ _. scope_of scope.now (locals_of locals.new)
@@ -130,7 +130,7 @@ fn check_evaluation(
     value: &Expr,
 ) -> CheckResult<TypedStmt>
     ensures { Agrees stmt_of result
-        (definition.stmt_typed (scope_of scope.now (map binding_of locals.now))
+        (definition.check_stmt (scope_of scope.now (map binding_of locals.now))
         (Evaluate place (written.expr_of value.now))) }
 {
     let value = check_expr(&(&*scope).environment(locals), AssignmentSide::Value, value)?;
@@ -148,7 +148,7 @@ fn check_branch<'n>(
     source: &'n Stmt,
 ) -> CheckResult<Box<TypedStmt>>
     ensures typed { Agrees (λ s. stmt_of s.value) result
-        (definition.stmt_typed (scope_of scope.now (locals_of locals.old))
+        (definition.check_stmt (scope_of scope.now (locals_of locals.old))
         (written.stmt_of source.now)) }
     ensures unchanged { IfOk result (λ _. locals_of locals.new ≡ locals_of locals.old) }
 {
@@ -166,7 +166,7 @@ pub(crate) fn check_block<'n>(
     body: &'n [Stmt],
 ) -> CheckResult<Vec<TypedStmt>>
     ensures typed { Agrees stmts_in result
-        (definition.stmts_typed (scope_of scope.now (locals_of locals.old))
+        (definition.check_stmts (scope_of scope.now (locals_of locals.old))
         (stmts (map written.stmt_of body.now))) }
     ensures unchanged { IfOk result (λ _. locals_of locals.new ≡ locals_of locals.old) }
 {
@@ -188,7 +188,7 @@ fn check_inner_block<'n>(
     body: &'n [Stmt],
 ) -> CheckResult<TypedStmt>
     ensures typed { Agrees stmt_of result
-        (definition.stmt_typed (scope_of scope.now (locals_of locals.old))
+        (definition.check_stmt (scope_of scope.now (locals_of locals.old))
         (Block place (stmts (map written.stmt_of body.now)))) }
     ensures unchanged { IfOk result (λ _. locals_of locals.new ≡ locals_of locals.old) }
 {
@@ -203,7 +203,7 @@ fn check_inner_block<'n>(
 
 /// `if (condition) inner`
 #[cycle(statements)]
-#[tactic(auto, unfolding(ash_typing::specs::Statements::if_typed))]
+#[tactic(auto, unfolding(ash_typing::specs::Statements::check_if))]
 fn check_if<'n>(
     scope: &Scope<'_, 'n>,
     locals: &mut Vec<Binding<'n>>,
@@ -212,7 +212,7 @@ fn check_if<'n>(
     inner: &'n Stmt,
 ) -> CheckResult<TypedStmt>
     ensures typed { Agrees stmt_of result
-        (definition.stmt_typed (scope_of scope.now (locals_of locals.old))
+        (definition.check_stmt (scope_of scope.now (locals_of locals.old))
         (If place (written.expr_of condition.now) (written.stmt_of inner.now))) }
     ensures unchanged { IfOk result (λ _. locals_of locals.new ≡ locals_of locals.old) }
 {
@@ -227,7 +227,7 @@ fn check_if<'n>(
 
 /// `if (condition) inner else other`
 #[cycle(statements)]
-#[tactic(auto, unfolding(ash_typing::specs::Statements::if_else_typed))]
+#[tactic(auto, unfolding(ash_typing::specs::Statements::check_if_else))]
 fn check_if_else<'n>(
     scope: &Scope<'_, 'n>,
     locals: &mut Vec<Binding<'n>>,
@@ -236,7 +236,7 @@ fn check_if_else<'n>(
     branches: Branches<'n>,
 ) -> CheckResult<TypedStmt>
     ensures typed { Agrees stmt_of result
-        (definition.stmt_typed (scope_of scope.now (locals_of locals.old))
+        (definition.check_stmt (scope_of scope.now (locals_of locals.old))
         (IfElse place (written.expr_of condition.now) (written.stmt_of branches.entry.then.now)
         (written.stmt_of branches.entry.otherwise.now))) }
     ensures unchanged { IfOk result (λ _. locals_of locals.new ≡ locals_of locals.old) }
@@ -253,7 +253,7 @@ fn check_if_else<'n>(
 
 /// `while (condition) inner`
 #[cycle(statements)]
-#[tactic(auto, unfolding(ash_typing::specs::Statements::while_typed))]
+#[tactic(auto, unfolding(ash_typing::specs::Statements::check_while))]
 fn check_while<'n>(
     scope: &Scope<'_, 'n>,
     locals: &mut Vec<Binding<'n>>,
@@ -262,7 +262,7 @@ fn check_while<'n>(
     inner: &'n Stmt,
 ) -> CheckResult<TypedStmt>
     ensures typed { Agrees stmt_of result
-        (definition.stmt_typed (scope_of scope.now (locals_of locals.old))
+        (definition.check_stmt (scope_of scope.now (locals_of locals.old))
         (While place (written.expr_of condition.now) (written.stmt_of inner.now))) }
     ensures unchanged { IfOk result (λ _. locals_of locals.new ≡ locals_of locals.old) }
 {
@@ -281,7 +281,7 @@ fn check_while<'n>(
 
 /// `do inner while (condition);`
 #[cycle(statements)]
-#[tactic(auto, unfolding(ash_typing::specs::Statements::do_while_typed))]
+#[tactic(auto, unfolding(ash_typing::specs::Statements::check_do_while))]
 fn check_do_while<'n>(
     scope: &Scope<'_, 'n>,
     locals: &mut Vec<Binding<'n>>,
@@ -290,7 +290,7 @@ fn check_do_while<'n>(
     condition: &Expr,
 ) -> CheckResult<TypedStmt>
     ensures typed { Agrees stmt_of result
-        (definition.stmt_typed (scope_of scope.now (locals_of locals.old))
+        (definition.check_stmt (scope_of scope.now (locals_of locals.old))
         (DoWhile place (written.stmt_of inner.now) (written.expr_of condition.now))) }
     ensures unchanged { IfOk result (λ _. locals_of locals.new ≡ locals_of locals.old) }
 {
@@ -309,14 +309,14 @@ fn check_do_while<'n>(
 
 /// `for (first; condition; steps) body`
 #[cycle(statements)]
-#[tactic(auto, unfolding(ash_typing::specs::Statements::for_typed))]
+#[tactic(auto, unfolding(ash_typing::specs::Statements::check_for))]
 fn check_for<'n>(
     scope: &Scope<'_, 'n>,
     locals: &mut Vec<Binding<'n>>,
     parts: ForParts<'n>,
 ) -> CheckResult<TypedStmt>
     ensures typed { Agrees stmt_of result
-        (definition.stmt_typed (scope_of scope.now (locals_of locals.old))
+        (definition.check_stmt (scope_of scope.now (locals_of locals.old))
         (For parts.entry.place (written.stmt_of parts.entry.first.now)
         (option_map written.expr_of parts.entry.condition.now)
         (map written.expr_of parts.entry.steps.now) (written.stmt_of parts.entry.body.now))) }
@@ -356,7 +356,7 @@ fn check_switch<'n>(
     labels: &'n [Case],
 ) -> CheckResult<TypedStmt>
     ensures typed { Agrees stmt_of result
-        (definition.stmt_typed (scope_of scope.now (locals_of locals.old))
+        (definition.check_stmt (scope_of scope.now (locals_of locals.old))
         (Switch place (written.expr_of value.now) (cases (map written.case_of labels.now)))) }
     ensures unchanged { IfOk result (λ _. locals_of locals.new ≡ locals_of locals.old) }
 {
@@ -379,7 +379,7 @@ fn check_cases<'n>(
     labels: &'n [Case],
 ) -> CheckResult<Vec<TypedCase>>
     ensures typed { Agrees cases_in result
-        (definition.cases_typed (scope_of scope.now (locals_of locals.old)) int_type []
+        (definition.check_cases (scope_of scope.now (locals_of locals.old)) int_type []
         (cases (map written.case_of labels.now))) }
     ensures unchanged { IfOk result (λ _. locals_of locals.new ≡ locals_of locals.old) }
 {

@@ -87,14 +87,14 @@ pub(crate) struct LabelContext<'a> {
 }
 
 /// The constant of a label at this offset, after the labels before it.
-#[tactic(auto, unfolding(ash_typing::specs::Switches::constant_typed))]
+#[tactic(auto, unfolding(ash_typing::specs::Switches::check_constant))]
 fn check_constant(
     int_type: Option<IntType>,
     before: &[Label],
     at: usize,
     label: Label,
 ) -> CheckResult<Label>
-    ensures { Agrees (λ l. l) result (definition.constant_typed int_type before.now at label) }
+    ensures { Agrees (λ l. l) result (definition.check_constant int_type before.now at label) }
 {
     if !is_within(int_type, label) {
         return Err(fault_at(Rule::ConstantOutOfRange, at));
@@ -106,10 +106,10 @@ fn check_constant(
 }
 
 /// A label at this offset: `default` has to be the last one.
-#[tactic(auto, unfolding(ash_typing::specs::Switches::label_typed))]
+#[tactic(auto, unfolding(ash_typing::specs::Switches::check_label))]
 pub(crate) fn check_label(context: LabelContext, at: usize, label: Label) -> CheckResult<Label>
     ensures { Agrees (λ l. l) result
-        (definition.label_typed context.entry.int_type context.entry.before.now
+        (definition.check_label context.entry.int_type context.entry.before.now
         context.entry.is_last at label) }
 {
     match label {

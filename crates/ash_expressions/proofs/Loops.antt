@@ -9,7 +9,7 @@ use Rattle.ash_typing.specs.TypingResult.{TypingResult, ◌>>=◌}
 use Rattle.ash_typed.specs.Tree.{Expr, Exprs, no_expr, expr, exprs}
 use Rattle.ash_typed.specs.Views.{expr_of}
 use Rattle.ash_typing.specs.Environment.{Environment, Class}
-use Rattle.ash_typing.specs.Expressions.{TypedExpr, coerced_for_assignment, all_coerced, typed, all_typed}
+use Rattle.ash_typing.specs.Expressions.{TypedExpr, coerced_for_assignment, all_coerced, check_expr, check_exprs}
 use Rattle.ash_expressions.specs.declared.error.CheckError.{CheckError}
 use Rattle.ash_expressions.specs.declared.error.CheckError.TheVariants as errors
 use Rattle.ash_expressions.specs.Agreement.{FailsWith}
@@ -91,20 +91,20 @@ module _ (classes : List Class) where
 abbrev pub typed_after : List TypedExpr → TypingResult (List TypedExpr) → TypingResult (List TypedExpr)
 typed_after done r = r >>= λ ts. Ok (done ++ ts)
 
-pub none_typed : (r : TypingResult (List TypedExpr)) → typed_after [] r ≡ r
-none_typed (Ok ts) = refl
-none_typed (Err f) = refl
+pub after_none : (r : TypingResult (List TypedExpr)) → typed_after [] r ≡ r
+after_none (Ok ts) = refl
+after_none (Err f) = refl
 
-pub all_are_typed : (done : List TypedExpr) → typed_after done (Ok []) ≡ Ok done
-all_are_typed done = ap Ok (append-nil done)
+pub after_all : (done : List TypedExpr) → typed_after done (Ok []) ≡ Ok done
+after_all done = ap Ok (append-nil done)
 
-more_typed : (done : List TypedExpr) (t : TypedExpr) (r : TypingResult (List TypedExpr)) → typed_after done (r >>= λ ts. Ok (t ∷ ts)) ≡ typed_after (done ++ t ∷ []) r
-more_typed done t (Ok ts) = ap Ok (sym (append_assoc done (t ∷ []) ts))
-more_typed done t (Err f) = refl
+after_one_more : (done : List TypedExpr) (t : TypedExpr) (r : TypingResult (List TypedExpr)) → typed_after done (r >>= λ ts. Ok (t ∷ ts)) ≡ typed_after (done ++ t ∷ []) r
+after_one_more done t (Ok ts) = ap Ok (sym (append_assoc done (t ∷ []) ts))
+after_one_more done t (Err f) = refl
 
-pub typed_next : (env : Environment) (done : List TypedExpr) (e : written.Expr) (es : written.Exprs) (t : TypedExpr) → typed env false e ≡ Ok t → typed_after done (all_typed env (written.expr e es)) ≡ typed_after (done ++ t ∷ []) (all_typed env es)
+pub typed_next : (env : Environment) (done : List TypedExpr) (e : written.Expr) (es : written.Exprs) (t : TypedExpr) → check_expr env false e ≡ Ok t → typed_after done (check_exprs env (written.expr e es)) ≡ typed_after (done ++ t ∷ []) (check_exprs env es)
 typed_next env done e es t h =
-    ap (λ r. typed_after done (r >>= λ x. all_typed env es >>= λ ts. Ok (x ∷ ts))) h ∙ more_typed done t (all_typed env es)
+    ap (λ r. typed_after done (r >>= λ x. check_exprs env es >>= λ ts. Ok (x ∷ ts))) h ∙ after_one_more done t (check_exprs env es)
 
-pub typed_ends : (env : Environment) (done : List TypedExpr) (e : written.Expr) (es : written.Exprs) (f : Fault) → typed env false e ≡ Err f → typed_after done (all_typed env (written.expr e es)) ≡ Err f
-typed_ends env done e es f h = ap (λ r. typed_after done (r >>= λ x. all_typed env es >>= λ ts. Ok (x ∷ ts))) h
+pub typed_ends : (env : Environment) (done : List TypedExpr) (e : written.Expr) (es : written.Exprs) (f : Fault) → check_expr env false e ≡ Err f → typed_after done (check_exprs env (written.expr e es)) ≡ Err f
+typed_ends env done e es f h = ap (λ r. typed_after done (r >>= λ x. check_exprs env es >>= λ ts. Ok (x ∷ ts))) h

@@ -34,7 +34,7 @@ use ash_typing::Ty;
 #[cycle(expressions)]
 pub fn check_expr(env: &Environment, side: AssignmentSide, source: &Expr) -> CheckResult<TypedExpr>
     ensures typed_as_defined { Agrees typed_of result
-        (typing.typed (environment_of env.now) (is_target side) (written.expr_of source.now)) }
+        (typing.check_expr (environment_of env.now) (is_target side) (written.expr_of source.now)) }
 {
     let at = source.place.at;
     match &source.kind {
@@ -91,7 +91,7 @@ pub fn check_expr(env: &Environment, side: AssignmentSide, source: &Expr) -> Che
 #[inline(never)]
 fn check_brackets(env: &Environment, at: usize, inner: &Expr) -> CheckResult<TypedExpr>
     ensures { Agrees typed_of result
-        (typing.typed (environment_of env.now) false (written.expr_of inner.now)
+        (typing.check_expr (environment_of env.now) false (written.expr_of inner.now)
         and_then λ t. Ok (typing.in_brackets at t)) }
 {
     let inner = check_expr(env, AssignmentSide::Value, inner)?;
@@ -108,7 +108,7 @@ fn check_conversion(
     value: &Expr,
 ) -> CheckResult<TypedExpr>
     ensures { Agrees typed_of result
-        (typing.typed (environment_of env.now) false (written.expr_of value.now)
+        (typing.check_expr (environment_of env.now) false (written.expr_of value.now)
         and_then λ t. typing.convert_at at to t) }
 {
     let value = check_expr(env, AssignmentSide::Value, value)?;
@@ -123,7 +123,7 @@ fn check_cast(env: &Environment, at: usize, to: &TypeName, value: &Expr) -> Chec
         (typing.cast_type to.now.place.at
         (object_named (environment_of env.now).registered (environment_of env.now).declarations
         (written.type_name_of to.now).name)
-        and_then λ o. typing.typed (environment_of env.now) false (written.expr_of value.now)
+        and_then λ o. typing.check_expr (environment_of env.now) false (written.expr_of value.now)
         and_then λ t. typing.cast_at at o t) }
 {
     let object = object_named(env.registry, env.signatures, to.name.as_str());
@@ -142,8 +142,8 @@ fn check_new_array(
     arguments: &[Expr],
 ) -> CheckResult<TypedExpr>
     ensures { Agrees typed_of result
-        (typing.array_typed (environment_of env.now) at (written.element_of of.now)
-        (typing.all_typed (environment_of env.now) (exprs (map written.expr_of arguments.now)))) }
+        (typing.check_array (environment_of env.now) at (written.element_of of.now)
+        (typing.check_exprs (environment_of env.now) (exprs (map written.expr_of arguments.now)))) }
 {
     let element = element_named(env.registry, env.signatures, of);
     let element = check_element_type(of.place.at, element)?;
@@ -157,7 +157,7 @@ fn check_new_array(
 #[inline(never)]
 fn check_unary(env: &Environment, prefix: Prefix, operand: &Expr) -> CheckResult<TypedExpr>
     ensures { Agrees typed_of result
-        (typing.typed (environment_of env.now) false (written.expr_of operand.now)
+        (typing.check_expr (environment_of env.now) false (written.expr_of operand.now)
         and_then λ t. typing.unary_at (is_target prefix.side) prefix.at prefix.operator t) }
 {
     let operand = check_expr(env, AssignmentSide::Value, operand)?;
@@ -169,8 +169,8 @@ fn check_unary(env: &Environment, prefix: Prefix, operand: &Expr) -> CheckResult
 #[inline(never)]
 fn check_binary(env: &Environment, first: &Expr, operators: &[Link]) -> CheckResult<TypedExpr>
     ensures { Agrees typed_of result
-        (typing.typed (environment_of env.now) false (written.expr_of first.now)
-        and_then λ t. typing.links_typed (environment_of env.now) t
+        (typing.check_expr (environment_of env.now) false (written.expr_of first.now)
+        and_then λ t. typing.check_links (environment_of env.now) t
         (links (map written.operation_of operators.now))) }
 {
     let mut typed = check_expr(env, AssignmentSide::Value, first)?;
@@ -191,9 +191,9 @@ fn check_conditional(
     otherwise: &Expr,
 ) -> CheckResult<TypedExpr>
     ensures { Agrees typed_of result
-        (typing.typed (environment_of env.now) false (written.expr_of condition.now)
-        and_then λ c. typing.typed (environment_of env.now) false (written.expr_of then.now)
-        and_then λ a. typing.typed (environment_of env.now) false (written.expr_of otherwise.now)
+        (typing.check_expr (environment_of env.now) false (written.expr_of condition.now)
+        and_then λ c. typing.check_expr (environment_of env.now) false (written.expr_of then.now)
+        and_then λ a. typing.check_expr (environment_of env.now) false (written.expr_of otherwise.now)
         and_then λ b. typing.choice c a b) }
 {
     let condition = check_expr(env, AssignmentSide::Value, condition)?;
@@ -212,9 +212,9 @@ fn check_assignment(
     value: &Expr,
 ) -> CheckResult<TypedExpr>
     ensures { Agrees typed_of result
-        (typing.typed (environment_of env.now) (typing.is_assign operator)
+        (typing.check_expr (environment_of env.now) (typing.is_assign operator)
         (written.expr_of target.now)
-        and_then λ t. typing.typed (environment_of env.now) false (written.expr_of value.now)
+        and_then λ t. typing.check_expr (environment_of env.now) false (written.expr_of value.now)
         and_then λ v. typing.assigned (classes_of env.now) t operator v) }
 {
     let target = check_expr(env, target_side(operator), target)?;
@@ -227,8 +227,8 @@ fn check_assignment(
 #[inline(never)]
 fn check_call(env: &Environment, name: Name, arguments: &[Expr]) -> CheckResult<TypedExpr>
     ensures { Agrees typed_of result
-        (typing.call_typed (environment_of env.now) name.entry.at name.entry.text.now
-        (typing.all_typed (environment_of env.now) (exprs (map written.expr_of arguments.now)))) }
+        (typing.check_call (environment_of env.now) name.entry.at name.entry.text.now
+        (typing.check_exprs (environment_of env.now) (exprs (map written.expr_of arguments.now)))) }
 {
     let callee = callee_named(env, name)?;
     let exprs = check_exprs(env, arguments)?;
@@ -240,7 +240,7 @@ fn check_call(env: &Environment, name: Name, arguments: &[Expr]) -> CheckResult<
 #[cycle(expressions)]
 pub fn check_exprs(env: &Environment, arguments: &[Expr]) -> CheckResult<Vec<TypedExpr>>
     ensures all_typed_in_order { Agrees all_typed_of result
-        (typing.all_typed (environment_of env.now) (exprs (map written.expr_of arguments.now))) }
+        (typing.check_exprs (environment_of env.now) (exprs (map written.expr_of arguments.now))) }
 {
     let mut typed = Vec::with_capacity(env.alloc, arguments.len())?;
     for argument in arguments {
@@ -254,8 +254,8 @@ pub fn check_exprs(env: &Environment, arguments: &[Expr]) -> CheckResult<Vec<Typ
 #[inline(never)]
 fn check_postfix(env: &Environment, operand: &Expr, rest: &[Suffix]) -> CheckResult<TypedExpr>
     ensures { Agrees typed_of result
-        (typing.typed (environment_of env.now) false (written.expr_of operand.now)
-        and_then λ t. typing.suffixes_typed (environment_of env.now) t
+        (typing.check_expr (environment_of env.now) false (written.expr_of operand.now)
+        and_then λ t. typing.check_suffixes (environment_of env.now) t
         (suffixes (map written.suffix_of rest.now))) }
 {
     let mut typed = check_expr(env, AssignmentSide::Value, operand)?;
@@ -268,7 +268,7 @@ fn check_postfix(env: &Environment, operand: &Expr, rest: &[Suffix]) -> CheckRes
 #[cycle(expressions)]
 fn check_suffix(env: &Environment, base: TypedExpr, suffix: &Suffix) -> CheckResult<TypedExpr>
     ensures { Agrees typed_of result
-        (typing.suffix_typed (environment_of env.now) (typed_of base)
+        (typing.check_suffix (environment_of env.now) (typed_of base)
         (written.suffix_of suffix.now)) }
 {
     match suffix {
@@ -306,7 +306,7 @@ fn check_suffix(env: &Environment, base: TypedExpr, suffix: &Suffix) -> CheckRes
 #[inline(never)]
 fn check_index(env: &Environment, base: TypedExpr, value: &Expr) -> CheckResult<TypedExpr>
     ensures { Agrees typed_of result
-        (typing.typed (environment_of env.now) false (written.expr_of value.now)
+        (typing.check_expr (environment_of env.now) false (written.expr_of value.now)
         and_then λ i. typing.indexed (typed_of base) base.ty i) }
 {
     let value = check_expr(env, AssignmentSide::Value, value)?;
@@ -322,9 +322,9 @@ fn check_method_call(
     arguments: &[Expr],
 ) -> CheckResult<TypedExpr>
     ensures { Agrees typed_of result
-        (typing.invocation_typed (environment_of env.now) (typed_of base) name.entry.at
+        (typing.check_invocation (environment_of env.now) (typed_of base) name.entry.at
         name.entry.text.now
-        (typing.all_typed (environment_of env.now) (exprs (map written.expr_of arguments.now)))) }
+        (typing.check_exprs (environment_of env.now) (exprs (map written.expr_of arguments.now)))) }
 {
     let method = find_method(env, &base, name)?;
     let exprs = check_exprs(env, arguments)?;

@@ -12,24 +12,24 @@ use Rattle.ash_steps.specs.SourceViews.{TakesMemoryToRead}
 use Rattle.ash_sources.specs.Lexing.{IsText}
 use Rattle.ash_sources.specs.CheckedSource.{CheckResult, Checks, no_tokens, has_tokens, ChecksTokens, checked_source}
 use Rattle.ash_sources.specs.Scripts.{SpellsScript, HasNoScript}
-use Rattle.ash_sources.specs.TypedSource.{TypedResult, items_typed, typed_source}
+use Rattle.ash_sources.specs.TypedSource.{TypedResult, check_items, typed_source}
 use Rattle.ash_sources.specs.declared.sources.AdmittedScripts.{AdmittedScripts}
 use Rattle.ash_sources.specs.declared.sources.AdmittedScripts.TheVariants as scripts
-use Rattle.ash_sources.specs.Sources.{SourceRules, typed_or_not_yet, unless_untyped, admitted_as, read_typed}
+use Rattle.ash_sources.specs.Sources.{SourceRules, typed_or_not_yet, unless_untyped, admitted_as, read_source}
 use Rattle.ash_sources.specs.Sources.{registrations_by, host_for, embedding_of, admitting_unregistered}
 use Rattle.ash_sources.specs.declared.fault.SourceError.{SourceError}
 use Rattle.ash_sources.specs.declared.fault.SourceError.TheVariants as errors
 use Rattle.ash_sources.specs.SourceFaults.{SourceFault, NotYet, fault_of}
 use Rattle.ash_sources.specs.SourceFaults.{TakesMemoryToFind, TakesMemoryFor, RefusesAs, RefusesWhere}
 use Rattle.ash_sources.proofs.CheckedSourceLaws.{checked_source-is}
-use Rattle.ash_sources.proofs.TypedSourceLaws.{spelled_typed, unspelled_typed, typed_sound, refused_exact, takes_typed}
+use Rattle.ash_sources.proofs.TypedSourceLaws.{typed_where_spelled, refused_where_unspelled, typed_sound, refused_exact, takes_memory_to_type}
 
 -- a source that spells a script is read as the script is
 pub spelled_read : (rules : SourceRules) (source : List ℕ) (items : List Item) → SpellsScript source items
-    → read_typed rules source
-    ≡ admitted_as rules.admitted (items_typed rules.registered items) (items_typed [] items)
+    → read_source rules source
+    ≡ admitted_as rules.admitted (check_items rules.registered items) (check_items [] items)
 spelled_read rules source items h = ap₂ (admitted_as rules.admitted)
-    (spelled_typed rules.registered source items h) (spelled_typed [] source items h)
+    (typed_where_spelled rules.registered source items h) (typed_where_spelled [] source items h)
 
 refused_as : (admitted : AdmittedScripts) (fault : SourceFault) (alone : TypedResult)
     → admitted_as admitted (Err fault) alone ≡ Err fault
@@ -38,10 +38,10 @@ refused_as scripts.UsingNothingRegistered fault alone = refl
 
 -- and one that spells none has the fault of that
 unspelled_read : (rules : SourceRules) (source : List ℕ) (fault : SourceFault) → HasNoScript source fault
-    → read_typed rules source ≡ Err fault
+    → read_source rules source ≡ Err fault
 unspelled_read rules source fault h =
     ap (λ (r : TypedResult). admitted_as rules.admitted r (typed_source [] source))
-    (unspelled_typed rules.registered source fault h)
+    (refused_where_unspelled rules.registered source fault h)
     ∙ refused_as rules.admitted fault (typed_source [] source)
 
 -- a text takes memory to read
@@ -56,14 +56,14 @@ takes_admitted scripts.All typed alone h = h
 takes_admitted scripts.UsingNothingRegistered (Ok typed) alone h = takes_alone alone
 takes_admitted scripts.UsingNothingRegistered (Err fault) alone h = h
 
-takes_read : (rules : SourceRules) (source : List ℕ) → IsText source → TakesMemoryFor (read_typed rules source)
+takes_read : (rules : SourceRules) (source : List ℕ) → IsText source → TakesMemoryFor (read_source rules source)
 takes_read rules source text = takes_admitted rules.admitted (typed_source rules.registered source)
-    (typed_source [] source) (takes_typed rules.registered source text)
+    (typed_source [] source) (takes_memory_to_type rules.registered source text)
 
 -- what the code answers of a source
 
 pub source_unread : (rules : SourceRules) (source : List ℕ) (error : SourceError)
-    → RefusesWhere (HasNoScript source) (IsText source) error → RefusesAs (read_typed rules source) error
+    → RefusesWhere (HasNoScript source) (IsText source) error → RefusesAs (read_source rules source) error
 source_unread rules source (errors.Fault fault) h = unspelled_read rules source (fault_of fault) h
 source_unread rules source errors.NoMemory h = takes_read rules source h
 
@@ -72,9 +72,9 @@ takes_as : (r : TypedResult) → TakesMemoryFor r → TakesMemoryToRead TakesMem
 takes_as (Ok typed) h = h
 takes_as (Err fault) h = h
 
-pub memory_refused : (rules : SourceRules) (source : List ℕ) → TakesMemoryFor (read_typed rules source)
-    → TakesMemoryToRead TakesMemoryToFind (read_typed rules source)
-memory_refused rules source h = takes_as (read_typed rules source) h
+pub memory_refused : (rules : SourceRules) (source : List ℕ) → TakesMemoryFor (read_source rules source)
+    → TakesMemoryToRead TakesMemoryToFind (read_source rules source)
+memory_refused rules source h = takes_as (read_source rules source) h
 
 -- what the code answers of a script
 
@@ -109,7 +109,7 @@ pub read_sound : (rules : SourceRules) → ReadsSound (host_for rules) (embeddin
 read_sound rules source tree e = sound_as rules.admitted rules.registered source tree e
 
 pub sound_if : (rules : SourceRules) (source : List ℕ) (r : Result code_tree.Module SourceError)
-    → IfOk r (λ found. read_typed rules source ≡ Ok (module_of found))
+    → IfOk r (λ found. read_source rules source ≡ Ok (module_of found))
     → IfOk r (λ found. IsSound (host_for rules) (module_of found))
 sound_if rules source (Ok found) e = read_sound rules source (module_of found) e
 sound_if rules source (Err error) e = tt
@@ -128,7 +128,7 @@ both_read (Ok typed) alone tree ok e = ap typed_or_not_yet e
 both_read (Err fault) alone tree ok e = absurd (cc)
 
 pub admitted_exact : (registrations : List Registration) (source : List ℕ) (typed : Typed)
-    → (read_typed (admitting_unregistered registrations) source ≡ Ok typed)
+    → (read_source (admitting_unregistered registrations) source ≡ Ok typed)
     ↔ (IsOk (typed_source registrations source) × (typed_source [] source ≡ Ok typed))
 admitted_exact registrations source typed = (
   read_both (typed_source registrations source) (typed_source [] source) typed,
@@ -160,7 +160,7 @@ both_not_yet (Ok typed) (Err fault) ok err = refl
 both_not_yet (Err fault) alone ok err = absurd (cc)
 
 pub not_admitted_exact : (registrations : List Registration) (source : List ℕ)
-    → (read_typed (admitting_unregistered registrations) source ≡ Err NotYet)
+    → (read_source (admitting_unregistered registrations) source ≡ Err NotYet)
     ↔ (IsOk (typed_source registrations source) × IsErr (typed_source [] source))
 not_admitted_exact registrations source = (
   not_yet_both (typed_source registrations source) (typed_source [] source) (never_not_yet registrations source),

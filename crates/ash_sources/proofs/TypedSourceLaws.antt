@@ -14,7 +14,7 @@ use Rattle.ash_check.proofs.ExactLaws.{accepted_is}
 use Rattle.ash_sources.specs.Lexing.{IsText}
 use Rattle.ash_sources.specs.CheckedSource.{CheckResult, Checks, no_tokens, has_tokens, unless_fault, checked_source}
 use Rattle.ash_sources.specs.Scripts.{SpellsScript, HasNoScript}
-use Rattle.ash_sources.specs.TypedSource.{IsTypedSource, typed_or_fault, items_typed}
+use Rattle.ash_sources.specs.TypedSource.{IsTypedSource, typed_or_fault, check_items}
 use Rattle.ash_sources.specs.TypedSource.{typed_if_checked, typed_source}
 use Rattle.ash_sources.specs.declared.fault.SourceError.{SourceError}
 use Rattle.ash_sources.specs.SourceFaults.{SourceFault, typing_error, TakesMemoryFor, RefusesAs}
@@ -35,37 +35,37 @@ reports_as answer check_faults.NoMemory h = takes_items answer
 
 pub items_untyped : (registered : List Registration) (items : List Item) (fault : CheckFault)
     → Reports (checked registered items) fault → (error : SourceError) → error ≡ typing_error fault
-    → RefusesAs (items_typed registered items) error
+    → RefusesAs (check_items registered items) error
 items_untyped registered items fault h error is =
-    subst (RefusesAs (items_typed registered items)) (sym is) (reports_as (checked registered items) fault h)
+    subst (RefusesAs (check_items registered items)) (sym is) (reports_as (checked registered items) fault h)
 
 -- a source that spells a script is typed as the script is
 
 typed_by : (registered : List Registration) (items : List Item) (r : Result Typed ScriptFault) → checked registered items ≡ r
-    → typed_if_checked registered (unless_fault items r) ≡ items_typed registered items
+    → typed_if_checked registered (unless_fault items r) ≡ check_items registered items
 typed_by registered items (Ok typed) e = refl
 typed_by registered items (Err fault) e = sym (ap typed_or_fault e)
 
-pub spelled_typed : (registered : List Registration) (source : List ℕ) (items : List Item) → SpellsScript source items
-    → typed_source registered source ≡ items_typed registered items
+pub typed_where_spelled : (registered : List Registration) (source : List ℕ) (items : List Item) → SpellsScript source items
+    → typed_source registered source ≡ check_items registered items
 unfolding typed_source
-spelled_typed registered source items h = ap (typed_if_checked registered) (spelled_checked registered source items h)
+typed_where_spelled registered source items h = ap (typed_if_checked registered) (spelled_checked registered source items h)
     ∙ typed_by registered items (checked registered items) refl
 
 -- and one that spells none has the fault of that
-pub unspelled_typed : (registered : List Registration) (source : List ℕ) (fault : SourceFault)
+pub refused_where_unspelled : (registered : List Registration) (source : List ℕ) (fault : SourceFault)
     → HasNoScript source fault → typed_source registered source ≡ Err fault
 unfolding typed_source
-unspelled_typed registered source fault h =
+refused_where_unspelled registered source fault h =
     ap (typed_if_checked registered) (unspelled_checked registered source fault h)
 
 -- what a source is typed as, by the rules
 
-pub rules_typed : (registered : List Registration) (source : List ℕ) (typed : Typed) → IsTypedSource registered source typed
+pub typed_by_rules : (registered : List Registration) (source : List ℕ) (typed : Typed) → IsTypedSource registered source typed
     → typed_source registered source ≡ Ok typed
-rules_typed registered source typed h =
+typed_by_rules registered source typed h =
     let spelled : SpellsScript source h.items = record { tokens = h.tokens; lexed = h.lexed; derived = h.derived } in
-    spelled_typed registered source h.items spelled
+    typed_where_spelled registered source h.items spelled
     ∙ ap typed_or_fault ((accepted_is registered h.items typed).1 (h.by_rules, h.acyclic))
 
 ok_of : (r : Result Typed ScriptFault) (typed : Typed) → typed_or_fault r ≡ Ok typed → r ≡ Ok typed
@@ -96,7 +96,7 @@ typed_rules registered source typed e = by_outcome registered source typed (chec
 
 pub typed_exact : (registered : List Registration) (source : List ℕ) (typed : Typed)
     → (typed_source registered source ≡ Ok typed) ↔ IsTypedSource registered source typed
-typed_exact registered source typed = (typed_rules registered source typed, rules_typed registered source typed)
+typed_exact registered source typed = (typed_rules registered source typed, typed_by_rules registered source typed)
 
 pub typed_sound : (registered : List Registration) (source : List ℕ) (typed : Typed)
     → typed_source registered source ≡ Ok typed → IsSound (offered registered) typed
@@ -113,7 +113,7 @@ refused_by registered source fault (Ok items) (no_tokens other is h) e = absurd 
 refused_by registered source fault (Ok items) (has_tokens tokens h script) e =
     let is : checked registered items ≡ Ok script.typed =
     (accepted_is registered items script.typed).1 (script.by_rules, script.acyclic) in
-    absurd (let typed : items_typed registered items ≡ Ok script.typed = ap typed_or_fault is in cc)
+    absurd (let typed : check_items registered items ≡ Ok script.typed = ap typed_or_fault is in cc)
 
 typed_refused : (registered : List Registration) (source : List ℕ) (fault : SourceFault)
     → typed_source registered source ≡ Err fault → checked_source registered source ≡ Err fault
@@ -138,8 +138,8 @@ takes_checked : (registered : List Registration) (outcome : CheckResult) → Tak
 takes_checked registered (Ok items) h = takes_items (checked registered items)
 takes_checked registered (Err fault) h = h
 
-pub takes_typed : (registered : List Registration) (source : List ℕ) → IsText source
+pub takes_memory_to_type : (registered : List Registration) (source : List ℕ) → IsText source
     → TakesMemoryFor (typed_source registered source)
 unfolding typed_source
-takes_typed registered source text =
+takes_memory_to_type registered source text =
     takes_checked registered (checked_source registered source) (takes_text registered source text)

@@ -19,7 +19,7 @@ use Rattle.ash_parse.specs.Faults.{fault_of}
 use Rattle.ash_parse.specs.FirstFault.{FirstFault}
 use Rattle.ash_registry.specs.Registrations.{Registration}
 use Rattle.ash_typing.specs.declared.fault.Fault.{Fault}
-use Rattle.ash_typing.specs.Items.{module_typed}
+use Rattle.ash_typing.specs.Items.{check_module}
 use Rattle.ash_typing.specs.TypedModules.{IsTyped}
 use Rattle.ash_typed.specs.Modules.{Module}
 use Rattle.ash_classes.specs.References.{Refers, classes_of}
@@ -68,7 +68,7 @@ pub record IsTypedScript (registered : List Registration) (tokens : List Lexeme)
 pub record IsUntypedScript (registered : List Registration) (tokens : List Lexeme) (fault : Fault) : Type 0 where
   pub items : List Item
   pub derived : Derives 0 (tokens_in tokens) items
-  pub first : module_typed registered items ≡ Err fault
+  pub first : check_module registered items ≡ Err fault
 
 -- The tokens are those of a script to which the rules give a typed module, and a class reaches itself: these are the
 -- names of the one cycle that is reported.

@@ -38,8 +38,8 @@ admitted_as scripts.UsingNothingRegistered typed alone = unless_untyped typed al
 -- The typed tree that a source is read as, or the fault for which it is none. Where only those scripts are admitted
 -- that use nothing registered, the fault that checking comes to is the first; a source with none has the typed tree
 -- that it has with nothing registered, or is one that can't be run so far.
-abbrev pub read_typed : SourceRules → List ℕ → TypedResult
-read_typed rules source =
+abbrev pub read_source : SourceRules → List ℕ → TypedResult
+read_source rules source =
     admitted_as rules.admitted (typed_source rules.registered source) (typed_source [] source)
 
 -- what the trees of admitted scripts may use
@@ -52,7 +52,7 @@ host_for rules = offered (registrations_by rules.admitted rules.registered)
 
 -- what requests see of this
 abbrev pub embedding_of : SourceRules → Embedding SourceFault
-embedding_of rules = record { read = read_typed rules; name_of_kind = name_of_kind rules.registered }
+embedding_of rules = record { read = read_source rules; name_of_kind = name_of_kind rules.registered }
 
 -- where only those scripts are admitted that use nothing registered
 abbrev pub admitting_unregistered : List Registration → SourceRules

@@ -38,11 +38,11 @@ typed_or_fault (Ok typed) = Ok typed
 typed_or_fault (Err fault) = Err (Typing fault)
 
 -- what a script is typed as
-abbrev pub items_typed : List Registration → List Item → TypedResult
-items_typed registered items = typed_or_fault (checked registered items)
+abbrev pub check_items : List Registration → List Item → TypedResult
+check_items registered items = typed_or_fault (checked registered items)
 
 abbrev pub typed_if_checked : List Registration → CheckResult → TypedResult
-typed_if_checked registered (Ok items) = items_typed registered items
+typed_if_checked registered (Ok items) = check_items registered items
 typed_if_checked registered (Err fault) = Err fault
 
 unfoldable pub typed_source : List Registration → List ℕ → TypedResult

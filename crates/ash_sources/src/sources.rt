@@ -11,9 +11,9 @@ ghost use Rattle.ash_typing.specs.Nesting.{ItemsDeclareInBlocks};
 ghost use Rattle.ash_steps.specs.Premises.{ReadsSound};
 ghost use Rattle.ash_sources.specs.SourceFaults.{SourceFault as Fault, NotYet, RefusesAs, fault_of};
 ghost use Rattle.ash_sources.specs.SourceFaults.{TakesMemoryToFind};
-ghost use Rattle.ash_sources.specs.TypedSource.{items_typed, typed_source};
+ghost use Rattle.ash_sources.specs.TypedSource.{check_items, typed_source};
 ghost use Rattle.ash_sources.specs.Sources.{SourceRules, rules_of, typed_or_not_yet, admitted_as};
-ghost use Rattle.ash_sources.specs.Sources.{read_typed, host_for, embedding_of};
+ghost use Rattle.ash_sources.specs.Sources.{read_source, host_for, embedding_of};
 ghost use Rattle.ash_sources.specs.Sources.{admitting_unregistered};
 
 use crate::fault::{SourceError, SourceFault};
@@ -45,9 +45,9 @@ pub struct Sources<'a> {
 #[tactic(auto, using(crate::proofs::SourceLaws::takes_alone))]
 fn type_alone(alloc: Global, script: &Module) -> Result<Tree, SourceError>
     requires nested { ItemsDeclareInBlocks (items_of script.now) }
-    ensures found { IfOk result (λ tree. typed_or_not_yet (items_typed [] (items_of script.now))
+    ensures found { IfOk result (λ tree. typed_or_not_yet (check_items [] (items_of script.now))
         ≡ Ok (module_of tree)) }
-    ensures refused { IfErr result (RefusesAs (typed_or_not_yet (items_typed []
+    ensures refused { IfErr result (RefusesAs (typed_or_not_yet (check_items []
         (items_of script.now)))) }
 {
     match type_script(alloc, &Registry::new(alloc), script) {
@@ -63,11 +63,11 @@ impl Sources<'_> {
     fn admit(&self, alloc: Global, script: &Module) -> Result<Tree, SourceError>
         requires nested { ItemsDeclareInBlocks (items_of script.now) }
         ensures found { IfOk result (λ tree. admitted_as self.now.admitted
-            (items_typed (registered self.now.registry.now) (items_of script.now))
-            (items_typed [] (items_of script.now)) ≡ Ok (module_of tree)) }
+            (check_items (registered self.now.registry.now) (items_of script.now))
+            (check_items [] (items_of script.now)) ≡ Ok (module_of tree)) }
         ensures refused { IfErr result (RefusesAs (admitted_as self.now.admitted
-            (items_typed (registered self.now.registry.now) (items_of script.now))
-            (items_typed [] (items_of script.now)))) }
+            (check_items (registered self.now.registry.now) (items_of script.now))
+            (check_items [] (items_of script.now)))) }
     {
         let tree = type_script(alloc, self.registry, script)?;
         match self.admitted {
@@ -83,11 +83,11 @@ impl Sources<'_> {
     /// A source is refused for the fault that checking it comes to; and where that comes to none, for not being
     /// admitted: `NotYet`. Or memory was refused, which a source that is too long never is.
     pub fn read_tree(&self, alloc: Global, source: &[u8]) -> Result<Tree, SourceError>
-        ensures found { IfOk result (λ tree. read_typed (rules_of self.now) source.now
+        ensures found { IfOk result (λ tree. read_source (rules_of self.now) source.now
             ≡ Ok (module_of tree)) }
         ensures sound { IfOk result (λ tree. IsSound (host_for (rules_of self.now))
             (module_of tree)) }
-        ensures refused { IfErr result (RefusesAs (read_typed (rules_of self.now) source.now)) }
+        ensures refused { IfErr result (RefusesAs (read_source (rules_of self.now) source.now)) }
     {
         match script_of(alloc, source) {
             Ok(script) => self.admit(alloc, &script),
@@ -142,9 +142,9 @@ pub fn sources_are_read_sound()
 /// with nothing registered; where it has none, and nowhere else, its fault is `NotYet`.
 pub fn unregistered_scripts_are_admitted()
     ensures read { (registrations : List Registered) (source : List ℕ) (typed : Typed) →
-        (read_typed (admitting_unregistered registrations) source ≡ Ok typed)
+        (read_source (admitting_unregistered registrations) source ≡ Ok typed)
         ↔ (IsOk (typed_source registrations source) × (typed_source [] source ≡ Ok typed)) }
     ensures refused { (registrations : List Registered) (source : List ℕ) →
-        (read_typed (admitting_unregistered registrations) source ≡ Err NotYet)
+        (read_source (admitting_unregistered registrations) source ≡ Err NotYet)
         ↔ (IsOk (typed_source registrations source) × IsErr (typed_source [] source)) }
 {}

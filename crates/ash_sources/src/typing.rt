@@ -9,7 +9,7 @@ ghost use Rattle.ash_typed.specs.SoundModules.{IsSound};
 ghost use Rattle.ash_typing.specs.Nesting.{ItemsDeclareInBlocks};
 ghost use Rattle.ash_typing.specs.Offered.{offered};
 ghost use Rattle.ash_sources.specs.CheckedSource.{checked_source};
-ghost use Rattle.ash_sources.specs.TypedSource.{IsTypedSource, items_typed, typed_source};
+ghost use Rattle.ash_sources.specs.TypedSource.{IsTypedSource, check_items, typed_source};
 ghost use Rattle.ash_sources.specs.SourceFaults.{SourceFault as Fault, RefusesAs};
 
 use crate::fault::SourceError;
@@ -31,9 +31,9 @@ pub(crate) fn type_script(
     script: &Module,
 ) -> Result<Tree, SourceError>
     requires nested { ItemsDeclareInBlocks (items_of script.now) }
-    ensures found { IfOk result (λ tree. items_typed (registered registry.now)
+    ensures found { IfOk result (λ tree. check_items (registered registry.now)
         (items_of script.now) ≡ Ok (module_of tree)) }
-    ensures refused { IfErr result (RefusesAs (items_typed (registered registry.now)
+    ensures refused { IfErr result (RefusesAs (check_items (registered registry.now)
         (items_of script.now))) }
 {
     match check(alloc, registry, script) {

@@ -96,7 +96,7 @@ fn are_elements(body: &StoredBody) -> bool
 }
 
 /// Whether the elements of each array are of its type.
-fn are_typed(objects: &[StoredObject]) -> bool
+fn have_their_types(objects: &[StoredObject]) -> bool
     ensures { result ≡ list_all (λ e. are_elements e.1) (objects_of objects.now) }
 {
     for object in objects {
@@ -181,7 +181,7 @@ fn is_whole(state: &StoredState, alive: &[u64]) -> bool
     requires alive { alive.now ≡ numbers (objects_of state.now.objects.items) }
     ensures { result ≡ is_whole (snapshot_of state.now) }
 {
-    are_typed(&state.objects) && is_linked(state, alive)
+    have_their_types(&state.objects) && is_linked(state, alive)
 }
 
 /// Whether a state keeps the rules that need no source.

@@ -25,9 +25,9 @@ use Rattle.ash_typing.specs.Environment.{Environment, first_from, is_class, is_i
 use Rattle.ash_typing.specs.Environment.{variable_in, member_in, method_in, array_built}
 use Rattle.ash_typing.specs.Terms.{assignable, operator_of, array_parameters}
 use Rattle.ash_typing.specs.Expressions.{TypedExpr, is_assign, member_at, field_of, invoked_at, method_of, invoked}
-use Rattle.ash_typing.specs.Expressions.{invocation_typed, index_in, indexed_at, indexed_object, indexed, at_element}
-use Rattle.ash_typing.specs.Expressions.{known_element, array_typed, cast_type, cast_at, typed, all_typed, links_typed}
-use Rattle.ash_typing.specs.Expressions.{suffixes_typed, suffix_typed}
+use Rattle.ash_typing.specs.Expressions.{check_invocation, index_in, indexed_at, indexed_object, indexed, at_element}
+use Rattle.ash_typing.specs.Expressions.{known_element, check_array, cast_type, cast_at, check_expr, check_exprs, check_links}
+use Rattle.ash_typing.specs.Expressions.{check_suffixes, check_suffix}
 use Rattle.ash_typing.proofs.FaultTokens.{HasToken, HasStart, ElementIn, ExprIn, ExprsIn, LinksIn, SuffixesIn, SuffixIn}
 use Rattle.ash_typing.specs.Phrases as phrases
 use Rattle.ash_typing.specs.Mismatches as mismatches
@@ -96,7 +96,7 @@ method_of_in script env t _ p text es ss h k r q = mismatch k (mismatches.no_obj
 invoked_in : (script : Script) (env : Environment) (t : TypedExpr) (p : place.Place) (text : List ℕ) (es : written.Exprs)
     (ss : written.Suffixes) (ts : List TypedExpr) (m : Option Invoked) → HasToken script.tokens (name text) p.at
     → HasStart script.tokens t.at → AtMethod script env t p text es ss → AllAt script.tokens ts
-    → length ts ≡ argument_count es → all_typed env es ≡ Ok ts → IsInvoked env t text m
+    → length ts ≡ argument_count es → check_exprs env es ≡ Ok ts → IsInvoked env t text m
     → At script (invoked env.declarations.classes t p.at ts m)
 unfolding invoked
 invoked_in script env t p text es ss ts None h k r all c a q = fine k
@@ -108,8 +108,8 @@ invoked_in script env t p text es ss ts (Some m) h k r all c a q =
 
 invocation_in : (script : Script) (env : Environment) (t : TypedExpr) (p : place.Place) (text : List ℕ) (es : written.Exprs)
     (ss : written.Suffixes) → HasToken script.tokens (name text) p.at → HasStart script.tokens t.at
-    → AtMethod script env t p text es ss → ListAt script (argument_count es) (all_typed env es)
-    → At script (invocation_typed env t p.at text (all_typed env es))
+    → AtMethod script env t p text es ss → ListAt script (argument_count es) (check_exprs env es)
+    → At script (check_invocation env t p.at text (check_exprs env es))
 invocation_in script env t p text es ss h k r all =
     bind (method_of_in script env t t.ty p text es ss h k r refl) (λ m q. bind_by all (λ ts a each.
     invoked_in script env t p text es ss ts m h k r each.0 each.1 a q))
@@ -162,7 +162,7 @@ known_element_in script env p (written.HandleElement at text) es h r =
 array_in : (script : Script) (env : Environment) (p : place.Place) (of : written.Element) (es : written.Exprs)
     → HasToken script.tokens (reserved words.Array) p.at → ElementIn script.tokens of
     → OccursIn script (phrases.Expression env (written.NewArray p of es))
-    → ListAt script (argument_count es) (all_typed env es) → At script (array_typed env p.at of (all_typed env es))
+    → ListAt script (argument_count es) (check_exprs env es) → At script (check_array env p.at of (check_exprs env es))
 array_in script env p of es h e r k =
     bind (known_element_in script env p of es e r) (λ x u. bind_by k (λ ts a all.
     called_with_in script env.declarations.classes p.at (reserved words.Array) (array_built x (length ts)) ts
@@ -219,7 +219,7 @@ one_more a b h = omega (arith, h)
 -- what is wrong with an assignment
 unassigned : (script : Script) (env : Environment) (p : place.Place) (e : written.Expr) (op : AssignOp)
     (v : written.Expr) (t u : TypedExpr) → OccursIn script (phrases.Expression env (written.Assign p e op v))
-    → typed env (is_assign op) e ≡ Ok t → typed env false v ≡ Ok u
+    → check_expr env (is_assign op) e ≡ Ok t → check_expr env false v ≡ Ok u
     → Unassigned script env.declarations.classes t u (operator_of op)
 unassigned script env p e op v t u r q w = record {
   unfit = λ o b. mismatches.assigned r q w o b;
@@ -229,7 +229,7 @@ unassigned script env p e op v t u r q w = record {
 
 mutual
   pub typed_in : (script : Script) (env : Environment) (left : Bool) (e : written.Expr) → ExprIn script.tokens e
-      → OccursIn script (phrases.Expression env e) → At script (typed env left e)
+      → OccursIn script (phrases.Expression env e) → At script (check_expr env left e)
   typed_in script env left (written.Number p n) h r = fine (number n, h, refl)
   typed_in script env left (written.Truth p b) h r = fine h
   typed_in script env left (written.Null p) h r = fine h
@@ -271,7 +271,7 @@ mutual
       (λ b m. meaning.takes_none r q b) (unassigned script env p e op v t u r q w)))
 
   pub all_in : (script : Script) (env : Environment) (es : written.Exprs) → ExprsIn script.tokens es
-      → OccursIn script (phrases.Arguments env es) → ListAt script (argument_count es) (all_typed env es)
+      → OccursIn script (phrases.Arguments env es) → ListAt script (argument_count es) (check_exprs env es)
   all_in script env written.no_expr h r = fine (tt, refl)
   all_in script env (written.expr e es) h r =
       bind (typed_in script env false e h.0 (phrases.argument r)) (λ t k.
@@ -279,7 +279,7 @@ mutual
       fine ((k, l.0), one_more (length ts) (argument_count es) l.1)))
 
   links_in : (script : Script) (env : Environment) (t : TypedExpr) (ls : written.Links) → LinksIn script.tokens ls
-      → HasStart script.tokens t.at → OccursIn script (phrases.Links env t ls) → At script (links_typed env t ls)
+      → HasStart script.tokens t.at → OccursIn script (phrases.Links env t ls) → At script (check_links env t ls)
   links_in script env t written.no_link h k r = fine k
   links_in script env t (written.link op e ls) h k r =
       bind_by (typed_in script env false e h.0 (phrases.linked r)) (λ u q l.
@@ -287,7 +287,7 @@ mutual
       links_in script env both ls h.1 m (phrases.other_links r q w)))
 
   suffixes_in : (script : Script) (env : Environment) (t : TypedExpr) (ss : written.Suffixes) → SuffixesIn script.tokens ss
-      → HasStart script.tokens t.at → OccursIn script (phrases.Suffixes env t ss) → At script (suffixes_typed env t ss)
+      → HasStart script.tokens t.at → OccursIn script (phrases.Suffixes env t ss) → At script (check_suffixes env t ss)
   suffixes_in script env t written.no_suffix h k r = fine k
   suffixes_in script env t (written.suffix s ss) h k r =
       bind_by (suffix_in script env t s ss h.0 k r) (λ next q l.
@@ -295,7 +295,7 @@ mutual
 
   suffix_in : (script : Script) (env : Environment) (t : TypedExpr) (s : written.Suffix) (ss : written.Suffixes)
       → SuffixIn script.tokens s → HasStart script.tokens t.at
-      → OccursIn script (phrases.Suffixes env t (written.suffix s ss)) → At script (suffix_typed env t s)
+      → OccursIn script (phrases.Suffixes env t (written.suffix s ss)) → At script (check_suffix env t s)
   suffix_in script env t (written.Field p text) ss h k r = field_in script env t t.ty p text ss h k r refl
   suffix_in script env t (written.Method p text es) ss h k r =
       invocation_in script env t p text es ss h.0 k r (all_in script env es h.1 (phrases.method_arguments r))

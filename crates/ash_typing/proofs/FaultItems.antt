@@ -16,9 +16,9 @@ use Rattle.ash_typing.specs.Environment.{Environment, inside, module_environment
 use Rattle.ash_typing.specs.ModuleDeclarations.{declarations}
 use Rattle.ash_tree.specs.Items.{constructing, Routine, routine_of, classes_of, interfaces_of}
 use Rattle.ash_typing.specs.Declarations.{at_type}
-use Rattle.ash_typing.specs.Items.{listed_at, implemented_at, Listed, listed_typed, all_listed, none_listed, Members}
-use Rattle.ash_typing.specs.Items.{constructor_named, member_typed, members_typed, no_members, class_typed, Walked}
-use Rattle.ash_typing.specs.Items.{room_for_type, item_typed, items_typed, nothing, module_by, module_typed}
+use Rattle.ash_typing.specs.Items.{listed_at, implemented_at, Listed, check_listed, all_listed, none_listed, Members}
+use Rattle.ash_typing.specs.Items.{constructor_named, check_member, check_members, no_members, check_class, Walked}
+use Rattle.ash_typing.specs.Items.{room_for_type, check_item, check_items, nothing, module_by, check_module}
 use Rattle.ash_typing.specs.Implementations.{implemented}
 use Rattle.ash_typing.proofs.FaultTokens.{HasToken, TypeNameIn, RoutineIn, MemberIn, ClassIn, ItemIn}
 use Rattle.ash_typing.specs.Phrases as phrases
@@ -80,8 +80,8 @@ implemented_in script at text interface (Some methods) h z = fine tt
 listed_in : (script : Script) (env : Environment) (place : ℕ) (before : List written.TypeName) (listed : Listed)
     (n : written.TypeName) (ns : List written.TypeName) → TypeNameIn script.tokens n
     → listed.names ≡ names_listed before → AtListed script env place before n ns
-    → Answers script (λ (next : Listed). next.names ≡ names_listed (before ++ n ∷ [])) (listed_typed env place listed n)
-unfolding listed_typed
+    → Answers script (λ (next : Listed). next.names ≡ names_listed (before ++ n ∷ [])) (check_listed env place listed n)
+unfolding check_listed
 listed_in script env place before listed n ns h k r =
     bind (listed_at_in script env place before n ns (type_named env n.name) h r refl) (λ interface u.
     bind_to _ (untaken_in script listed.names n.place.at n.name (phrases.Interfaces env place before (n ∷ ns)) h r
@@ -145,8 +145,8 @@ named_in script env class before ms c rest h k r = either (is_some ms.class.cons
 member_in : (script : Script) (env : Environment) (class : List ℕ) (before : List written.Member) (ms : Members)
     (m : written.Member) (rest : List written.Member) → MemberIn script.tokens m → HasMembers class before ms
     → AtMember script env class before m rest
-    → Answers script (HasMembers class (before ++ m ∷ [])) (member_typed env ms m)
-unfolding member_typed
+    → Answers script (HasMembers class (before ++ m ∷ [])) (check_member env ms m)
+unfolding check_member
 member_in script env class before ms (written.AField v) rest h k r =
     let x = phrases.ClassMembers env class before (written.AField v ∷ rest) in
     bind (vars_in script env ms.names v h (miswritten script env x (stored_use v.of) (sees r) r refl)
@@ -178,7 +178,7 @@ member_in script env class before ms (written.AConstructor c) rest h k r =
 
 members_in : (script : Script) (env : Environment) (class : List ℕ) (before : List written.Member) (ms : Members)
     (rest : List written.Member) → AllByRecursion (MemberIn script.tokens) rest → HasMembers class before ms
-    → OccursIn script (phrases.ClassMembers env class before rest) → Fine script (members_typed env ms rest)
+    → OccursIn script (phrases.ClassMembers env class before rest) → Fine script (check_members env ms rest)
 members_in script env class before ms [] h k r = fine tt
 members_in script env class before ms (m ∷ rest) h k r =
     bind (member_in script env class before ms m rest h.0 k r) (λ next l.
@@ -187,8 +187,8 @@ members_in script env class before ms (m ∷ rest) h k r =
 class_in : (script : Script) (env : Environment) (before : List written.Item) (c : written.Class)
     (is : List written.Item) → ClassIn script.tokens c
     → OccursIn script (phrases.Items env before (written.AClass c ∷ is))
-    → Fine script (class_typed env (length (classes_of before)) c)
-unfolding class_typed
+    → Fine script (check_class env (length (classes_of before)) c)
+unfolding check_class
 class_in script env before c is h r =
     let place = length (classes_of before) in
     bind (all_listed_in script env place [] none_listed c.interfaces h.1 refl (phrases.interfaces r)) (λ listed u.
@@ -243,14 +243,14 @@ more_interfaces before i xs x one e =
 item_in : (script : Script) (env : Environment) (before : List written.Item) (w : Walked) (i : written.Item)
     (is : List written.Item) → ItemIn script.tokens i → HasItems env.registered before w
     → OccursIn script (phrases.Items env before (i ∷ is))
-    → Answers script (HasItems env.registered (before ++ i ∷ [])) (item_typed env w i)
-unfolding item_typed
+    → Answers script (HasItems env.registered (before ++ i ∷ [])) (check_item env w i)
+unfolding check_item
 item_in script env before w (written.AClass c) is h k r =
     let x = phrases.Items env before (written.AClass c ∷ is) in
     bind_to _ (untaken_in script w.names c.place.at c.name x h.0 r (rw k.names refl))
     (bind_to _ (room_in script c.place.at c.name x w.typed h.0 r (rw (k.classes, k.interfaces) refl))
     (bind (subst
-    (λ place. Fine script (class_typed env place c)) (sym k.classes) (class_in script env before c is h r))
+    (λ place. Fine script (check_class env place c)) (sym k.classes) (class_in script env before c is h r))
     (λ t y. fine (record {
       names = ap (λ names. with_name names c.name) k.names
           ∙ names_after_item env.registered before (written.AClass c) c.name refl refl;
@@ -294,7 +294,7 @@ item_in script env before w (written.AGlobal v) is h k r =
 
 items_in : (script : Script) (env : Environment) (before : List written.Item) (w : Walked) (is : List written.Item)
     → AllByRecursion (ItemIn script.tokens) is → HasItems env.registered before w
-    → OccursIn script (phrases.Items env before is) → Fine script (items_typed env w is)
+    → OccursIn script (phrases.Items env before is) → Fine script (check_items env w is)
 items_in script env before w [] h k r = fine tt
 items_in script env before w (i ∷ is) h k r =
     bind (item_in script env before w i is h.0 k r) (λ next l.
@@ -308,6 +308,6 @@ module_by_in script h =
     (λ w u. fine tt)
 
 pub module_in : (script : Script) → AllByRecursion (ItemIn script.tokens) script.items
-    → Fine script (module_typed script.registrations script.items)
-unfolding module_typed
+    → Fine script (check_module script.registrations script.items)
+unfolding check_module
 module_in script h = module_by_in script h

@@ -8,7 +8,7 @@ use Rattle.ash_tree.specs.Grammar.{Derives}
 use Rattle.ash_tree.specs.Tokens.{Tokens}
 use Rattle.ash_tree.specs.Tree.{Item}
 use Rattle.ash_typing.specs.declared.fault.Fault.{Fault}
-use Rattle.ash_typing.specs.Items.{module_typed}
+use Rattle.ash_typing.specs.Items.{check_module}
 use Rattle.ash_typing.specs.FaultPlaces.{breaks_at, IsTokenOf, IsFaultOf}
 use Rattle.ash_typing.specs.FaultMeaning.{IsWrong, IsBrokenAt}
 use Rattle.ash_typing.proofs.FaultTokens.{HasToken, AreIn}
@@ -49,7 +49,7 @@ all_in (t ∷ ts) = (
 -- the fault
 
 pub fault_broken : (registrations : List Registration) (free : ℕ) (tokens : Tokens) (is : List Item) (fault : Fault)
-    → Derives free tokens is → module_typed registrations is ≡ Err fault → IsBrokenAt registrations is tokens fault
+    → Derives free tokens is → check_module registrations is ≡ Err fault → IsBrokenAt registrations is tokens fault
 fault_broken registrations free tokens is fault d h =
     let script : Script = record { tokens = tokens; registrations = registrations; items = is } in
     let found : IsIn script fault = is_in (module_in script (items_in tokens d (all_in tokens))) fault h in
@@ -63,7 +63,7 @@ fault_broken registrations free tokens is fault d h =
     )) (found.1).token
 
 pub fault_at : (registrations : List Registration) (free : ℕ) (tokens : Tokens) (is : List Item) (fault : Fault)
-    → Derives free tokens is → module_typed registrations is ≡ Err fault → IsFaultOf tokens fault
+    → Derives free tokens is → check_module registrations is ≡ Err fault → IsFaultOf tokens fault
 fault_at registrations free tokens is fault d h =
     any_map (λ (t : Meaning × Place). (t.1.at ≡ fault.at) × (breaks_at fault.rule t.0 ≡ true)
     × IsWrong registrations is fault.rule fault.at t.0)
@@ -71,7 +71,7 @@ fault_at registrations free tokens is fault d h =
     (λ t k. (k.0, k.1)) (fault_broken registrations free tokens is fault d h)
 
 pub fault_token : (registrations : List Registration) (free : ℕ) (tokens : Tokens) (is : List Item) (fault : Fault)
-    → Derives free tokens is → module_typed registrations is ≡ Err fault → IsTokenOf tokens fault.at
+    → Derives free tokens is → check_module registrations is ≡ Err fault → IsTokenOf tokens fault.at
 fault_token registrations free tokens is fault d h =
     any_map (λ (t : Meaning × Place). (t.1.at ≡ fault.at) × (breaks_at fault.rule t.0 ≡ true))
     (λ (t : Meaning × Place). t.1.at ≡ fault.at) tokens (λ t k. k.0) (fault_at registrations free tokens is fault d h)

@@ -32,7 +32,7 @@ use Rattle.ash_typing.specs.Expressions.{TypedExpr, UnifiedOperands, term_at, co
 use Rattle.ash_typing.specs.Expressions.{handle_of, adapted, unified_as, unify_operands}
 use Rattle.ash_typing.specs.Expressions.{operate, counted, handle_at, unary_at, converting, convert_at, is_void, chosen}
 use Rattle.ash_typing.specs.Expressions.{choice, updated, stored, assigned_to, assigned, all_coerced, arguments_at}
-use Rattle.ash_typing.specs.Expressions.{called, callee_at, known_at, this_at, call_typed, all_typed}
+use Rattle.ash_typing.specs.Expressions.{called, callee_at, known_at, this_at, check_call, check_exprs}
 use Rattle.ash_typing.specs.FaultPlaces.{begins_call, begins_expression}
 use Rattle.ash_typing.proofs.FaultTokens.{HasToken, HasStart}
 use Rattle.ash_typing.specs.Phrases as phrases
@@ -265,7 +265,7 @@ callee_at_in script env p text es (Some callee) h r e = fine e
 
 miscalled : (script : Script) (env : Environment) (p : place.Place) (text : List ℕ) (es : written.Exprs)
     (callee : Callee) (ts : List TypedExpr) → OccursIn script (phrases.Expression env (written.Call p text es))
-    → callee_in env text ≡ Some callee → length ts ≡ argument_count es → all_typed env es ≡ Ok ts
+    → callee_in env text ≡ Some callee → length ts ≡ argument_count es → check_exprs env es ≡ Ok ts
     → Miscalls script env.declarations.classes p.at (name text) callee.parameters ts
 miscalled script env p text es callee ts r e c a = record {
   none = λ n. meaning.call_factory r e n;
@@ -275,7 +275,7 @@ miscalled script env p text es callee ts r e c a = record {
 
 pub call_in : (script : Script) (env : Environment) (p : place.Place) (text : List ℕ) (es : written.Exprs)
     → HasToken script.tokens (name text) p.at → OccursIn script (phrases.Expression env (written.Call p text es))
-    → ListAt script (argument_count es) (all_typed env es) → At script (call_typed env p.at text (all_typed env es))
+    → ListAt script (argument_count es) (check_exprs env es) → At script (check_call env p.at text (check_exprs env es))
 call_in script env p text es h r k =
     bind (callee_at_in script env p text es (callee_in env text) h r refl) (λ callee e. bind_by k (λ ts a all.
     called_in script env.declarations.classes p.at text callee ts callee.parameters h all.0

@@ -16,14 +16,14 @@ use Rattle.ash_typing.specs.Expressions.{is_void}
 use Rattle.ash_typing.specs.ModuleDeclarations.{ty_in}
 use Rattle.ash_typed.specs.StatementTree.{Body}
 use Rattle.ash_typing.specs.Scopes.{body_scope}
-use Rattle.ash_typing.specs.Statements.{body_typed}
+use Rattle.ash_typing.specs.Statements.{check_body}
 use Rattle.ash_typing.specs.Returning.{returns_in}
 use Rattle.ash_tree.specs.Items.{Routine}
 use Rattle.ash_typing.specs.Declarations.{at_type, at_type_name, known_ty}
-use Rattle.ash_typing.specs.Items.{Names, is_taken, untaken, one_more, placed, passed_ty, result_typed, Row}
-use Rattle.ash_typing.specs.Items.{with_variable, decls_typed, no_variables, vars_typed, parameters_typed, returning}
-use Rattle.ash_typing.specs.Items.{routine_typed, Signatures, signature_typed, signatures_typed, no_signatures}
-use Rattle.ash_typing.specs.Items.{interface_typed}
+use Rattle.ash_typing.specs.Items.{Names, is_taken, untaken, one_more, placed, passed_ty, check_result, Row}
+use Rattle.ash_typing.specs.Items.{with_variable, check_decls, no_variables, check_vars, check_parameters, returning}
+use Rattle.ash_typing.specs.Items.{check_routine, Signatures, check_signature, check_signatures, no_signatures}
+use Rattle.ash_typing.specs.Items.{check_interface}
 use Rattle.ash_typing.proofs.FaultTokens.{HasToken, NamedIn, DeclIn, VarsIn, StmtsIn, ParameterIn, ResultIn, RoutineIn}
 use Rattle.ash_typing.proofs.FaultTokens.{InterfaceMethodIn, InterfaceIn}
 use Rattle.ash_typing.specs.Phrases as phrases
@@ -100,7 +100,7 @@ passed_in script env of h w =
 
 pub result_in : (script : Script) (env : Environment) (x : Phrase) (of : Option written.Named)
     → ResultIn script.tokens of
-    → IsOf script env → OccursIn script x → written_by x ≡ option_map passed of → Fine script (result_typed env of)
+    → IsOf script env → OccursIn script x → written_by x ≡ option_map passed of → Fine script (check_result env of)
 result_in script env x None h see r e = fine tt
 result_in script env x (Some of) h see r e = passed_in script env of h (miswritten script env x (passed of) see r e)
 
@@ -109,7 +109,7 @@ result_in script env x (Some of) h see r e = passed_in script env of h (miswritt
 decls_in : (script : Script) (env : Environment) (at : ℕ) (of : Ty) (row : Row) (ds : List written.Decl)
     → IsWrittenAt script of at → AllByRecursion (DeclIn script.tokens) ds
     → OccursIn script (phrases.Variables env at of row.names ds)
-    → Answers script (λ (next : Row). next.names ≡ with_decls row.names ds) (decls_typed env at of row ds)
+    → Answers script (λ (next : Row). next.names ≡ with_decls row.names ds) (check_decls env at of row ds)
 decls_in script env at of row [] w h r = fine refl
 decls_in script env at of row (d ∷ ds) w h r =
     bind_to _ (placed_in script row.names d.place.at d.name (phrases.Variables env at of row.names (d ∷ ds)) (h.0).0 r
@@ -123,8 +123,8 @@ pub vars_in : (script : Script) (env : Environment) (names : Names) (v : written
     → Miswritten script env (stored_use v.of)
     → ((of : Ty) → known_ty v.of (ty_in env v.of) ≡ Ok of
     → OccursIn script (phrases.Variables env (at_type v.of) of names v.decls)) → Answers script
-    (λ (row : Row). row.names ≡ with_decls names v.decls) (vars_typed env names v)
-unfolding vars_typed
+    (λ (row : Row). row.names ≡ with_decls names v.decls) (check_vars env names v)
+unfolding check_vars
 vars_in script env names v h w r =
     bind_by (variables_ty_in script env v.of h.0 w) (λ of e at.
     decls_in script env (at_type v.of) of (record { names = names; variables = no_variables v.of }) v.decls at h.1
@@ -134,7 +134,7 @@ vars_in script env names v h w r =
 
 parameters_in : (script : Script) (env : Environment) (before : List Declared) (ps : List written.Parameter)
     → AllByRecursion (ParameterIn script.tokens) ps → OccursIn script (phrases.Parameters env before ps)
-    → Fine script (parameters_typed env before ps)
+    → Fine script (check_parameters env before ps)
 parameters_in script env before [] h r = fine tt
 parameters_in script env before (p ∷ ps) h r =
     bind_by (passed_in script env p.of (h.0).0
@@ -147,8 +147,8 @@ parameters_in script env before (p ∷ ps) h r =
 body_in : (script : Script) (env : Environment) (of : Ty) (body : List written.Stmt)
     → StmtsIn script.tokens (written.stmts body)
     → OccursIn script (phrases.Statements (body_scope env of) (written.stmts body))
-    → Fine script (body_typed env of body)
-unfolding body_typed
+    → Fine script (check_body env of body)
+unfolding check_body
 body_in script env of body h r = stmts_in script (body_scope env of) (written.stmts body) h r
 
 returning_in : (script : Script) (env : Environment) (of : Ty) (c : Routine) (body : Body)
@@ -161,8 +161,8 @@ returning_in script env of c body h r =
 
 pub routine_in : (script : Script) (env : Environment) (of : Ty) (c : Routine)
     → RoutineIn script.tokens c.place c.name c.parameters c.body → OccursIn script (phrases.RoutinePhrase env of c)
-    → Fine script (routine_typed env of c)
-unfolding routine_typed
+    → Fine script (check_routine env of c)
+unfolding check_routine
 routine_in script env of c h r =
     bind_by (parameters_in script env [] c.parameters h.1 (phrases.parameters r)) (λ locals e u.
     bind (body_in script (with_locals env locals) of c.body h.2 (phrases.body r e)) (λ body v.
@@ -174,8 +174,8 @@ signature_in : (script : Script) (env : Environment) (before : List written.Inte
     (m : written.InterfaceMethod) (ms : List written.InterfaceMethod) → InterfaceMethodIn script.tokens m
     → ss.names ≡ names_of_methods before → OccursIn script (phrases.Methods env before (m ∷ ms))
     → Answers script
-    (λ (next : Signatures). next.names ≡ names_of_methods (before ++ m ∷ [])) (signature_typed env ss m)
-unfolding signature_typed
+    (λ (next : Signatures). next.names ≡ names_of_methods (before ++ m ∷ [])) (check_signature env ss m)
+unfolding check_signature
 signature_in script env before ss m ms h n r =
     let x = phrases.Methods env before (m ∷ ms) in
     bind (result_in script env x m.result h.0 (sees r) r refl) (λ of u.
@@ -186,7 +186,7 @@ signature_in script env before ss m ms h n r =
 signatures_in : (script : Script) (env : Environment) (before : List written.InterfaceMethod) (ss : Signatures)
     (ms : List written.InterfaceMethod) → AllByRecursion (InterfaceMethodIn script.tokens) ms
     → ss.names ≡ names_of_methods before → OccursIn script (phrases.Methods env before ms)
-    → Fine script (signatures_typed env ss ms)
+    → Fine script (check_signatures env ss ms)
 signatures_in script env before ss [] h n r = fine tt
 signatures_in script env before ss (m ∷ ms) h n r =
     bind (signature_in script env before ss m ms h.0 n r) (λ next k.
@@ -194,7 +194,7 @@ signatures_in script env before ss (m ∷ ms) h n r =
 
 pub interface_in : (script : Script) (env : Environment) (classes : ℕ) (i : written.Interface)
     → InterfaceIn script.tokens i
-    → OccursIn script (phrases.Methods env [] i.methods) → Fine script (interface_typed env classes i)
-unfolding interface_typed
+    → OccursIn script (phrases.Methods env [] i.methods) → Fine script (check_interface env classes i)
+unfolding check_interface
 interface_in script env classes i h r =
     bind (signatures_in script env [] no_signatures i.methods h.1 refl r) (λ ss u. fine tt)

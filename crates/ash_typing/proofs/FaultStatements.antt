@@ -15,13 +15,13 @@ use Rattle.ash_typing.specs.declared.types.Ty.{Ty}
 use Rattle.ash_typed.specs.StatementTree.{Stmt, Head}
 use Rattle.ash_typing.specs.TypingResult.{TypingResult}
 use Rattle.ash_typing.specs.Environment.{Environment, Class}
-use Rattle.ash_typing.specs.Expressions.{TypedExpr, typed, all_typed, is_void}
-use Rattle.ash_typing.specs.Switches.{integer_type_in, is_within, constant_typed, label_typed}
+use Rattle.ash_typing.specs.Expressions.{TypedExpr, check_expr, check_exprs, is_void}
+use Rattle.ash_typing.specs.Switches.{integer_type_in, is_within, check_constant, check_label}
 use Rattle.ash_typing.specs.Labels.{is_same_constant, is_last}
 use Rattle.ash_typing.specs.Scopes.{Scope, block_of, loop_of, switch_of, after}
-use Rattle.ash_typing.specs.Statements.{head_typed, condition_is, if_typed, if_else_typed, while_typed, do_while_typed}
-use Rattle.ash_typing.specs.Statements.{maybe_typed, maybe_condition_is, for_typed, break_typed, continue_typed}
-use Rattle.ash_typing.specs.Statements.{gives_nothing, returned, return_typed, stmt_typed, stmts_typed, cases_typed}
+use Rattle.ash_typing.specs.Statements.{check_head, condition_is, check_if, check_if_else, check_while, check_do_while}
+use Rattle.ash_typing.specs.Statements.{check_optional, maybe_condition_is, check_for, check_break, check_continue}
+use Rattle.ash_typing.specs.Statements.{gives_nothing, returned, check_return, check_stmt, check_stmts, check_cases}
 use Rattle.ash_typing.specs.FaultPlaces.{begins_constant}
 use Rattle.ash_typing.specs.Coercions.{fits}
 use Rattle.ash_typing.proofs.Bindings.{bind_ok}
@@ -40,8 +40,8 @@ use Rattle.ash_typing.proofs.FaultVariables.{vars_in}
 -- statements, once their parts are walked
 
 head_in : (script : Script) (scope : Scope) (s : written.Stmt) → IsHeadForm s → StmtIn script.tokens s
-    → OccursIn script (phrases.Statement scope s) → Fine script (head_typed scope s)
-unfolding head_typed
+    → OccursIn script (phrases.Statement scope s) → Fine script (check_head scope s)
+unfolding check_head
 head_in script scope (written.Empty p) f h r = fine tt
 head_in script scope (written.Declare p v) f h r = bind (vars_in script scope p v h.1 r) (λ values u. fine tt)
 head_in script scope (written.Evaluate p e) f h r =
@@ -57,29 +57,29 @@ abbrev pub Unconditional : Script → TypingResult TypedExpr → Type 0
 Unconditional script condition = (t : TypedExpr) → condition ≡ Ok t → may_be_bool t.ty ≡ false → Mismatch script t.at
 
 if_in : (script : Script) (line : ℕ) (condition : TypingResult TypedExpr) (inner : TypingResult Stmt) → At script condition
-    → Fine script inner → Unconditional script condition → Fine script (if_typed line condition inner)
-unfolding if_typed
+    → Fine script inner → Unconditional script condition → Fine script (check_if line condition inner)
+unfolding check_if
 if_in script line condition inner h k z =
     bind_by h (λ c a at. bind k (λ s u. bind (condition_in script c at (z c a)) (λ yes v. fine tt)))
 
 if_else_in : (script : Script) (line : ℕ) (condition : TypingResult TypedExpr) (inner other : TypingResult Stmt)
     → At script condition → Fine script inner → Fine script other → Unconditional script condition
-    → Fine script (if_else_typed line condition inner other)
-unfolding if_else_typed
+    → Fine script (check_if_else line condition inner other)
+unfolding check_if_else
 if_else_in script line condition inner other h k l z =
     bind_by h (λ c a at. bind k (λ s u. bind l (λ t w. bind (condition_in script c at (z c a)) (λ yes v. fine tt))))
 
 while_in : (script : Script) (line : ℕ) (condition : TypingResult TypedExpr) (body : TypingResult Stmt)
     → At script condition
-    → Fine script body → Unconditional script condition → Fine script (while_typed line condition body)
-unfolding while_typed
+    → Fine script body → Unconditional script condition → Fine script (check_while line condition body)
+unfolding check_while
 while_in script line condition body h k z =
     bind_by h (λ c a at. bind k (λ s u. bind (condition_in script c at (z c a)) (λ yes v. fine tt)))
 
 do_while_in : (script : Script) (line : ℕ) (body : TypingResult Stmt) (condition : TypingResult TypedExpr)
     → Fine script body
-    → At script condition → Unconditional script condition → Fine script (do_while_typed line body condition)
-unfolding do_while_typed
+    → At script condition → Unconditional script condition → Fine script (check_do_while line body condition)
+unfolding check_do_while
 do_while_in script line body condition k h z =
     bind k (λ s u. bind_by h (λ c a at. bind (condition_in script c at (z c a)) (λ yes v. fine tt)))
 
@@ -90,7 +90,7 @@ MaybeAt script (Some t) = HasStart script t.at
 
 maybe_in : (script : Script) (env : Environment) (e : Option written.Expr) → MaybeIn script.tokens e
     → ((c : written.Expr) → e ≡ Some c → OccursIn script (phrases.Expression env c))
-    → Answers script (MaybeAt script.tokens) (maybe_typed env e)
+    → Answers script (MaybeAt script.tokens) (check_optional env e)
 maybe_in script env None h r = fine tt
 maybe_in script env (Some e) h r = bind (typed_in script env false e h (r e refl)) (λ t k. fine k)
 
@@ -103,8 +103,8 @@ for_in : (script : Script) (line count : ℕ) (head : TypingResult Head) (condit
     (steps : TypingResult (List TypedExpr)) (body : TypingResult Stmt) → Fine script head
     → Answers script (MaybeAt script.tokens) condition → ListAt script count steps → Fine script body
     → ((c : TypedExpr) → condition ≡ Ok (Some c) → may_be_bool c.ty ≡ false → Mismatch script c.at)
-    → Fine script (for_typed line head condition steps body)
-unfolding for_typed
+    → Fine script (check_for line head condition steps body)
+unfolding check_for
 for_in script line count head condition steps body f h k l z =
     bind f (λ x u. bind_by h (λ c a at. bind k (λ ts all. bind l (λ s v.
     bind (maybe_condition_in script c at (λ t e b. z t (a ∙ ap (λ (m : Option TypedExpr). Ok m) e) b)) (λ yes w.
@@ -112,16 +112,16 @@ for_in script line count head condition steps body f h k l z =
 
 break_in : (script : Script) (scope : Scope) (p : place.Place) → HasToken script.tokens (reserved words.Break) p.at
     → OccursIn script (phrases.Statement scope (written.Break p))
-    → Fine script (break_typed (scope.in_loop || scope.in_switch) p)
-unfolding break_typed
+    → Fine script (check_break (scope.in_loop || scope.in_switch) p)
+unfolding check_break
 break_in script scope p h r =
     either (scope.in_loop || scope.in_switch) (λ b. fine tt)
     (λ b. faulty (reserved words.Break, h, refl, meaning.no_loop_to_leave r b))
 
 continue_in : (script : Script) (scope : Scope) (p : place.Place)
     → HasToken script.tokens (reserved words.Continue) p.at
-    → OccursIn script (phrases.Statement scope (written.Continue p)) → Fine script (continue_typed scope.in_loop p)
-unfolding continue_typed
+    → OccursIn script (phrases.Statement scope (written.Continue p)) → Fine script (check_continue scope.in_loop p)
+unfolding check_continue
 continue_in script scope p h r =
     either scope.in_loop (λ b. fine tt) (λ b. faulty (reserved words.Continue, h, refl, meaning.no_loop r b))
 
@@ -136,8 +136,8 @@ returned_in script classes of at t h k y z =
 
 return_in : (script : Script) (scope : Scope) (p : place.Place) (e : Option written.Expr)
     → HasToken script.tokens (reserved words.Return) p.at → MaybeIn script.tokens e
-    → OccursIn script (phrases.Statement scope (written.Return p e)) → Fine script (return_typed scope p e)
-unfolding return_typed
+    → OccursIn script (phrases.Statement scope (written.Return p e)) → Fine script (check_return scope p e)
+unfolding check_return
 return_in script scope p None h k r =
     either (gives_nothing scope.result) (λ b. fine tt)
     (λ b. faulty (reserved words.Return, h, refl, meaning.mismatch (mismatches.returned_nothing r b)))
@@ -156,8 +156,8 @@ AtLabel script scope int_type before p l ss cs =
 constant_in : (script : Script) (scope : Scope) (int_type : Option IntType) (before : List Label) (p : place.Place)
     (l : Label) (ss : written.Stmts) (cs : written.Cases) (m : Meaning) → HasToken script.tokens m p.at
     → begins_constant m ≡ true → AtLabel script scope int_type before p l ss cs
-    → Fine script (constant_typed int_type before p.at l)
-unfolding constant_typed
+    → Fine script (check_constant int_type before p.at l)
+unfolding check_constant
 constant_in script scope int_type before p l ss cs m h k r =
     either (is_within int_type l)
     (λ a. either (list_any (is_same_constant l) before) (λ b. faulty (m, h, k, meaning.duplicate r b)) (λ b. fine tt))
@@ -166,8 +166,8 @@ constant_in script scope int_type before p l ss cs m h k r =
 label_in : (script : Script) (scope : Scope) (int_type : Option IntType) (before : List Label) (p : place.Place)
     (l : Label) (ss : written.Stmts) (cs : written.Cases) → LabelIn script.tokens p l
     → AtLabel script scope int_type before p l ss cs
-    → Fine script (label_typed int_type before (is_last cs) p.at l)
-unfolding label_typed
+    → Fine script (check_label int_type before (is_last cs) p.at l)
+unfolding check_label
 label_in script scope int_type before p (labels.Case n) ss cs h r =
     constant_in script scope int_type before p (labels.Case n) ss cs (number n) h refl r
 label_in script scope int_type before p (labels.CaseMinus n) ss cs h r =
@@ -184,19 +184,19 @@ for_condition script scope p f s c es r e q =
 
 -- what is typed, where the condition of a `for` is
 abbrev pub TypedBy : Environment → Option written.Expr → TypedExpr → Type 0
-TypedBy env c t = (e : written.Expr) × (c ≡ Some e) × (typed env false e ≡ Ok t)
+TypedBy env c t = (e : written.Expr) × (c ≡ Some e) × (check_expr env false e ≡ Ok t)
 
-nothing_typed : (t : TypedExpr) → ◌≡◌ {A = TypingResult (Option TypedExpr)} (Ok None) (Ok (Some t)) → ⊥
-nothing_typed t h = cc
+none_is_not_some : (t : TypedExpr) → ◌≡◌ {A = TypingResult (Option TypedExpr)} (Ok None) (Ok (Some t)) → ⊥
+none_is_not_some t h = cc
 
-same_typed : (t u : TypedExpr) → ◌≡◌ {A = TypingResult (Option TypedExpr)} (Ok (Some t)) (Ok (Some u)) → t ≡ u
-same_typed t u h = cc
+same_tree : (t u : TypedExpr) → ◌≡◌ {A = TypingResult (Option TypedExpr)} (Ok (Some t)) (Ok (Some u)) → t ≡ u
+same_tree t u h = cc
 
-typed_by : (env : Environment) (c : Option written.Expr) (t : TypedExpr) → maybe_typed env c ≡ Ok (Some t) → TypedBy env c t
-typed_by env None t h = absurd (nothing_typed t h)
+typed_by : (env : Environment) (c : Option written.Expr) (t : TypedExpr) → check_optional env c ≡ Ok (Some t) → TypedBy env c t
+typed_by env None t h = absurd (none_is_not_some t h)
 typed_by env (Some e) t h =
-    let u = bind_ok (typed env false e) (λ (x : TypedExpr). Ok (Some x)) (Some t) h in
-    (e, refl, u.1 ∙ ap (λ (x : TypedExpr). Ok x) (same_typed u.0 t u.2))
+    let u = bind_ok (check_expr env false e) (λ (x : TypedExpr). Ok (Some x)) (Some t) h in
+    (e, refl, u.1 ∙ ap (λ (x : TypedExpr). Ok x) (same_tree u.0 t u.2))
 
 for_unconditional : (script : Script) (scope : Scope) (p : place.Place) (f s : written.Stmt) (c : Option written.Expr)
     (es : List written.Expr) (t : TypedExpr) → OccursIn script (phrases.Statement scope (written.For p f c es s))
@@ -209,7 +209,7 @@ for_unconditional script scope p f s c es t r h b =
 
 mutual
   stmt_in : (script : Script) (scope : Scope) (s : written.Stmt) → StmtIn script.tokens s
-      → OccursIn script (phrases.Statement scope s) → Fine script (stmt_typed scope s)
+      → OccursIn script (phrases.Statement scope s) → Fine script (check_stmt scope s)
   stmt_in script scope (written.Empty p) h r = fine tt
   stmt_in script scope (written.Declare p v) h r = bind (vars_in script scope p v h.1 r) (λ values u. fine tt)
   stmt_in script scope (written.Evaluate p e) h r =
@@ -217,26 +217,26 @@ mutual
   stmt_in script scope (written.Block p ss) h r =
       bind (stmts_in script (block_of scope) ss h.1 (phrases.block r)) (λ body u. fine tt)
   stmt_in script scope (written.If p c s) h r =
-      if_in script p.line (typed scope.env false c) (stmt_typed scope s)
+      if_in script p.line (check_expr scope.env false c) (check_stmt scope s)
       (typed_in script scope.env false c h.1 (phrases.if_condition r))
       (stmt_in script scope s h.2 (phrases.if_body r)) (λ t a b. mismatches.condition r refl a b)
   stmt_in script scope (written.IfElse p c s t) h r =
-      if_else_in script p.line (typed scope.env false c) (stmt_typed scope s) (stmt_typed scope t)
+      if_else_in script p.line (check_expr scope.env false c) (check_stmt scope s) (check_stmt scope t)
       (typed_in script scope.env false c h.1 (phrases.else_condition r))
       (stmt_in script scope s h.2 (phrases.then_body r)) (stmt_in script scope t h.3 (phrases.else_body r)) (λ t a b.
       mismatches.condition r refl a b)
   stmt_in script scope (written.While p c s) h r =
-      while_in script p.line (typed scope.env false c) (stmt_typed (loop_of scope) s)
+      while_in script p.line (check_expr scope.env false c) (check_stmt (loop_of scope) s)
       (typed_in script scope.env false c h.1 (phrases.while_condition r))
       (stmt_in script (loop_of scope) s h.2 (phrases.while_body r)) (λ t a b. mismatches.condition r refl a b)
   stmt_in script scope (written.DoWhile p s c) h r =
-      do_while_in script p.line (stmt_typed (loop_of scope) s) (typed scope.env false c)
+      do_while_in script p.line (check_stmt (loop_of scope) s) (check_expr scope.env false c)
       (stmt_in script (loop_of scope) s h.1 (phrases.do_body r))
       (typed_in script scope.env false c h.2 (phrases.do_condition r)) (λ t a b. mismatches.condition r refl a b)
   stmt_in script scope (written.For p f c es s) h r =
       let inside = after (block_of scope) f in
-      for_in script p.line (argument_count (written.exprs es)) (head_typed (block_of scope) f)
-      (maybe_typed inside.env c) (all_typed inside.env (written.exprs es)) (stmt_typed (loop_of inside) s)
+      for_in script p.line (argument_count (written.exprs es)) (check_head (block_of scope) f)
+      (check_optional inside.env c) (check_exprs inside.env (written.exprs es)) (check_stmt (loop_of inside) s)
       (head_in script (block_of scope) f h.1 h.2 (phrases.for_head r))
       (maybe_in script inside.env c h.3 (for_condition script scope p f s c es r))
       (all_in script inside.env (written.exprs es) h.4 (phrases.for_steps r))
@@ -251,7 +251,7 @@ mutual
   stmt_in script scope (written.Return p e) h r = return_in script scope p e h.0 h.1 r
 
   pub stmts_in : (script : Script) (scope : Scope) (ss : written.Stmts) → StmtsIn script.tokens ss
-      → OccursIn script (phrases.Statements scope ss) → Fine script (stmts_typed scope ss)
+      → OccursIn script (phrases.Statements scope ss) → Fine script (check_stmts scope ss)
   stmts_in script scope written.no_stmt h r = fine tt
   stmts_in script scope (written.stmt s ss) h r =
       bind (stmt_in script scope s h.0 (phrases.statement r)) (λ t u.
@@ -259,7 +259,7 @@ mutual
 
   cases_in : (script : Script) (scope : Scope) (int_type : Option IntType) (before : List Label) (cs : written.Cases)
       → CasesIn script.tokens cs → OccursIn script (phrases.Cases scope int_type before cs)
-      → Fine script (cases_typed scope int_type before cs)
+      → Fine script (check_cases scope int_type before cs)
   cases_in script scope int_type before written.no_case h r = fine tt
   cases_in script scope int_type before (written.next_case (written.labelled p l ss) cs) h r =
       bind (label_in script scope int_type before p l ss cs (h.0).0 r) (λ label u.

@@ -18,15 +18,15 @@ use Rattle.ash_typing.specs.declared.types.Ty.{Ty}
 use Rattle.ash_typing.specs.declared.types.Ty.TheVariants as ty
 use Rattle.ash_typing.specs.Types.{ty_of}
 use Rattle.ash_typing.specs.Environment.{Environment, Declared, Class, Callee, array_built, construction}
-use Rattle.ash_typing.specs.Expressions.{TypedExpr, all_typed, at_element}
+use Rattle.ash_typing.specs.Expressions.{TypedExpr, check_exprs, at_element}
 use Rattle.ash_typing.specs.Terms.{array_parameters}
 use Rattle.ash_typing.specs.ModuleDeclarations.{declared, element_by, element_named, array_named, object_ty, handle_ty}
 use Rattle.ash_typing.specs.ModuleDeclarations.{ty_named}
 use Rattle.ash_typing.specs.ModuleDeclarations.{ty_in}
 use Rattle.ash_typing.specs.Declarations.{at_type, at_type_name, known_ty, constructed, begun, stored_first, begun_with}
-use Rattle.ash_typing.specs.Declarations.{begun_by_one, begun_by, initialized, decl_typed}
+use Rattle.ash_typing.specs.Declarations.{begun_by_one, begun_by, initialized, check_decl}
 use Rattle.ash_typing.specs.Scopes.{Scope, with_variables, is_taken}
-use Rattle.ash_typing.specs.Statements.{fresh, decls_typed, vars_typed}
+use Rattle.ash_typing.specs.Statements.{fresh, check_decls, check_vars}
 use Rattle.std.proofs.lemmas.Bool.Decides.{nat_tests}
 use Rattle.ash_typing.specs.Coercions.{fits}
 use Rattle.ash_typing.proofs.FaultTokens.{HasToken, HasStart, ElementIn, NamedIn, InitializerIn, DeclIn, VarsIn}
@@ -305,7 +305,7 @@ begun_by_one_in script classes at text of (t ∷ u ∷ ts) h k y z =
 
 begun_by_in : (script : Script) (env : Environment) (of_at at : ℕ) (text : List ℕ) (of : Ty) (es : List written.Expr)
     (ts : List TypedExpr) → IsWrittenAt script of of_at → HasToken script.tokens (name text) at → AllAt script.tokens ts
-    → length ts ≡ argument_count (written.exprs es) → all_typed env (written.exprs es) ≡ Ok ts
+    → length ts ≡ argument_count (written.exprs es) → check_exprs env (written.exprs es) ≡ Ok ts
     → OccursIn script (phrases.Initializer env of_at at of (written.Arguments es))
     → Fine script (begun_by env of_at at of ts)
 unfolding begun_by
@@ -337,8 +337,8 @@ initialized_in script env of_at at text of (written.Arguments es) w h k r =
 
 pub decl_in : (script : Script) (env : Environment) (at : ℕ) (of : Ty) (d : written.Decl) → IsWrittenAt script of at
     → DeclIn script.tokens d → OccursIn script (phrases.Initializer env at d.place.at of d.initializer)
-    → Fine script (decl_typed env at of d)
-unfolding decl_typed
+    → Fine script (check_decl env at of d)
+unfolding check_decl
 decl_in script env at of d w h r =
     bind (initialized_in script env at d.place.at d.name of d.initializer w h.0 h.1 r) (λ value u. fine tt)
 
@@ -353,7 +353,7 @@ fresh_in script scope at of d ds h r =
 
 decls_in : (script : Script) (scope : Scope) (at : ℕ) (of : Ty) (ds : List written.Decl) → IsWrittenAt script of at
     → AllByRecursion (DeclIn script.tokens) ds → OccursIn script (phrases.Locals scope at of ds)
-    → Fine script (decls_typed scope at of ds)
+    → Fine script (check_decls scope at of ds)
 decls_in script scope at of [] w h r = fine tt
 decls_in script scope at of (d ∷ ds) w h r =
     bind_to _ (fresh_in script scope at of d ds h.0 r)
@@ -363,8 +363,8 @@ decls_in script scope at of (d ∷ ds) w h r =
     (λ values u. fine tt)))
 
 pub vars_in : (script : Script) (scope : Scope) (p : place.Place) (v : written.Vars) → VarsIn script.tokens v
-    → OccursIn script (phrases.Statement scope (written.Declare p v)) → Fine script (vars_typed scope v)
-unfolding vars_typed
+    → OccursIn script (phrases.Statement scope (written.Declare p v)) → Fine script (check_vars scope v)
+unfolding check_vars
 vars_in script scope p v h r =
     bind_by (variables_ty_in script scope.env v.of h.0
     (miswritten script scope.env (phrases.Statement scope (written.Declare p v)) (stored_use v.of) (sees r) r refl))

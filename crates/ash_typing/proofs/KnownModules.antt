@@ -17,10 +17,10 @@ use Rattle.ash_typing.specs.Declarations.{Initialization, known_ty}
 use Rattle.ash_typing.specs.Typing.{IsKnown, IsVariableType, IsResultType, IsKnownVariable, IsKnownFunction}
 use Rattle.ash_typing.specs.Typing.{IsKnownInterface, IsKnownClass}
 use Rattle.ash_typed.specs.Modules as modules
-use Rattle.ash_typing.specs.Items.{Names, Row, vars_typed, result_typed, parameters_typed, routine_typed, placed}
-use Rattle.ash_typing.specs.Items.{untaken, Members, constructor_named, member_typed, members_typed, no_members}
-use Rattle.ash_typing.specs.Items.{all_listed, none_listed, class_typed, interface_typed, room_for_type, Walked}
-use Rattle.ash_typing.specs.Items.{item_typed, items_typed}
+use Rattle.ash_typing.specs.Items.{Names, Row, check_vars, check_result, check_parameters, check_routine, placed}
+use Rattle.ash_typing.specs.Items.{untaken, Members, constructor_named, check_member, check_members, no_members}
+use Rattle.ash_typing.specs.Items.{all_listed, none_listed, check_class, check_interface, room_for_type, Walked}
+use Rattle.ash_typing.specs.Items.{check_item, check_items}
 use Rattle.ash_typing.specs.TypedModules.{IsPassedParameter, IsResult, AreVariables, AreFields, IsRoutine, IsFunction}
 use Rattle.ash_typing.specs.TypedModules.{IsSignature, IsInterface, AreInterfaces, HasConstructor, IsClass, AreClasses}
 use Rattle.ash_typing.specs.TypedModules.{environment}
@@ -81,9 +81,9 @@ zip_known R P one [] ys h = tt
 zip_known R P one (x ∷ xs) [] h = absurd h
 zip_known R P one (x ∷ xs) (y ∷ ys) h = (one x y h.0, zip_known R P one xs ys h.1)
 
-vars_known : (env : Environment) (names : Names) (v : written.Vars) (after : Row) → vars_typed env names v ≡ Ok after
+vars_known : (env : Environment) (names : Names) (v : written.Vars) (after : Row) → check_vars env names v ≡ Ok after
     → KnownVars (ty_in env) v
-unfolding vars_typed
+unfolding check_vars
 vars_known env names v after h =
     let k = bind_ok (known_ty v.of (ty_in env v.of)) _ after h in
     (known_sound env v.of v.of k.0 k.1).0
@@ -97,56 +97,56 @@ result_is_known : (env : Environment) (of : Option written.Named) → IsResult e
 result_is_known env None h = tt
 result_is_known env (Some of) h = passed_variable (ty_in env of) h
 
-routine_known : (env : Environment) (of : Ty) (r : Routine) (t : modules.Function) → routine_typed env of r ≡ Ok t
+routine_known : (env : Environment) (of : Ty) (r : Routine) (t : modules.Function) → check_routine env of r ≡ Ok t
     → AllByRecursion (KnownParameter (ty_in env)) r.parameters
-unfolding routine_typed IsDistinct
+unfolding check_routine IsDistinct
 routine_known env of r t h =
-    let p = bind_ok (parameters_typed env [] r.parameters) _ t h in
+    let p = bind_ok (check_parameters env [] r.parameters) _ t h in
     let s = parameters_sound env r.parameters [] p.0 tt p.1 in
     passed_are_known env r.parameters s.passed
 
 function_known : (env : Environment) (f : written.Function) (of : Ty) (t : modules.Function)
-    → result_typed env f.result ≡ Ok of → routine_typed env of (routine_of f) ≡ Ok t → KnownFunction (ty_in env) f
+    → check_result env f.result ≡ Ok of → check_routine env of (routine_of f) ≡ Ok t → KnownFunction (ty_in env) f
 function_known env f of t h k =
     (result_is_known env f.result (result_sound env f.result of h).0, routine_known env of (routine_of f) t k)
 
-members_known : (env : Environment) (xs : List written.Member) (ms after : Members) → members_typed env ms xs ≡ Ok after
+members_known : (env : Environment) (xs : List written.Member) (ms after : Members) → check_members env ms xs ≡ Ok after
     → KnownMembers (ty_in env) xs
-unfolding member_typed
+unfolding check_member
 members_known env [] ms after h = (tt, tt, tt)
 members_known env (written.AField v ∷ xs) ms after h =
-    let m = bind_ok (member_typed env ms (written.AField v)) _ after h in
-    let r = bind_ok (vars_typed env ms.names v) _ m.0 m.1 in
+    let m = bind_ok (check_member env ms (written.AField v)) _ after h in
+    let r = bind_ok (check_vars env ms.names v) _ m.0 m.1 in
     let go = members_known env xs m.0 after m.2 in
     ((vars_known env ms.names v r.0 r.1, go.0), go.1, go.2)
 members_known env (written.AMethod f ∷ xs) ms after h =
-    let m = bind_ok (member_typed env ms (written.AMethod f)) _ after h in
-    let o = bind_ok (result_typed env f.result) _ m.0 m.1 in
+    let m = bind_ok (check_member env ms (written.AMethod f)) _ after h in
+    let o = bind_ok (check_result env f.result) _ m.0 m.1 in
     let p = bind_ok (placed ms.names f.place.at f.name) _ m.0 o.2 in
-    let t = bind_ok (routine_typed env o.0 (routine_of f)) _ m.0 p.2 in
+    let t = bind_ok (check_routine env o.0 (routine_of f)) _ m.0 p.2 in
     let go = members_known env xs m.0 after m.2 in
     (go.0, (function_known env f o.0 t.0 o.1 t.1, go.1), go.2)
 members_known env (written.AConstructor c ∷ xs) ms after h =
-    let m = bind_ok (member_typed env ms (written.AConstructor c)) _ after h in
+    let m = bind_ok (check_member env ms (written.AConstructor c)) _ after h in
     let n = bind_ok (constructor_named ms.class c) _ m.0 m.1 in
-    let t = bind_ok (routine_typed env ty.Void n.0) _ m.0 n.2 in
+    let t = bind_ok (check_routine env ty.Void n.0) _ m.0 n.2 in
     let g = named_sound ms.class c n.0 n.1 in
     let go = members_known env xs m.0 after m.2 in (
       go.0,
       go.1,
       (
         routine_known env ty.Void (constructing c) t.0
-            (subst (λ (r : Routine). routine_typed env ty.Void r ≡ Ok t.0) g.2 t.1),
+            (subst (λ (r : Routine). check_routine env ty.Void r ≡ Ok t.0) g.2 t.1),
         go.2,
       ),
     )
 
-class_known : (env : Environment) (place : ℕ) (c : written.Class) (t : modules.Class) → class_typed env place c ≡ Ok t
+class_known : (env : Environment) (place : ℕ) (c : written.Class) (t : modules.Class) → check_class env place c ≡ Ok t
     → KnownClass (ty_in env) c
-unfolding class_typed
+unfolding check_class
 class_known env place c t h =
     let l = bind_ok (all_listed env place none_listed c.interfaces) _ t h in
-    let m = bind_ok (members_typed (inside env place) (no_members c l.0.interfaces) c.members) _ t l.2 in
+    let m = bind_ok (check_members (inside env place) (no_members c l.0.interfaces) c.members) _ t l.2 in
     members_known (inside env place) c.members (no_members c l.0.interfaces) m.0 m.1
 
 signatures_known : (env : Environment) (ms : List written.InterfaceMethod) (ts : List modules.Signature)
@@ -159,34 +159,34 @@ interface_known : (env : Environment) (classes : ℕ) (i : written.Interface) (t
     → IsInterface env i classes t → KnownInterface (ty_in env) i
 interface_known env classes i t is = signatures_known env i.methods t.methods is.methods
 
-pub items_known : (env : Environment) (is : List written.Item) (w after : Walked) → items_typed env w is ≡ Ok after
+pub items_known : (env : Environment) (is : List written.Item) (w after : Walked) → check_items env w is ≡ Ok after
     → KnownItems (ty_in env) is
-unfolding item_typed
+unfolding check_item
 items_known env [] w after h = (tt, tt, tt, tt)
 items_known env (written.AClass c ∷ is) w after h =
-    let m = bind_ok (item_typed env w (written.AClass c)) _ after h in
+    let m = bind_ok (check_item env w (written.AClass c)) _ after h in
     let u = bind_ok (untaken w.names c.place.at c.name) _ m.0 m.1 in
     let o = bind_ok (room_for_type c.place.at w.typed) _ m.0 u.2 in
-    let t = bind_ok (class_typed env o.0 c) _ m.0 o.2 in
+    let t = bind_ok (check_class env o.0 c) _ m.0 o.2 in
     let go = items_known env is m.0 after m.2 in
     (go.0, (class_known env o.0 c t.0 t.1, go.1), go.2, go.3)
 items_known env (written.AnInterface i ∷ is) w after h =
-    let m = bind_ok (item_typed env w (written.AnInterface i)) _ after h in
+    let m = bind_ok (check_item env w (written.AnInterface i)) _ after h in
     let u = bind_ok (untaken w.names i.place.at i.name) _ m.0 m.1 in
     let o = bind_ok (room_for_type i.place.at w.typed) _ m.0 u.2 in
-    let t = bind_ok (interface_typed env o.0 i) _ m.0 o.2 in
+    let t = bind_ok (check_interface env o.0 i) _ m.0 o.2 in
     let go = items_known env is m.0 after m.2 in
     ((interface_known env o.0 i t.0 (interface_sound env o.0 i t.0 t.1), go.0), go.1, go.2, go.3)
 items_known env (written.AFunction f ∷ is) w after h =
-    let m = bind_ok (item_typed env w (written.AFunction f)) _ after h in
-    let o = bind_ok (result_typed env f.result) _ m.0 m.1 in
+    let m = bind_ok (check_item env w (written.AFunction f)) _ after h in
+    let o = bind_ok (check_result env f.result) _ m.0 m.1 in
     let u = bind_ok (untaken w.names f.place.at f.name) _ m.0 o.2 in
-    let t = bind_ok (routine_typed env o.0 (routine_of f)) _ m.0 u.2 in
+    let t = bind_ok (check_routine env o.0 (routine_of f)) _ m.0 u.2 in
     let go = items_known env is m.0 after m.2 in
     (go.0, go.1, (function_known env f o.0 t.0 o.1 t.1, go.2), go.3)
 items_known env (written.AGlobal v ∷ is) w after h =
-    let m = bind_ok (item_typed env w (written.AGlobal v)) _ after h in
-    let r = bind_ok (vars_typed env w.names v) _ m.0 m.1 in
+    let m = bind_ok (check_item env w (written.AGlobal v)) _ after h in
+    let r = bind_ok (check_vars env w.names v) _ m.0 m.1 in
     let go = items_known env is m.0 after m.2 in
     (go.0, go.1, go.2, (vars_known env w.names v r.0 r.1, go.3))
 

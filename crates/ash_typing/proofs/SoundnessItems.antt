@@ -31,7 +31,7 @@ use Rattle.ash_typing.proofs.TypingKnown.{variable_is_known}
 use Rattle.ash_typing.proofs.TypedRoutines.{passed_known, passed_variable, types_of}
 use Rattle.ash_typing.proofs.SoundnessVariables.{type_sound, declared_sound}
 use Rattle.ash_typing.proofs.SoundnessStatements.{stmts_sound}
-use Rattle.ash_typing.proofs.SoundnessReturning.{any_typed}
+use Rattle.ash_typing.proofs.SoundnessReturning.{any_return_kept}
 use Rattle.ash_tree.specs.Items.{Routine, routine_of, classes_of, interfaces_of, classes_before}
 
 -- parameters and results
@@ -85,7 +85,7 @@ body_returns env of r t is = go is.returns
   where
     go : (of ≡ ty.Void) ⊎ (returns_in r.body ≡ true) → (t.result ≡ None) ⊎ AnyReturns t.body
     go (inl e) = inl (is.result ∙ ap result_type e)
-    go (inr e) = inr (any_typed is.body e)
+    go (inr e) = inr (any_return_kept is.body e)
 
 pub routine_sound : (env : Environment) (of : Ty) (r : Routine) (t : modules.Function) → IsKnown env → IsKnownType of
     → signatures.IsResultType (seen_in env).signatures (result_type of) → BodyDeclaresInBlocks r.body

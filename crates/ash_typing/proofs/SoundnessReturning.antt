@@ -78,11 +78,11 @@ default_here labels.Default ts rows h = typed.first_label
 default_here (labels.Case n) ts rows h = absurd (cc)
 default_here (labels.CaseMinus n) ts rows h = absurd (cc)
 
-default_typed : {scope : Scope} {k : IntType} {before : List Label} {cs : written.Cases} {rows : Cases}
+default_kept : {scope : Scope} {k : IntType} {before : List Label} {cs : written.Cases} {rows : Cases}
     → AreCases scope k before cs rows → has_default cs ≡ true → typed.HasDefault rows
-default_typed no_more_cases h = absurd (cc)
-default_typed (more_cases {l = l} {cs = cs} {ts = ts} {rows = rows} is ss rest) h =
-    go (or_cases (is_default l) (has_default cs) h) (default_typed rest)
+default_kept no_more_cases h = absurd (cc)
+default_kept (more_cases {l = l} {cs = cs} {ts = ts} {rows = rows} is ss rest) h =
+    go (or_cases (is_default l) (has_default cs) h) (default_kept rest)
   where
     go : (is_default l ≡ true) ⊎ (has_default cs ≡ true) → (has_default cs ≡ true → typed.HasDefault rows)
         → typed.HasDefault (next_case (labelled l ts) rows)
@@ -95,48 +95,48 @@ no_rows : {scope : Scope} {k : IntType} {before : List Label} {cs : written.Case
 no_rows no_more_cases e = refl
 no_rows (more_cases l ss rest) e = absurd (cc)
 
-last_typed : (here : Bool) (cs : written.Cases) (l : Label) (ts : Stmts) (rows : Cases)
+last_kept : (here : Bool) (cs : written.Cases) (l : Label) (ts : Stmts) (rows : Cases)
     → (here ≡ true → typed.AnyReturns ts) → (last_returns cs ≡ true → typed.LastReturns rows)
     → (cs ≡ written.no_case → rows ≡ no_case) → last_of here cs (last_returns cs) ≡ true
     → typed.LastReturns (next_case (labelled l ts) rows)
-last_typed here written.no_case l ts rows one more none h =
+last_kept here written.no_case l ts rows one more none h =
     subst (λ rows. typed.LastReturns (next_case (labelled l ts) rows)) (sym (none refl)) (typed.last_case (one h))
-last_typed here (written.next_case c cs) l ts rows one more none h = typed.not_last_case (more h)
+last_kept here (written.next_case c cs) l ts rows one more none h = typed.not_last_case (more h)
 
 -- statements
 
 mutual
-  pub return_typed : {scope : Scope} {s : written.Stmt} {t : Stmt} → IsStmt scope s t → returns s ≡ true
+  pub return_kept : {scope : Scope} {s : written.Stmt} {t : Stmt} → IsStmt scope s t → returns s ≡ true
       → typed.Returns t
-  return_typed empty h = absurd (cc)
-  return_typed (declare is are) h = absurd (cc)
-  return_typed (evaluate i) h = absurd (cc)
-  return_typed (block i) h = typed.in_block (any_typed i h)
-  return_typed (if_only i j) h = absurd (cc)
-  return_typed (if_else {s = s} {r = r} i j k) h = let parts = and_parts (returns s) (returns r) h in
-      typed.in_both (return_typed j parts.0) (return_typed k parts.1)
-  return_typed (while_loop i j) h = absurd (cc)
-  return_typed (do_loop i j) h = absurd (cc)
-  return_typed (for_loop i m all body) h = absurd (cc)
-  return_typed (switch {cs = cs} i j are) h =
+  return_kept empty h = absurd (cc)
+  return_kept (declare is are) h = absurd (cc)
+  return_kept (evaluate i) h = absurd (cc)
+  return_kept (block i) h = typed.in_block (any_return_kept i h)
+  return_kept (if_only i j) h = absurd (cc)
+  return_kept (if_else {s = s} {r = r} i j k) h = let parts = and_parts (returns s) (returns r) h in
+      typed.in_both (return_kept j parts.0) (return_kept k parts.1)
+  return_kept (while_loop i j) h = absurd (cc)
+  return_kept (do_loop i j) h = absurd (cc)
+  return_kept (for_loop i m all body) h = absurd (cc)
+  return_kept (switch {cs = cs} i j are) h =
       let parts = and_parts (has_default cs) (not (breaks_out cs) && last_returns cs) h in
       let more = and_parts (not (breaks_out cs)) (last_returns cs) parts.1 in
-      typed.in_switch (default_typed are parts.0)
-      (λ b. not_both (breaks_out cs) more.0 (out_written are b)) (cases_typed are more.1)
-  return_typed (break_out i) h = absurd (cc)
-  return_typed (continue_on i) h = absurd (cc)
-  return_typed (return_nothing i) h = typed.returned
-  return_typed (return_value i j) h = typed.returned
+      typed.in_switch (default_kept are parts.0)
+      (λ b. not_both (breaks_out cs) more.0 (out_written are b)) (last_return_kept are more.1)
+  return_kept (break_out i) h = absurd (cc)
+  return_kept (continue_on i) h = absurd (cc)
+  return_kept (return_nothing i) h = typed.returned
+  return_kept (return_value i j) h = typed.returned
 
-  pub any_typed : {scope : Scope} {ss : written.Stmts} {ts : Stmts} → AreStmts scope ss ts → any_returns ss ≡ true
+  pub any_return_kept : {scope : Scope} {ss : written.Stmts} {ts : Stmts} → AreStmts scope ss ts → any_returns ss ≡ true
       → typed.AnyReturns ts
-  any_typed no_more_stmts h = absurd (cc)
-  any_typed (more_stmts {s = s} {ss = ss} i rest) h =
-      ⊎_elim (λ e. typed.first_returns (return_typed i e))
-      (λ e. typed.later_returns (any_typed rest e)) (or_cases (returns s) (any_returns ss) h)
+  any_return_kept no_more_stmts h = absurd (cc)
+  any_return_kept (more_stmts {s = s} {ss = ss} i rest) h =
+      ⊎_elim (λ e. typed.first_returns (return_kept i e))
+      (λ e. typed.later_returns (any_return_kept rest e)) (or_cases (returns s) (any_returns ss) h)
 
-  cases_typed : {scope : Scope} {k : IntType} {before : List Label} {cs : written.Cases} {rows : Cases}
+  last_return_kept : {scope : Scope} {k : IntType} {before : List Label} {cs : written.Cases} {rows : Cases}
       → AreCases scope k before cs rows → last_returns cs ≡ true → typed.LastReturns rows
-  cases_typed no_more_cases h = absurd (cc)
-  cases_typed (more_cases {l = l} {ss = ss} {cs = cs} {ts = ts} {rows = rows} is i rest) h =
-      last_typed (any_returns ss) cs l ts rows (any_typed i) (cases_typed rest) (no_rows rest) h
+  last_return_kept no_more_cases h = absurd (cc)
+  last_return_kept (more_cases {l = l} {ss = ss} {cs = cs} {ts = ts} {rows = rows} is i rest) h =
+      last_kept (any_returns ss) cs l ts rows (any_return_kept i) (last_return_kept rest) (no_rows rest) h

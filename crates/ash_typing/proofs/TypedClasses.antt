@@ -11,9 +11,9 @@ use Rattle.ash_typing.specs.Environment.{Environment, inside}
 use Rattle.ash_typing.specs.Typing.{IsKnown}
 use Rattle.ash_typed.specs.StatementTree.{Initialization}
 use Rattle.ash_typed.specs.Modules.{Variables, Function, Implementation, Class}
-use Rattle.ash_typing.specs.Items.{Names, placed, vars_typed, result_typed, routine_typed, Members, constructor_named}
-use Rattle.ash_typing.specs.Items.{member_typed, members_typed, no_members, class_of_members, Listed, all_listed}
-use Rattle.ash_typing.specs.Items.{none_listed, class_typed}
+use Rattle.ash_typing.specs.Items.{Names, placed, check_vars, check_result, check_routine, Members, constructor_named}
+use Rattle.ash_typing.specs.Items.{check_member, check_members, no_members, class_of_members, Listed, all_listed}
+use Rattle.ash_typing.specs.Items.{none_listed, check_class}
 use Rattle.ash_typing.specs.TypedModules.{listed_name, AreVariables, AreFields, IsFunction, IsConstructor}
 use Rattle.ash_typing.specs.TypedModules.{HasConstructor, IsListed, IsClass}
 use Rattle.ash_typing.proofs.Bindings.{no_err, ok_is, bind_ok, bind_is, if_ok}
@@ -137,8 +137,8 @@ record MembersWalked (env : Environment) (ms : Members) (written_members : List 
       constructor
 
 members_sound : (env : Environment) → IsKnown env → (xs : List written.Member) (ms after : Members)
-    → Distinct ms.names.taken → members_typed env ms xs ≡ Ok after → MembersWalked env ms xs after
-unfolding member_typed
+    → Distinct ms.names.taken → check_members env ms xs ≡ Ok after → MembersWalked env ms xs after
+unfolding check_member
 members_sound env known [] ms after d h = record {
   can = takes_none ms.names d;
   fields = [];
@@ -150,8 +150,8 @@ members_sound env known [] ms after d h = record {
   is = sym (ok_is ms after h) ∙ sym (members_with-none ms);
 }
 members_sound env known (written.AField v ∷ xs) ms after d h =
-    let m = bind_ok (member_typed env ms (written.AField v)) _ after h in
-    let r = bind_ok (vars_typed env ms.names v) _ m.0 m.1 in
+    let m = bind_ok (check_member env ms (written.AField v)) _ after h in
+    let r = bind_ok (check_vars env ms.names v) _ m.0 m.1 in
     let g = vars_sound env known ms.names v r.0 d r.1 in
     let next : Members = members_with ms (names_of v) (length v.decls) r.0.variables.values [] ms.class.constructor in
     let step : m.0 ≡ next =
@@ -159,7 +159,7 @@ members_sound env known (written.AField v ∷ xs) ms after d h =
     ∙ same_members ms.class.name ms.class.line ms.class.interfaces r.0.names next.names _ _ ms.class.constructor _ _
     g.taken refl (sym (append-nil ms.class.methods)) in
     let go = members_sound env known xs next after g.can.distinct
-    (subst (λ (x : Members). members_typed env x xs ≡ Ok after) step m.2) in
+    (subst (λ (x : Members). check_members env x xs ≡ Ok after) step m.2) in
     let count = count_names v (member_names xs) in
     record {
       can = takes_then ms.names (names_of v) (member_names xs) (length v.decls) (length (member_names xs)) _ count g.can
@@ -174,10 +174,10 @@ members_sound env known (written.AField v ∷ xs) ms after d h =
           r.0.variables.values go.fields [] go.methods ms.class.constructor go.constructor count;
     }
 members_sound env known (written.AMethod f ∷ xs) ms after d h =
-    let m = bind_ok (member_typed env ms (written.AMethod f)) _ after h in
-    let o = bind_ok (result_typed env f.result) _ m.0 m.1 in
+    let m = bind_ok (check_member env ms (written.AMethod f)) _ after h in
+    let o = bind_ok (check_result env f.result) _ m.0 m.1 in
     let p = bind_ok (placed ms.names f.place.at f.name) _ m.0 o.2 in
-    let t = bind_ok (routine_typed env o.0 (routine_of f)) _ m.0 p.2 in
+    let t = bind_ok (check_routine env o.0 (routine_of f)) _ m.0 p.2 in
     let g = placed_sound ms.names f.place.at f.name p.0 d p.1 in
     let next : Members = members_with ms (f.name ∷ []) 1 [] (t.0 ∷ []) ms.class.constructor in
     let step : m.0 ≡ next =
@@ -185,7 +185,7 @@ members_sound env known (written.AMethod f ∷ xs) ms after d h =
     ∙ same_members ms.class.name ms.class.line ms.class.interfaces p.0 next.names _ _ ms.class.constructor _ _ g.1
     (sym (append-nil ms.class.fields)) refl in
     let go = members_sound env known xs next after g.0.distinct
-    (subst (λ (x : Members). members_typed env x xs ≡ Ok after) step m.2) in
+    (subst (λ (x : Members). check_members env x xs ≡ Ok after) step m.2) in
     let k = length (member_names xs) in
     record {
       can = takes_then ms.names (f.name ∷ []) (member_names xs) 1 k (suc k) (omega arith) g.0 go.can;
@@ -199,9 +199,9 @@ members_sound env known (written.AMethod f ∷ xs) ms after d h =
           ms.class.constructor go.constructor (omega arith);
     }
 members_sound env known (written.AConstructor c ∷ xs) ms after d h =
-    let m = bind_ok (member_typed env ms (written.AConstructor c)) _ after h in
+    let m = bind_ok (check_member env ms (written.AConstructor c)) _ after h in
     let n = bind_ok (constructor_named ms.class c) _ m.0 m.1 in
-    let t = bind_ok (routine_typed env ty.Void n.0) _ m.0 n.2 in
+    let t = bind_ok (check_routine env ty.Void n.0) _ m.0 n.2 in
     let g = named_sound ms.class c n.0 n.1 in
     let next : Members = members_with ms [] 0 [] [] (Some t.0) in
     let step : m.0 ≡ next =
@@ -210,12 +210,12 @@ members_sound env known (written.AConstructor c ∷ xs) ms after d h =
     (sym (grown-none ms.names)) (sym (append-nil ms.class.fields)) (sym (append-nil ms.class.methods)) in
     let none = takes_none ms.names d in
     let go = members_sound env known xs next after none.distinct
-    (subst (λ (x : Members). members_typed env x xs ≡ Ok after) step m.2) in
+    (subst (λ (x : Members). check_members env x xs ≡ Ok after) step m.2) in
     let k = length (member_names xs) in
     let is : IsConstructor env ms.class.name c t.0 = record {
       named = g.1;
       routine = routine_sound env known ty.Void refl (constructing c) t.0
-          (subst (λ (r : Routine). routine_typed env ty.Void r ≡ Ok t.0) g.2 t.1);
+          (subst (λ (r : Routine). check_routine env ty.Void r ≡ Ok t.0) g.2 t.1);
     } in
     record {
       can = takes_then ms.names [] (member_names xs) 0 k k (omega arith) none go.can;
@@ -236,8 +236,8 @@ members_complete : (env : Environment) → IsKnown env
     → CanTake ms.names (member_names xs) (length (member_names xs)) → AreFields env (fields_of xs) fs
     → AllZip (IsFunction env) (methods_of xs) ts
     → Constructs env ms.class.name ms.class.constructor (constructors_of xs) o
-    → members_typed env ms xs ≡ Ok (members_with ms (member_names xs) (length (member_names xs)) fs ts o)
-unfolding member_typed
+    → check_members env ms xs ≡ Ok (members_with ms (member_names xs) (length (member_names xs)) fs ts o)
+unfolding check_member
 members_complete env known [] ms fs [] o can are_fs are_ts constructs =
     ap (λ (x : Members). Ok x)
     (sym (members_with-none ms)
@@ -255,8 +255,8 @@ members_complete env known (written.AField v ∷ xs) ms fs ts o can are_fs are_t
     let first = takes_first ms.names (names_of v) (member_names xs) j k _ count can in
     let rest = takes_rest ms.names (names_of v) (member_names xs) j k _ count can in
     let next : Members = members_with ms (names_of v) j values [] ms.class.constructor in
-    bind_is (member_typed env ms (written.AField v)) _ next _
-    (bind_is (vars_typed env ms.names v) _ _ next (vars_complete env known ms.names v f first are)
+    bind_is (check_member env ms (written.AField v)) _ next _
+    (bind_is (check_vars env ms.names v) _ _ next (vars_complete env known ms.names v f first are)
     (ap (λ (x : Members). Ok x)
     (same_members ms.class.name ms.class.line ms.class.interfaces next.names next.names _ _ ms.class.constructor _ _
     refl refl (sym (append-nil ms.class.methods)))))
@@ -273,10 +273,10 @@ members_complete env known (written.AMethod f ∷ xs) ms fs (t ∷ ts) o can are
     let rest = takes_rest ms.names (f.name ∷ []) (member_names xs) 1 k (suc k) (omega arith) can in
     let next : Members = members_with ms (f.name ∷ []) 1 [] (t ∷ []) ms.class.constructor in
     let is = are_ts.0 in
-    bind_is (member_typed env ms (written.AMethod f)) _ next _
-    (bind_is (result_typed env f.result) _ (result_in env f.result) next (result_complete env f.result is.passed)
+    bind_is (check_member env ms (written.AMethod f)) _ next _
+    (bind_is (check_result env f.result) _ (result_in env f.result) next (result_complete env f.result is.passed)
     (bind_is (placed ms.names f.place.at f.name) _ next.names next (placed_complete ms.names f.place.at f.name first)
-    (bind_is (routine_typed env (result_in env f.result) (routine_of f)) _ t next
+    (bind_is (check_routine env (result_in env f.result) (routine_of f)) _ t next
     (routine_complete env (result_in env f.result) (routine_of f) t is.routine)
     (ap (λ (x : Members). Ok x)
     (same_members ms.class.name ms.class.line ms.class.interfaces next.names next.names _ _ ms.class.constructor _ _
@@ -290,9 +290,9 @@ members_complete env known (written.AConstructor c ∷ xs) ms fs ts o can are_fs
     let rest = takes_rest ms.names [] (member_names xs) 0 k k (omega arith) can in
     constructs_only env ms.class.name ms.class.constructor c (constructors_of xs) o constructs (λ none t is no_more built.
     let next : Members = members_with ms [] 0 [] [] (Some t) in
-    bind_is (member_typed env ms (written.AConstructor c)) _ next _
+    bind_is (check_member env ms (written.AConstructor c)) _ next _
     (bind_is (constructor_named ms.class c) _ (constructing c) next (named_complete ms.class c none is.named)
-    (bind_is (routine_typed env ty.Void (constructing c)) _ t next
+    (bind_is (check_routine env ty.Void (constructing c)) _ t next
     (routine_complete env ty.Void (constructing c) t is.routine)
     (ap (λ (x : Members). Ok x)
     (same_members ms.class.name ms.class.line ms.class.interfaces ms.names next.names _ _ (Some t) _ _
@@ -309,11 +309,11 @@ within_known env place k =
     record { interfaces = k.interfaces; classes = k.classes; functions = k.functions; globals = k.globals; locals = tt }
 
 pub class_sound : (env : Environment) → IsKnown env → (place : ℕ) (c : written.Class) (typed : Class)
-    → class_typed env place c ≡ Ok typed → IsClass env place c typed
-unfolding class_typed IsDistinct
+    → check_class env place c ≡ Ok typed → IsClass env place c typed
+unfolding check_class IsDistinct
 class_sound env known place c typed h =
     let l = bind_ok (all_listed env place none_listed c.interfaces) _ typed h in
-    let m = bind_ok (members_typed (inside env place) (no_members c l.0.interfaces) c.members) _ typed l.2 in
+    let m = bind_ok (check_members (inside env place) (no_members c l.0.interfaces) c.members) _ typed l.2 in
     let list = listed_sound env place c.interfaces none_listed l.0 tt l.1 in
     let go = members_sound (inside env place) (within_known env place known) c.members (no_members c l.0.interfaces) m.0
     tt m.1 in
@@ -333,8 +333,8 @@ class_sound env known place c typed h =
     })
 
 pub class_complete : (env : Environment) → IsKnown env → (place : ℕ) (c : written.Class) (typed : Class)
-    → IsClass env place c typed → class_typed env place c ≡ Ok typed
-unfolding class_typed IsDistinct
+    → IsClass env place c typed → check_class env place c ≡ Ok typed
+unfolding check_class IsDistinct
 class_complete env known place c typed is =
     let n = is.name in
     let l = is.line in
@@ -345,7 +345,7 @@ class_complete env known place c typed is =
     bind_is (all_listed env place none_listed c.interfaces) _
     (listed_with none_listed (map listed_name c.interfaces) typed.interfaces) typed
     (listed_complete env place c.interfaces none_listed typed.interfaces once is.interfaces)
-    (bind_is (members_typed (inside env place) (no_members c typed.interfaces) c.members) _ _ typed
+    (bind_is (check_members (inside env place) (no_members c typed.interfaces) c.members) _ _ typed
     (members_complete (inside env place) (within_known env place known) c.members (no_members c typed.interfaces)
     typed.fields typed.methods typed.constructor can is.fields is.methods is.constructor)
     (ap (λ (t : Class). Ok t) (rw (sym n, sym l) refl)))

@@ -12,9 +12,9 @@ use Rattle.ash_typing.specs.declared.types.Ty.{Ty}
 use Rattle.ash_typing.specs.Types.{result_type}
 use Rattle.ash_typing.specs.Environment.{Environment, Declared, type_declared}
 use Rattle.ash_typing.specs.ModuleDeclarations.{object_named, result_in}
-use Rattle.ash_typing.specs.Items.{Names, untaken, placed, result_typed, parameters_typed, Signatures, signature_of}
-use Rattle.ash_typing.specs.Items.{signature_typed, signatures_typed, no_signatures, interface_of, interface_typed}
-use Rattle.ash_typing.specs.Items.{listed_at, implemented_at, Listed, listed_typed, all_listed}
+use Rattle.ash_typing.specs.Items.{Names, untaken, placed, check_result, check_parameters, Signatures, signature_of}
+use Rattle.ash_typing.specs.Items.{check_signature, check_signatures, no_signatures, interface_of, check_interface}
+use Rattle.ash_typing.specs.Items.{listed_at, implemented_at, Listed, check_listed, all_listed}
 use Rattle.ash_typing.specs.TypedModules.{signature_name, listed_name, parameter_of, IsSignature, IsInterface, IsListed}
 use Rattle.ash_typing.proofs.Bindings.{no_err, ok_is, bind_ok, bind_is}
 use Rattle.ash_typing.proofs.TakenNames.{all_free, Distinct, grown, grown-none, grown-then, CanTake, takes_none}
@@ -52,7 +52,7 @@ abbrev signature_in : Environment → written.InterfaceMethod → Signature
 signature_in env m = signature_of m.name (result_in env m.result) (map (parameter_of env) m.parameters)
 
 signature_sound : (env : Environment) (m : written.InterfaceMethod) (of : Ty) (parameters : List Declared)
-    → result_typed env m.result ≡ Ok of → parameters_typed env [] m.parameters ≡ Ok parameters
+    → check_result env m.result ≡ Ok of → check_parameters env [] m.parameters ≡ Ok parameters
     → IsSignature env m (signature_of m.name of parameters)
 unfolding IsDistinct
 signature_sound env m of parameters h k =
@@ -83,8 +83,8 @@ record SignaturesWalked (env : Environment) (ss : Signatures) (ms : List written
   is : after ≡ signatures_with ss (map signature_name ms) (length ms) methods
 
 signatures_sound : (env : Environment) (ms : List written.InterfaceMethod) (ss after : Signatures)
-    → Distinct ss.names.taken → signatures_typed env ss ms ≡ Ok after → SignaturesWalked env ss ms after
-unfolding signature_typed
+    → Distinct ss.names.taken → check_signatures env ss ms ≡ Ok after → SignaturesWalked env ss ms after
+unfolding check_signature
 signatures_sound env [] ss after d h = record {
   can = takes_none ss.names d;
   methods = [];
@@ -92,16 +92,16 @@ signatures_sound env [] ss after d h = record {
   is = sym (ok_is ss after h) ∙ sym (signatures_with-none ss);
 }
 signatures_sound env (m ∷ ms) ss after d h =
-    let o = bind_ok (signature_typed env ss m) _ after h in
-    let r = bind_ok (result_typed env m.result) _ o.0 o.1 in
+    let o = bind_ok (check_signature env ss m) _ after h in
+    let r = bind_ok (check_result env m.result) _ o.0 o.1 in
     let p = bind_ok (placed ss.names m.place.at m.name) _ o.0 r.2 in
-    let q = bind_ok (parameters_typed env [] m.parameters) _ o.0 p.2 in
+    let q = bind_ok (check_parameters env [] m.parameters) _ o.0 p.2 in
     let g = placed_sound ss.names m.place.at m.name p.0 d p.1 in
     let t : Signature = signature_of m.name r.0 q.0 in
     let next : Signatures = signatures_with ss (m.name ∷ []) 1 (t ∷ []) in
     let step : o.0 ≡ next = sym (ok_is _ o.0 q.2) ∙ same_signatures p.0 next.names _ _ g.1 refl in
     let go = signatures_sound env ms next after g.0.distinct
-    (subst (λ (x : Signatures). signatures_typed env x ms ≡ Ok after) step o.2) in
+    (subst (λ (x : Signatures). check_signatures env x ms ≡ Ok after) step o.2) in
     record {
       can = takes_then ss.names (m.name ∷ []) (map signature_name ms) 1 (length ms) (suc (length ms)) (omega arith) g.0
           go.can;
@@ -112,8 +112,8 @@ signatures_sound env (m ∷ ms) ss after d h =
 
 signatures_complete : (env : Environment) (ms : List written.InterfaceMethod) (ss : Signatures) (ts : List Signature)
     → CanTake ss.names (map signature_name ms) (length ms) → AllZip (IsSignature env) ms ts
-    → signatures_typed env ss ms ≡ Ok (signatures_with ss (map signature_name ms) (length ms) ts)
-unfolding signature_typed IsDistinct
+    → check_signatures env ss ms ≡ Ok (signatures_with ss (map signature_name ms) (length ms) ts)
+unfolding check_signature IsDistinct
 signatures_complete env [] ss [] can are = ap (λ (x : Signatures). Ok x) (sym (signatures_with-none ss))
 signatures_complete env [] ss (t ∷ ts) can are = absurd are
 signatures_complete env (m ∷ ms) ss [] can are = absurd are
@@ -124,10 +124,10 @@ signatures_complete env (m ∷ ms) ss (t ∷ ts) can are =
     let first = takes_first ss.names (m.name ∷ []) names 1 k (suc k) (omega arith) can in
     let rest = takes_rest ss.names (m.name ∷ []) names 1 k (suc k) (omega arith) can in
     let next : Signatures = signatures_with ss (m.name ∷ []) 1 (t ∷ []) in
-    bind_is (signature_typed env ss m) _ next _
-    (bind_is (result_typed env m.result) _ (result_in env m.result) next (result_complete env m.result is.passed_result)
+    bind_is (check_signature env ss m) _ next _
+    (bind_is (check_result env m.result) _ (result_in env m.result) next (result_complete env m.result is.passed_result)
     (bind_is (placed ss.names m.place.at m.name) _ next.names next (placed_complete ss.names m.place.at m.name first)
-    (bind_is (parameters_typed env [] m.parameters) _ (map (parameter_of env) m.parameters) next
+    (bind_is (check_parameters env [] m.parameters) _ (map (parameter_of env) m.parameters) next
     (parameters_complete env m.parameters [] is.passed is.differ)
     (ap (λ (s : Signature). Ok (signatures_of next.names (ss.methods ++ s ∷ []))) (sym (signature_exact env m t is))))))
     (signatures_complete env ms next ts rest are.1
@@ -136,10 +136,10 @@ signatures_complete env (m ∷ ms) ss (t ∷ ts) can are =
 -- interfaces
 
 pub interface_sound : (env : Environment) (classes : ℕ) (i : written.Interface) (typed : Interface)
-    → interface_typed env classes i ≡ Ok typed → IsInterface env i classes typed
-unfolding interface_typed IsDistinct
+    → check_interface env classes i ≡ Ok typed → IsInterface env i classes typed
+unfolding check_interface IsDistinct
 interface_sound env classes i typed h =
-    let m = bind_ok (signatures_typed env no_signatures i.methods) _ typed h in
+    let m = bind_ok (check_signatures env no_signatures i.methods) _ typed h in
     let go = signatures_sound env i.methods no_signatures m.0 tt m.1 in
     let is : typed
     ≡ interface_of i classes
@@ -155,15 +155,15 @@ interface_sound env classes i typed h =
     })
 
 pub interface_complete : (env : Environment) (classes : ℕ) (i : written.Interface) (typed : Interface)
-    → IsInterface env i classes typed → interface_typed env classes i ≡ Ok typed
-unfolding interface_typed IsDistinct
+    → IsInterface env i classes typed → check_interface env classes i ≡ Ok typed
+unfolding check_interface IsDistinct
 interface_complete env classes i typed is =
     let n = is.name in
     let l = is.line in
     let b = is.before in
     let can : CanTake no_signatures.names (map signature_name i.methods) (length i.methods) =
     record { free = all_free (map signature_name i.methods); distinct = is.differ; room = is.few } in
-    bind_is (signatures_typed env no_signatures i.methods) _ _ typed
+    bind_is (check_signatures env no_signatures i.methods) _ _ typed
     (signatures_complete env i.methods no_signatures typed.methods can is.methods)
     (ap (λ (t : Interface). Ok t) (rw (sym n, sym l, sym b) refl))
 
@@ -221,7 +221,7 @@ pub record ListedWalked (env : Environment) (class : ℕ) (listed : Listed) (ns 
 
 pub listed_sound : (env : Environment) (class : ℕ) (ns : List written.TypeName) (listed after : Listed)
     → Distinct listed.names.taken → all_listed env class listed ns ≡ Ok after → ListedWalked env class listed ns after
-unfolding listed_typed
+unfolding check_listed
 listed_sound env class [] listed after d h = record {
   can = takes_none listed.names d;
   interfaces = [];
@@ -229,7 +229,7 @@ listed_sound env class [] listed after d h = record {
   is = sym (ok_is listed after h) ∙ sym (listed_with-none listed);
 }
 listed_sound env class (n ∷ ns) listed after d h =
-    let m = bind_ok (listed_typed env class listed n) _ after h in
+    let m = bind_ok (check_listed env class listed n) _ after h in
     let p = bind_ok (listed_at n.place.at (object_named env.registered env.declarations n.name)) _ m.0 m.1 in
     let u = bind_ok (untaken listed.names n.place.at n.name) _ m.0 p.2 in
     let i = bind_ok (implemented_at n.place.at p.0 (implemented env class p.0)) _ m.0 u.2 in
@@ -254,7 +254,7 @@ listed_sound env class (n ∷ ns) listed after d h =
 pub listed_complete : (env : Environment) (class : ℕ) (ns : List written.TypeName) (listed : Listed)
     (ts : List Implementation) → CanTake listed.names (map listed_name ns) 0 → AllZip (IsListed env class) ns ts
     → all_listed env class listed ns ≡ Ok (listed_with listed (map listed_name ns) ts)
-unfolding listed_typed
+unfolding check_listed
 listed_complete env class [] listed [] can are = ap (λ (x : Listed). Ok x) (sym (listed_with-none listed))
 listed_complete env class [] listed (t ∷ ts) can are = absurd are
 listed_complete env class (n ∷ ns) listed [] can are = absurd are
@@ -264,7 +264,7 @@ listed_complete env class (n ∷ ns) listed (t ∷ ts) can are =
     let first = takes_first listed.names (n.name ∷ []) names 0 0 0 refl can in
     let rest = takes_rest listed.names (n.name ∷ []) names 0 0 0 refl can in
     let next : Listed = listed_with listed (n.name ∷ []) (t ∷ []) in
-    bind_is (listed_typed env class listed n) _ next _
+    bind_is (check_listed env class listed n) _ next _
     (bind_is (listed_at n.place.at (object_named env.registered env.declarations n.name)) _ t.interface next
     (listed_at_complete n.place.at (object_named env.registered env.declarations n.name) t.interface is.interface)
     (bind_is (untaken listed.names n.place.at n.name) _ next.names next

@@ -9,8 +9,8 @@ use Rattle.ash_typing.specs.Environment.{Environment}
 use Rattle.ash_typing.specs.Typing.{IsKnown}
 use Rattle.ash_typed.specs.Limits.{max_module_types}
 use Rattle.ash_typed.specs.Modules.{Variables, Function, Interface, Class, Module}
-use Rattle.ash_typing.specs.Items.{Names, untaken, vars_typed, result_typed, routine_typed, class_typed}
-use Rattle.ash_typing.specs.Items.{interface_typed, room_for_type, Walked, item_typed, items_typed}
+use Rattle.ash_typing.specs.Items.{Names, untaken, check_vars, check_result, check_routine, check_class}
+use Rattle.ash_typing.specs.Items.{check_interface, room_for_type, Walked, check_item, check_items}
 use Rattle.ash_typing.specs.TypedModules.{AreVariables, IsFunction, AreInterfaces, AreClasses}
 use Rattle.ash_typing.proofs.Bindings.{no_err, ok_is, bind_ok, bind_is, if_ok}
 use Rattle.ash_typing.proofs.TakenNames.{Distinct, grown, grown-none, grown-then, CanTake, takes_none, takes_then}
@@ -106,8 +106,8 @@ pub record ItemsWalked (env : Environment) (w : Walked) (is : List written.Item)
       ≡ walked_with w (item_names is) (length (variable_names (globals_of is))) interfaces classes functions globals
 
 pub items_sound : (env : Environment) → IsKnown env → (is : List written.Item) (w after : Walked)
-    → Distinct w.names.taken → types_in w.typed ≤ max_module_types → items_typed env w is ≡ Ok after → ItemsWalked env w is after
-unfolding item_typed
+    → Distinct w.names.taken → types_in w.typed ≤ max_module_types → check_items env w is ≡ Ok after → ItemsWalked env w is after
+unfolding check_item
 items_sound env known [] w after d few h = record {
   can = takes_none w.names d;
   few = omega arith;
@@ -122,10 +122,10 @@ items_sound env known [] w after d few h = record {
   after_is = sym (ok_is w after h) ∙ sym (walked_with-none w);
 }
 items_sound env known (written.AClass c ∷ is) w after d few h =
-    let m = bind_ok (item_typed env w (written.AClass c)) _ after h in
+    let m = bind_ok (check_item env w (written.AClass c)) _ after h in
     let u = bind_ok (untaken w.names c.place.at c.name) _ m.0 m.1 in
     let o = bind_ok (room_for_type c.place.at w.typed) _ m.0 u.2 in
-    let t = bind_ok (class_typed env o.0 c) _ m.0 o.2 in
+    let t = bind_ok (check_class env o.0 c) _ m.0 o.2 in
     let s = untaken_sound w.names c.place.at c.name u.0 d u.1 in
     let q = room_sound c.place.at w.typed o.0 o.1 in
     let next : Walked = walked_with w (c.name ∷ []) 0 [] (t.0 ∷ []) [] [] in
@@ -137,7 +137,7 @@ items_sound env known (written.AClass c ∷ is) w after d few h =
     let same = no_longer w.typed.interfaces in
     let below = q.0 in
     let go = items_sound env known is next after s.0.distinct (omega arith)
-    (subst (λ (x : Walked). items_typed env x is ≡ Ok after) step m.2) in
+    (subst (λ (x : Walked). check_items env x is ≡ Ok after) step m.2) in
     let room = go.few in
     let k = length (variable_names (globals_of is)) in
     record {
@@ -149,7 +149,7 @@ items_sound env known (written.AClass c ∷ is) w after d few h =
           go.are_interfaces;
       classes = t.0 ∷ go.classes;
       are_classes = (
-        class_sound env known (length w.typed.classes) c t.0 (subst (λ n. class_typed env n c ≡ Ok t.0) q.1 t.1),
+        class_sound env known (length w.typed.classes) c t.0 (subst (λ n. check_class env n c ≡ Ok t.0) q.1 t.1),
         subst (λ n. AreClasses env n (classes_of is) go.classes) places go.are_classes,
       );
       functions = go.functions;
@@ -161,10 +161,10 @@ items_sound env known (written.AClass c ∷ is) w after d few h =
           go.functions [] go.globals (omega arith);
     }
 items_sound env known (written.AnInterface i ∷ is) w after d few h =
-    let m = bind_ok (item_typed env w (written.AnInterface i)) _ after h in
+    let m = bind_ok (check_item env w (written.AnInterface i)) _ after h in
     let u = bind_ok (untaken w.names i.place.at i.name) _ m.0 m.1 in
     let o = bind_ok (room_for_type i.place.at w.typed) _ m.0 u.2 in
-    let t = bind_ok (interface_typed env o.0 i) _ m.0 o.2 in
+    let t = bind_ok (check_interface env o.0 i) _ m.0 o.2 in
     let s = untaken_sound w.names i.place.at i.name u.0 d u.1 in
     let q = room_sound i.place.at w.typed o.0 o.1 in
     let next : Walked = walked_with w (i.name ∷ []) 0 (t.0 ∷ []) [] [] [] in
@@ -176,7 +176,7 @@ items_sound env known (written.AnInterface i ∷ is) w after d few h =
     let longer = one_longer w.typed.interfaces t.0 in
     let below = q.0 in
     let go = items_sound env known is next after s.0.distinct (omega arith)
-    (subst (λ (x : Walked). items_typed env x is ≡ Ok after) step m.2) in
+    (subst (λ (x : Walked). check_items env x is ≡ Ok after) step m.2) in
     let room = go.few in
     let k = length (variable_names (globals_of is)) in
     record {
@@ -184,7 +184,7 @@ items_sound env known (written.AnInterface i ∷ is) w after d few h =
       few = omega arith;
       interfaces = t.0 ∷ go.interfaces;
       are_interfaces = (
-        interface_sound env (length w.typed.classes) i t.0 (subst (λ n. interface_typed env n i ≡ Ok t.0) q.1 t.1),
+        interface_sound env (length w.typed.classes) i t.0 (subst (λ n. check_interface env n i ≡ Ok t.0) q.1 t.1),
         subst (λ n. AreInterfaces env (interfaces_of is) (classes_before n is) go.interfaces) places
             go.are_interfaces,
       );
@@ -199,10 +199,10 @@ items_sound env known (written.AnInterface i ∷ is) w after d few h =
           go.functions [] go.globals (omega arith);
     }
 items_sound env known (written.AFunction f ∷ is) w after d few h =
-    let m = bind_ok (item_typed env w (written.AFunction f)) _ after h in
-    let o = bind_ok (result_typed env f.result) _ m.0 m.1 in
+    let m = bind_ok (check_item env w (written.AFunction f)) _ after h in
+    let o = bind_ok (check_result env f.result) _ m.0 m.1 in
     let u = bind_ok (untaken w.names f.place.at f.name) _ m.0 o.2 in
-    let t = bind_ok (routine_typed env o.0 (routine_of f)) _ m.0 u.2 in
+    let t = bind_ok (check_routine env o.0 (routine_of f)) _ m.0 u.2 in
     let s = untaken_sound w.names f.place.at f.name u.0 d u.1 in
     let next : Walked = walked_with w (f.name ∷ []) 0 [] [] (t.0 ∷ []) [] in
     let step : m.0 ≡ next =
@@ -212,7 +212,7 @@ items_sound env known (written.AFunction f ∷ is) w after d few h =
     let places = no_longer w.typed.classes in
     let same = no_longer w.typed.interfaces in
     let go = items_sound env known is next after s.0.distinct (omega arith)
-    (subst (λ (x : Walked). items_typed env x is ≡ Ok after) step m.2) in
+    (subst (λ (x : Walked). check_items env x is ≡ Ok after) step m.2) in
     let room = go.few in
     let k = length (variable_names (globals_of is)) in
     record {
@@ -233,8 +233,8 @@ items_sound env known (written.AFunction f ∷ is) w after d few h =
           go.functions [] go.globals (omega arith);
     }
 items_sound env known (written.AGlobal v ∷ is) w after d few h =
-    let m = bind_ok (item_typed env w (written.AGlobal v)) _ after h in
-    let r = bind_ok (vars_typed env w.names v) _ m.0 m.1 in
+    let m = bind_ok (check_item env w (written.AGlobal v)) _ after h in
+    let r = bind_ok (check_vars env w.names v) _ m.0 m.1 in
     let g = vars_sound env known w.names v r.0 d r.1 in
     let j = length v.decls in
     let next : Walked = walked_with w (names_of v) j [] [] [] (r.0.variables ∷ []) in
@@ -245,7 +245,7 @@ items_sound env known (written.AGlobal v ∷ is) w after d few h =
     let places = no_longer w.typed.classes in
     let same = no_longer w.typed.interfaces in
     let go = items_sound env known is next after g.can.distinct (omega arith)
-    (subst (λ (x : Walked). items_typed env x is ≡ Ok after) step m.2) in
+    (subst (λ (x : Walked). check_items env x is ≡ Ok after) step m.2) in
     let room = go.few in
     let k = length (variable_names (globals_of is)) in
     let count = count_names v (variable_names (globals_of is)) in
@@ -274,8 +274,8 @@ pub items_complete : (env : Environment) → IsKnown env
     → AreInterfaces env (interfaces_of is) (classes_before (length w.typed.classes) is) ts
     → AreClasses env (length w.typed.classes) (classes_of is) cs → AllZip (IsFunction env) (functions_of is) fs
     → AllZip (AreVariables env) (globals_of is) vs
-    → items_typed env w is ≡ Ok (walked_with w (item_names is) (length (variable_names (globals_of is))) ts cs fs vs)
-unfolding item_typed
+    → check_items env w is ≡ Ok (walked_with w (item_names is) (length (variable_names (globals_of is))) ts cs fs vs)
+unfolding check_item
 items_complete env known [] w [] [] [] [] can few are_ts are_cs are_fs are_vs =
     ap (λ (x : Walked). Ok x) (sym (walked_with-none w))
 items_complete env known [] w (t ∷ ts) cs fs vs can few are_ts are_cs are_fs are_vs = absurd are_ts
@@ -291,10 +291,10 @@ items_complete env known (written.AClass c ∷ is) w ts (t ∷ cs) fs vs can few
     let next : Walked = walked_with w (c.name ∷ []) 0 [] (t ∷ []) [] [] in
     let places = one_longer w.typed.classes t in
     let same = no_longer w.typed.interfaces in
-    bind_is (item_typed env w (written.AClass c)) _ next _
+    bind_is (check_item env w (written.AClass c)) _ next _
     (bind_is (untaken w.names c.place.at c.name) _ next.names next (untaken_complete w.names c.place.at c.name first)
     (bind_is (room_for_type c.place.at w.typed) _ n next (room_complete c.place.at w.typed (omega arith))
-    (bind_is (class_typed env n c) _ t next (class_complete env known n c t are_cs.0)
+    (bind_is (check_class env n c) _ t next (class_complete env known n c t are_cs.0)
     (ap (λ (x : Walked). Ok x)
     (same_walked next.names next.names _ _ _ _ _ _ _ _ refl (sym (append-nil w.typed.interfaces)) refl
     (sym (append-nil w.typed.functions)) (sym (append-nil w.typed.globals)))))))
@@ -312,10 +312,10 @@ items_complete env known (written.AnInterface i ∷ is) w (t ∷ ts) cs fs vs ca
     let next : Walked = walked_with w (i.name ∷ []) 0 (t ∷ []) [] [] [] in
     let places = no_longer w.typed.classes in
     let longer = one_longer w.typed.interfaces t in
-    bind_is (item_typed env w (written.AnInterface i)) _ next _
+    bind_is (check_item env w (written.AnInterface i)) _ next _
     (bind_is (untaken w.names i.place.at i.name) _ next.names next (untaken_complete w.names i.place.at i.name first)
     (bind_is (room_for_type i.place.at w.typed) _ n next (room_complete i.place.at w.typed (omega arith))
-    (bind_is (interface_typed env n i) _ t next (interface_complete env n i t are_ts.0)
+    (bind_is (check_interface env n i) _ t next (interface_complete env n i t are_ts.0)
     (ap (λ (x : Walked). Ok x)
     (same_walked next.names next.names _ _ _ _ _ _ _ _ refl refl (sym (append-nil w.typed.classes))
     (sym (append-nil w.typed.functions)) (sym (append-nil w.typed.globals)))))))
@@ -333,10 +333,10 @@ items_complete env known (written.AFunction f ∷ is) w ts cs (t ∷ fs) vs can 
     let places = no_longer w.typed.classes in
     let same = no_longer w.typed.interfaces in
     let is_f = are_fs.0 in
-    bind_is (item_typed env w (written.AFunction f)) _ next _
-    (bind_is (result_typed env f.result) _ (result_in env f.result) next (result_complete env f.result is_f.passed)
+    bind_is (check_item env w (written.AFunction f)) _ next _
+    (bind_is (check_result env f.result) _ (result_in env f.result) next (result_complete env f.result is_f.passed)
     (bind_is (untaken w.names f.place.at f.name) _ next.names next (untaken_complete w.names f.place.at f.name first)
-    (bind_is (routine_typed env (result_in env f.result) (routine_of f)) _ t next
+    (bind_is (check_routine env (result_in env f.result) (routine_of f)) _ t next
     (routine_complete env (result_in env f.result) (routine_of f) t is_f.routine)
     (ap (λ (x : Walked). Ok x)
     (same_walked next.names next.names _ _ _ _ _ _ _ _ refl (sym (append-nil w.typed.interfaces))
@@ -356,8 +356,8 @@ items_complete env known (written.AGlobal v ∷ is) w ts cs fs (t ∷ vs) can fe
     let next : Walked = walked_with w (names_of v) j [] [] [] (t ∷ []) in
     let places = no_longer w.typed.classes in
     let same = no_longer w.typed.interfaces in
-    bind_is (item_typed env w (written.AGlobal v)) _ next _
-    (bind_is (vars_typed env w.names v) _ _ next (vars_complete env known w.names v t first are_vs.0)
+    bind_is (check_item env w (written.AGlobal v)) _ next _
+    (bind_is (check_vars env w.names v) _ _ next (vars_complete env known w.names v t first are_vs.0)
     (ap (λ (x : Walked). Ok x)
     (same_walked next.names next.names _ _ _ _ _ _ _ _ refl (sym (append-nil w.typed.interfaces))
     (sym (append-nil w.typed.classes)) (sym (append-nil w.typed.functions)) refl)))

@@ -18,10 +18,10 @@ use Rattle.ash_typing.specs.ModuleDeclarations.{object_named, array_named, objec
 use Rattle.ash_typing.specs.ModuleDeclarations.{result_in}
 use Rattle.ash_typing.specs.Typing.{IsKnown, IsKnownType, IsVariableType, IsKnownVariable}
 use Rattle.ash_typed.specs.StatementTree.{Body}
-use Rattle.ash_typing.specs.Statements.{body_typed}
+use Rattle.ash_typing.specs.Statements.{check_body}
 use Rattle.ash_typing.specs.Scopes.{body_scope}
 use Rattle.ash_typed.specs.Modules.{Function}
-use Rattle.ash_typing.specs.Items.{passed_ty, result_typed, parameters_typed, returning, routine_typed}
+use Rattle.ash_typing.specs.Items.{passed_ty, check_result, check_parameters, returning, check_routine}
 use Rattle.ash_typing.specs.TypedModules.{IsPassed, type_of_parameter, parameter_of, IsPassedParameter, IsBody}
 use Rattle.ash_typing.specs.TypedModules.{IsRoutine, IsResult, IsFunction}
 use Rattle.ash_typing.proofs.Bindings.{no_err, ok_is, bind_ok, bind_is, if_ok}
@@ -113,7 +113,7 @@ pub record Passed (env : Environment) (before : List Declared) (ps : List writte
   pub is : after ≡ before ++ map (parameter_of env) ps
 
 pub parameters_sound : (env : Environment) (ps : List written.Parameter) (before after : List Declared)
-    → Distinct (map declared_name before) → parameters_typed env before ps ≡ Ok after → Passed env before ps after
+    → Distinct (map declared_name before) → check_parameters env before ps ≡ Ok after → Passed env before ps after
 parameters_sound env [] before after d h = record {
   passed = tt;
   differ = subst Distinct (sym (append-nil (map declared_name before))) d;
@@ -130,7 +130,7 @@ parameters_sound env (p ∷ ps) before after d h =
     subst Distinct (sym (one_more_name before v))
     (distinct_push (map declared_name before) p.name d (sym (any_named p.name before) ∙ b)) in
     let go = parameters_sound env ps (before ++ v ∷ []) after new
-    (subst (λ (of : Ty). parameters_typed env (before ++ record { name = p.name; of = of } ∷ []) ps ≡ Ok after) s.1
+    (subst (λ (of : Ty). check_parameters env (before ++ record { name = p.name; of = of } ∷ []) ps ≡ Ok after) s.1
     e) in
     let there : Distinct ((map declared_name before ++ p.name ∷ []) ++ map parameter_name ps) =
     subst (λ ns. Distinct (ns ++ map parameter_name ps)) (one_more_name before v) go.differ in
@@ -142,7 +142,7 @@ parameters_sound env (p ∷ ps) before after d h =
 
 pub parameters_complete : (env : Environment) (ps : List written.Parameter) (before : List Declared)
     → AllByRecursion (IsPassedParameter env) ps → Distinct (map declared_name before ++ map parameter_name ps)
-    → parameters_typed env before ps ≡ Ok (before ++ map (parameter_of env) ps)
+    → check_parameters env before ps ≡ Ok (before ++ map (parameter_of env) ps)
 parameters_complete env [] before h d = ap (λ (vs : List Declared). Ok vs) (sym (append-nil before))
 parameters_complete env (p ∷ ps) before h d =
     let v : Declared = parameter_of env p in
@@ -178,14 +178,14 @@ inside_known env ps k h = record {
 -- bodies
 
 body_sound : (env : Environment) (of : Ty) (body : List written.Stmt) (typed : Body) → IsKnown env → IsKnownType of
-    → body_typed env of body ≡ Ok typed → IsBody env of body typed
-unfolding body_typed
+    → check_body env of body ≡ Ok typed → IsBody env of body typed
+unfolding check_body
 body_sound env of body typed k known_of h =
     stmts_sound (body_scope env of) (record { env = k; result = known_of }) (written.stmts body) typed h
 
 body_complete : (env : Environment) (of : Ty) (body : List written.Stmt) (typed : Body) → IsBody env of body typed
-    → body_typed env of body ≡ Ok typed
-unfolding body_typed
+    → check_body env of body ≡ Ok typed
+unfolding check_body
 body_complete env of body typed h = stmts_complete h
 
 void_is : (of : Ty) → is_void of ≡ true → of ≡ ty.Void
@@ -216,18 +216,18 @@ returning_complete at of statements body (inr h) = rw (h, always (is_void of)) r
 -- functions
 
 pub routine_sound : (env : Environment) → IsKnown env → (of : Ty) → IsKnownType of → (r : Routine) (typed : Function)
-    → routine_typed env of r ≡ Ok typed → IsRoutine env of r typed
-unfolding routine_typed IsDistinct
+    → check_routine env of r ≡ Ok typed → IsRoutine env of r typed
+unfolding check_routine IsDistinct
 routine_sound env known of known_of r typed h =
-    let p = bind_ok (parameters_typed env [] r.parameters) _ typed h in
+    let p = bind_ok (check_parameters env [] r.parameters) _ typed h in
     let s = parameters_sound env r.parameters [] p.0 tt p.1 in
-    let b = bind_ok (body_typed (with_locals env p.0) of r.body) _ typed p.2 in
+    let b = bind_ok (check_body (with_locals env p.0) of r.body) _ typed p.2 in
     let d = bind_ok (returning r.place.at of r.body b.0) _ typed b.2 in
     let e = returning_sound r.place.at of r.body b.0 d.0 d.1 in
     let is = ok_is _ typed d.2 in
     let body : IsBody (with_locals env (map (parameter_of env) r.parameters)) of r.body b.0 =
     body_sound _ of r.body b.0 (inside_known env r.parameters known s.passed) known_of
-    (subst (λ locals. body_typed (with_locals env locals) of r.body ≡ Ok b.0) s.is b.1) in
+    (subst (λ locals. check_body (with_locals env locals) of r.body ≡ Ok b.0) s.is b.1) in
     record {
       name = ap (λ (f : Function). f.name) (sym is);
       line = ap (λ (f : Function). f.line) (sym is);
@@ -243,29 +243,29 @@ routine_sound env known of known_of r typed h =
     }
 
 pub routine_complete : (env : Environment) (of : Ty) (r : Routine) (typed : Function) → IsRoutine env of r typed
-    → routine_typed env of r ≡ Ok typed
-unfolding routine_typed IsDistinct
+    → check_routine env of r ≡ Ok typed
+unfolding check_routine IsDistinct
 routine_complete env of r typed is =
     let n = is.name in
     let l = is.line in
     let t = is.result in
     let q = is.parameters in
     let locals = map (parameter_of env) r.parameters in
-    bind_is (parameters_typed env [] r.parameters) _ locals _
+    bind_is (check_parameters env [] r.parameters) _ locals _
     (parameters_complete env r.parameters [] is.passed is.differ)
-    (bind_is (body_typed (with_locals env locals) of r.body) _ typed.body _
+    (bind_is (check_body (with_locals env locals) of r.body) _ typed.body _
     (body_complete (with_locals env locals) of r.body typed.body is.body)
     (bind_is (returning r.place.at of r.body typed.body) _ typed.body _
     (returning_complete r.place.at of r.body typed.body is.returns)
     (ap (λ (f : Function). Ok f) (rw (sym n, sym l, sym t, types_of env r.parameters, sym q) refl))))
 
-pub result_sound : (env : Environment) (of : Option written.Named) (t : Ty) → result_typed env of ≡ Ok t
+pub result_sound : (env : Environment) (of : Option written.Named) (t : Ty) → check_result env of ≡ Ok t
     → IsResult env of × (t ≡ result_in env of)
 result_sound env None t h = (tt, sym (ok_is _ t h))
 result_sound env (Some of) t h = passed_sound env of of t h
 
 pub result_complete : (env : Environment) (of : Option written.Named) → IsResult env of
-    → result_typed env of ≡ Ok (result_in env of)
+    → check_result env of ≡ Ok (result_in env of)
 result_complete env None h = refl
 result_complete env (Some of) h = passed_complete of (ty_in env of) h
 
@@ -274,11 +274,11 @@ result_is_known env None h = refl
 result_is_known env (Some of) h = passed_known (ty_in env of) h
 
 pub function_sound : (env : Environment) → IsKnown env → (f : written.Function) (of : Ty) (typed : Function)
-    → result_typed env f.result ≡ Ok of → routine_typed env of (routine_of f) ≡ Ok typed → IsFunction env f typed
+    → check_result env f.result ≡ Ok of → check_routine env of (routine_of f) ≡ Ok typed → IsFunction env f typed
 function_sound env known f of typed h k =
     let r = result_sound env f.result of h in
     record {
       passed = r.0;
       routine = routine_sound env known (result_in env f.result) (result_is_known env f.result r.0) (routine_of f) typed
-          (subst (λ (t : Ty). routine_typed env t (routine_of f) ≡ Ok typed) r.1 k);
+          (subst (λ (t : Ty). check_routine env t (routine_of f) ≡ Ok typed) r.1 k);
     }

@@ -14,9 +14,9 @@ use Rattle.ash_typing.specs.Types.{ty_of}
 use Rattle.ash_typing.specs.Environment.{Environment}
 use Rattle.ash_typing.specs.ModuleDeclarations.{object_named, array_named, object_ty, handle_ty, ty_named, ty_in}
 use Rattle.ash_typing.specs.Typing.{IsKnown, IsVariableType, IsDeclared}
-use Rattle.ash_typing.specs.Declarations.{Initialization, at_type, known_ty, decl_typed}
+use Rattle.ash_typing.specs.Declarations.{Initialization, at_type, known_ty, check_decl}
 use Rattle.ash_typed.specs.Modules.{Variables}
-use Rattle.ash_typing.specs.Items.{Names, Row, placed, with_variable, decls_typed, no_variables, vars_typed}
+use Rattle.ash_typing.specs.Items.{Names, Row, placed, with_variable, check_decls, no_variables, check_vars}
 use Rattle.ash_typing.specs.TypedModules.{AreVariables}
 use Rattle.ash_typing.proofs.Bindings.{no_err, ok_is, bind_ok, bind_is}
 use Rattle.ash_typing.proofs.TakenNames.{Distinct, grown, grown-none, grown-then, CanTake, takes_none, takes_then}
@@ -122,7 +122,7 @@ record DeclsWalked (env : Environment) (of : Ty) (row : Row) (ds : List written.
   is : after ≡ row_with row (map decl_name ds) (length ds) values
 
 decls_sound : (env : Environment) (at : ℕ) (of : Ty) → IsKnown env → IsVariableType of
-    → (ds : List written.Decl) (row after : Row) → Distinct row.names.taken → decls_typed env at of row ds ≡ Ok after
+    → (ds : List written.Decl) (row after : Row) → Distinct row.names.taken → check_decls env at of row ds ≡ Ok after
     → DeclsWalked env of row ds after
 decls_sound env at of known known_of [] row after d h = record {
   can = takes_none row.names d;
@@ -132,12 +132,12 @@ decls_sound env at of known known_of [] row after d h = record {
 }
 decls_sound env at of known known_of (x ∷ ds) row after d h =
     let p = bind_ok (placed row.names x.place.at x.name) _ after h in
-    let v = bind_ok (decl_typed env at of x) _ after p.2 in
+    let v = bind_ok (check_decl env at of x) _ after p.2 in
     let s = placed_sound row.names x.place.at x.name p.0 d p.1 in
     let next : Row = row_with row (x.name ∷ []) 1 (v.0 ∷ []) in
-    let there : decls_typed env at of next ds ≡ Ok after =
+    let there : check_decls env at of next ds ≡ Ok after =
     subst (λ (n : Names).
-    decls_typed env at of (record { names = n; variables = with_variable row.variables v.0 }) ds ≡ Ok after) s.1
+    check_decls env at of (record { names = n; variables = with_variable row.variables v.0 }) ds ≡ Ok after) s.1
     v.2 in
     let go = decls_sound env at of known known_of ds next after s.0.distinct there in
     record {
@@ -151,7 +151,7 @@ decls_sound env at of known known_of (x ∷ ds) row after d h =
 decls_complete : (env : Environment) (at : ℕ) (of : Ty) → IsKnown env → IsVariableType of
     → (ds : List written.Decl) (values : List Initialization) (row : Row)
     → CanTake row.names (map decl_name ds) (length ds) → AllZip (IsDeclared env of) ds values
-    → decls_typed env at of row ds ≡ Ok (row_with row (map decl_name ds) (length ds) values)
+    → check_decls env at of row ds ≡ Ok (row_with row (map decl_name ds) (length ds) values)
 decls_complete env at of known known_of [] [] row can each = ap (λ (r : Row). Ok r) (sym (row_with-none row))
 decls_complete env at of known known_of [] (v ∷ vs) row can each = absurd each
 decls_complete env at of known known_of (x ∷ ds) [] row can each = absurd each
@@ -162,7 +162,7 @@ decls_complete env at of known known_of (x ∷ ds) (v ∷ vs) row can each =
     can in
     bind_is (placed row.names x.place.at x.name) _ (grown row.names (x.name ∷ []) 1) _
     (placed_complete row.names x.place.at x.name first)
-    (bind_is (decl_typed env at of x) _ v _ (declared_complete each.0 at)
+    (bind_is (check_decl env at of x) _ v _ (declared_complete each.0 at)
     (decls_complete env at of known known_of ds vs (row_with row (x.name ∷ []) 1 (v ∷ [])) rest each.1
     ∙ ap (λ (r : Row). Ok r) (row_with-then row x.name (map decl_name ds) (length ds) v vs)))
 
@@ -177,13 +177,13 @@ begun : Names → written.Vars → Row
 begun names v = record { names = names; variables = no_variables v.of }
 
 pub vars_sound : (env : Environment) → IsKnown env → (names : Names) (v : written.Vars) (after : Row)
-    → Distinct names.taken → vars_typed env names v ≡ Ok after → VarsWalked env names v after
-unfolding vars_typed begun
+    → Distinct names.taken → check_vars env names v ≡ Ok after → VarsWalked env names v after
+unfolding check_vars begun
 vars_sound env known names v after d h =
     let k = bind_ok (known_ty v.of (ty_in env v.of)) _ after h in
     let s = known_sound env v.of v.of k.0 k.1 in
-    let there : decls_typed env (at_type v.of) (ty_in env v.of) (begun names v) v.decls ≡ Ok after =
-    subst (λ (of : Ty). decls_typed env (at_type v.of) of (begun names v) v.decls ≡ Ok after) s.1 k.2 in
+    let there : check_decls env (at_type v.of) (ty_in env v.of) (begun names v) v.decls ≡ Ok after =
+    subst (λ (of : Ty). check_decls env (at_type v.of) of (begun names v) v.decls ≡ Ok after) s.1 k.2 in
     let go = decls_sound env (at_type v.of) (ty_in env v.of) known s.0 v.decls (begun names v) after d there in
     record {
       can = go.can;
@@ -198,8 +198,8 @@ vars_sound env known names v after d h =
 
 pub vars_complete : (env : Environment) → IsKnown env → (names : Names) (v : written.Vars) (typed : Variables)
     → CanTake names (names_of v) (length v.decls) → AreVariables env v typed
-    → vars_typed env names v ≡ Ok (record { names = grown names (names_of v) (length v.decls); variables = typed })
-unfolding vars_typed begun
+    → check_vars env names v ≡ Ok (record { names = grown names (names_of v) (length v.decls); variables = typed })
+unfolding check_vars begun
 vars_complete env known names v typed can are =
     let l = are.line in
     bind_is (known_ty v.of (ty_in env v.of)) _ (ty_in env v.of) _ (known_complete v.of (ty_in env v.of) are.variable)

@@ -33,11 +33,11 @@ use Rattle.ash_typed.specs.Tree.{Place, Held, Indexed, no_expr, expr}
 use Rattle.ash_typing.specs.Coercions.{fits}
 use Rattle.ash_typing.specs.ModuleDeclarations.{element_named}
 use Rattle.ash_typing.specs.Environment.{Environment, Class, Callee, Invoked, callee_in, member_in, method_in}
-use Rattle.ash_typing.specs.Expressions.{TypedExpr, typed, all_typed, links_typed, suffixes_typed, suffix_typed, call_typed}
-use Rattle.ash_typing.specs.Expressions.{invocation_typed, called, arguments_at, all_coerced, coerced_for_assignment}
+use Rattle.ash_typing.specs.Expressions.{TypedExpr, check_expr, check_exprs, check_links, check_suffixes, check_suffix, check_call}
+use Rattle.ash_typing.specs.Expressions.{check_invocation, called, arguments_at, all_coerced, coerced_for_assignment}
 use Rattle.ash_typing.specs.Expressions.{operate, counted}
 use Rattle.ash_typing.specs.Expressions.{unary_at, convert_at, choice, assigned, stored, is_assign, field_of, method_of}
-use Rattle.ash_typing.specs.Expressions.{invoked, term_at, read_at, indexed, array_typed, cast_type, cast_at, placed}
+use Rattle.ash_typing.specs.Expressions.{invoked, term_at, read_at, indexed, check_array, cast_type, cast_at, placed}
 use Rattle.ash_typing.specs.Expressions.{all_placed, term_of, first_at}
 use Rattle.ash_typing.specs.Typing.{HasType, AllHaveType, LinksHaveType, SuffixesHaveType, SuffixHasType, AreArguments}
 use Rattle.ash_typing.specs.Typing.{no_arguments, argument, IsCastType, to_class, to_interface, number, truth, null}
@@ -94,8 +94,8 @@ arguments_is classes at parameters us trees h =
 
 call_is : (env : Environment) (at : ℕ) (text : List ℕ) (es : written.Exprs) (callee : Callee) (parameters : List Ty)
     (us : List TypedExpr) (trees : Exprs) → callee_in env text ≡ Some callee → callee.parameters ≡ Some parameters
-    → all_typed env es ≡ Ok us → AreArguments env.declarations.classes parameters (terms us) trees
-    → call_typed env at text (all_typed env es)
+    → check_exprs env es ≡ Ok us → AreArguments env.declarations.classes parameters (terms us) trees
+    → check_call env at text (check_exprs env es)
     ≡ Ok (term_at at callee.result (call_of callee.target (map var_type parameters) trees))
 unfolding called
 call_is env at text es callee parameters us trees c p e a =
@@ -222,8 +222,8 @@ object_method env at t _ text o m h i = absurd (none-some o h)
 
 method_is : (env : Environment) (at b : ℕ) (t : Term) (text : List ℕ) (es : written.Exprs) (o : ObjectType)
     (m : Invoked) (us : List TypedExpr) (trees : Exprs) → object_of t.ty ≡ Some o → method_in env o text ≡ Some m
-    → all_typed env es ≡ Ok us → AreArguments env.declarations.classes m.parameters (terms us) trees
-    → invocation_typed env (placed b t) at text (all_typed env es)
+    → check_exprs env es ≡ Ok us → AreArguments env.declarations.classes m.parameters (terms us) trees
+    → check_invocation env (placed b t) at text (check_exprs env es)
     ≡ Ok (placed b (term m.result (Invoke t.tree m.method (map var_type m.parameters) trees)))
 unfolding invoked
 method_is env at b t text es o m us trees h i e a =
@@ -237,9 +237,9 @@ method_is env at b t text es o m us trees h i e a =
 
 array_is : (env : Environment) (at : ℕ) (of : written.Element) (es : written.Exprs) (elements : Element)
     (us : List TypedExpr) (count : ℕ) (trees : Exprs) → element_named env.registered env.declarations of ≡ Some elements
-    → all_typed env es ≡ Ok us → length us ≡ count
+    → check_exprs env es ≡ Ok us → length us ≡ count
     → AreArguments env.declarations.classes (array_parameters count) (terms us) trees
-    → array_typed env at of (all_typed env es)
+    → check_array env at of (check_exprs env es)
     ≡ Ok (term_at at (ty.Handle (objects.Array elements))
     (Call (targets.Array elements) (map var_type (array_parameters count)) trees))
 unfolding called
@@ -280,7 +280,7 @@ all_terms (each {t = t} h rest) = ap (t ∷◌) (all_terms rest)
 
 mutual
   pub complete : {env : Environment} {left : Bool} {e : written.Expr} {t : Term} → HasType env left e t
-      → typed env left e ≡ Ok (placed (first_at e) t)
+      → check_expr env left e ≡ Ok (placed (first_at e) t)
   complete number = refl
   complete truth = refl
   complete null = refl
@@ -324,23 +324,23 @@ mutual
       (update_is env.declarations.classes op c t u (first_at e) (first_at v) at j k f i s l n)
 
   pub all_complete : {env : Environment} {es : written.Exprs} {ts : List Term} → AllHaveType env es ts
-      → all_typed env es ≡ Ok (all_placed es ts)
+      → check_exprs env es ≡ Ok (all_placed es ts)
   all_complete none_left = refl
   all_complete (each h rest) = rw (complete h, all_complete rest) refl
 
   pub links_complete : {env : Environment} {t : Term} {ls : written.Links} {u : Term} → LinksHaveType env t ls u
-      → (at : ℕ) → links_typed env (placed at t) ls ≡ Ok (placed at u)
+      → (at : ℕ) → check_links env (placed at t) ls ≡ Ok (placed at u)
   links_complete no_more at = refl
   links_complete (operated {op = op} {e = e} {t = t} {u = u} {o = o} h m rest) at =
       rw (complete h, operate_is op t u o at (first_at e) m) (links_complete rest at)
 
   pub suffixes_complete : {env : Environment} {t : Term} {ss : written.Suffixes} {u : Term}
-      → SuffixesHaveType env t ss u → (at : ℕ) → suffixes_typed env (placed at t) ss ≡ Ok (placed at u)
+      → SuffixesHaveType env t ss u → (at : ℕ) → check_suffixes env (placed at t) ss ≡ Ok (placed at u)
   suffixes_complete no_suffixes at = refl
   suffixes_complete (suffixed h rest) at = rw (suffix_complete h at) (suffixes_complete rest at)
 
   pub suffix_complete : {env : Environment} {t : Term} {s : written.Suffix} {u : Term} → SuffixHasType env t s u
-      → (at : ℕ) → suffix_typed env (placed at t) s ≡ Ok (placed at u)
+      → (at : ℕ) → check_suffix env (placed at t) s ≡ Ok (placed at u)
   suffix_complete {env} (field {p = p} {text = text} {t = t} {o = o} {found = found} h i) at =
       object_field env p.at (placed at t) t.ty text o found h i
   suffix_complete {env}

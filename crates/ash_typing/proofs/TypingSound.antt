@@ -19,9 +19,9 @@ use Rattle.ash_typing.specs.Types.{var_type, object_of, binary_of, integers_in}
 use Rattle.ash_typed.specs.Tree.{Truth, Null, Read, Invoke, Assign, Update, Place, Held}
 use Rattle.ash_typing.specs.ModuleDeclarations.{object_named}
 use Rattle.ash_typing.specs.Environment.{Environment, Class, Invoked, variable_in, member_in, method_in}
-use Rattle.ash_typing.specs.Expressions.{TypedExpr, UnifiedOperands, typed, all_typed, links_typed, suffixes_typed}
-use Rattle.ash_typing.specs.Expressions.{suffix_typed}
-use Rattle.ash_typing.specs.Expressions.{invocation_typed, arguments_at, coerced_for_assignment, unify_operands}
+use Rattle.ash_typing.specs.Expressions.{TypedExpr, UnifiedOperands, check_expr, check_exprs, check_links, check_suffixes}
+use Rattle.ash_typing.specs.Expressions.{check_suffix}
+use Rattle.ash_typing.specs.Expressions.{check_invocation, arguments_at, coerced_for_assignment, unify_operands}
 use Rattle.ash_typing.specs.Expressions.{unary_at, integer_of, convert_at}
 use Rattle.ash_typing.specs.Expressions.{choice, assigned, assigned_to, stored, updated, is_assign, field_of, member_at}
 use Rattle.ash_typing.specs.Expressions.{method_of, invoked, invoked_at, term_at, read_at, indexed, cast_type, cast_at}
@@ -147,14 +147,14 @@ method_ok env t ty.Unknown at text m known h = cc
 method_ok env t _ at text m known h = absurd (no_fault _ m h)
 
 method_sound : (env : Environment) (t : TypedExpr) (p : place.Place) (text : List ℕ) (es : written.Exprs) (r : TypedExpr)
-    → is_known t.ty ≡ true → AllSound env es → invocation_typed env t p.at text (all_typed env es) ≡ Ok r
+    → is_known t.ty ≡ true → AllSound env es → check_invocation env t p.at text (check_exprs env es) ≡ Ok r
     → SuffixHasType env (term_of t) (written.Method p text es) (term_of r)
 unfolding invoked
 method_sound env t p text es r known all h =
     let m = bind_ok (method_of env t t.ty p.at text)
-    (λ m. all_typed env es >>= λ ts. invoked env.declarations.classes t p.at ts m) r h in
+    (λ m. check_exprs env es >>= λ ts. invoked env.declarations.classes t p.at ts m) r h in
     let i = method_ok env t t.ty p.at text m.0 known m.1 in
-    let a = bind_ok (all_typed env es) (λ ts. invoked env.declarations.classes t p.at ts m.0) r m.2 in
+    let a = bind_ok (check_exprs env es) (λ ts. invoked env.declarations.classes t p.at ts m.0) r m.2 in
     let found = (i.2).0 in
     let called : invoked env.declarations.classes t p.at a.0 (Some found) ≡ Ok r =
     subst (λ m. invoked env.declarations.classes t p.at a.0 m ≡ Ok r) (sym ((i.2).2)) a.2 in
@@ -168,10 +168,10 @@ method_sound env t p text es r known all h =
 
 -- an expression that is walked first
 walked : (env : Environment) (left : Bool) (e : written.Expr) (f : TypedExpr → TypingResult TypedExpr) (r : TypedExpr) (Q : Type 0)
-    → IsKnown env → Sound env left e → (typed env left e >>= f) ≡ Ok r
+    → IsKnown env → Sound env left e → (check_expr env left e >>= f) ≡ Ok r
     → ((u : TypedExpr) → HasType env left e (term_of u) → is_known u.ty ≡ true → f u ≡ Ok r → Q) → Q
 walked env left e f r Q known sound h go =
-    let u = bind_ok (typed env left e) f r h in
+    let u = bind_ok (check_expr env left e) f r h in
     let d = sound u.0 u.1 in
     go u.0 d (known_type d known) u.2
 
@@ -194,14 +194,14 @@ mutual
   sound env known left (written.NewArray p of es) r h = array_sound env left p of es r (all_sound env known es) h
   sound env known left (written.Cast p to e) r h =
       let o = bind_ok (cast_type to.place.at (object_named env.registered env.declarations to.name))
-      (λ o. typed env false e >>= λ t. cast_at p.at o t) r h in
+      (λ o. check_expr env false e >>= λ t. cast_at p.at o t) r h in
       let c = cast_type_ok to.place.at (object_named env.registered env.declarations to.name) o.0 o.1 in
       walked env false e
       (λ t. cast_at p.at o.0 t) r (HasType env left (written.Cast p to e) (term_of r)) known
       (sound env known false e) o.2 (λ u d k g. cast_sound env left p to e o.0 u r c.0 c.1 d k g)
   sound env known left (written.Postfix p e ss) r h =
       walked env false e
-      (λ t. suffixes_typed env t ss) r (HasType env left (written.Postfix p e ss) (term_of r)) known
+      (λ t. check_suffixes env t ss) r (HasType env left (written.Postfix p e ss) (term_of r)) known
       (sound env known false e) h (λ u d k g. postfix d (suffixes_sound env known ss u r k g))
   sound env known left (written.Unary p op e) r h =
       walked env false e
@@ -209,21 +209,21 @@ mutual
       (sound env known false e) h (λ u d k g. unary_sound env left p op e u r d k g)
   sound env known left (written.Binary p e ls) r h =
       walked env false e
-      (λ t. links_typed env t ls) r (HasType env left (written.Binary p e ls) (term_of r)) known
+      (λ t. check_links env t ls) r (HasType env left (written.Binary p e ls) (term_of r)) known
       (sound env known false e) h (λ u d k g. binary d (links_sound env known ls u r k g))
   sound env known left (written.Conditional p c a b) r h =
       let Q : Type 0 = HasType env left (written.Conditional p c a b) (term_of r) in
       walked env false c
-      (λ t. typed env false a >>= λ x. typed env false b >>= λ y. choice t x y) r Q known (sound env known false c)
+      (λ t. check_expr env false a >>= λ x. check_expr env false b >>= λ y. choice t x y) r Q known (sound env known false c)
       h (λ t d k g.
-      walked env false a (λ x. typed env false b >>= λ y. choice t x y) r Q known (sound env known false a) g
+      walked env false a (λ x. check_expr env false b >>= λ y. choice t x y) r Q known (sound env known false a) g
       (λ x f l i.
       walked env false b (λ y. choice t x y) r Q known (sound env known false b) i (λ y j m n.
       conditional_sound env left p c a b t x y r d f j k n)))
   sound env known left (written.Assign p e op v) r h =
       let Q : Type 0 = HasType env left (written.Assign p e op v) (term_of r) in
       walked env (is_assign op) e
-      (λ target. typed env false v >>= λ value. assigned env.declarations.classes target op value) r Q known
+      (λ target. check_expr env false v >>= λ value. assigned env.declarations.classes target op value) r Q known
       (sound env known (is_assign op) e) h (λ t d k g.
       walked env false v
       (λ value. assigned env.declarations.classes t op value) r Q known (sound env known false v) g (λ u f l i.
@@ -232,29 +232,29 @@ mutual
   pub all_sound : (env : Environment) → IsKnown env → (es : written.Exprs) → AllSound env es
   all_sound env known written.no_expr us h = at_ok (λ us. AllHaveType env written.no_expr (terms us)) [] us h none_left
   all_sound env known (written.expr e es) us h =
-      let t = bind_ok (typed env false e) (λ t. all_typed env es >>= λ ts. Ok (t ∷ ts)) us h in
-      let ts = bind_ok (all_typed env es) (λ ts. Ok (t.0 ∷ ts)) us t.2 in
+      let t = bind_ok (check_expr env false e) (λ t. check_exprs env es >>= λ ts. Ok (t ∷ ts)) us h in
+      let ts = bind_ok (check_exprs env es) (λ ts. Ok (t.0 ∷ ts)) us t.2 in
       at_ok (λ us. AllHaveType env (written.expr e es) (terms us)) (t.0 ∷ ts.0) us ts.2
       (each (sound env known false e t.0 t.1) (all_sound env known es ts.0 ts.1))
 
   links_sound : (env : Environment) → IsKnown env → (ls : written.Links) (t r : TypedExpr) → is_known t.ty ≡ true
-      → links_typed env t ls ≡ Ok r → LinksHaveType env (term_of t) ls (term_of r)
+      → check_links env t ls ≡ Ok r → LinksHaveType env (term_of t) ls (term_of r)
   links_sound env known written.no_link t r as_value h =
       at_ok (λ r. LinksHaveType env (term_of t) written.no_link (term_of r)) t r h no_more
   links_sound env known (written.link op e ls) t r as_value h =
       one_link env t op e ls r known as_value (sound env known false e) (λ v k g. links_sound env known ls v r k g) h
 
   suffixes_sound : (env : Environment) → IsKnown env → (ss : written.Suffixes) (t r : TypedExpr) → is_known t.ty ≡ true
-      → suffixes_typed env t ss ≡ Ok r → SuffixesHaveType env (term_of t) ss (term_of r)
+      → check_suffixes env t ss ≡ Ok r → SuffixesHaveType env (term_of t) ss (term_of r)
   suffixes_sound env known written.no_suffix t r as_value h =
       at_ok (λ r. SuffixesHaveType env (term_of t) written.no_suffix (term_of r)) t r h no_suffixes
   suffixes_sound env known (written.suffix s ss) t r as_value h =
-      let next = bind_ok (suffix_typed env t s) (λ next. suffixes_typed env next ss) r h in
+      let next = bind_ok (check_suffix env t s) (λ next. check_suffixes env next ss) r h in
       let d = suffix_sound env known s t next.0 as_value next.1 in
       suffixed d (suffixes_sound env known ss next.0 r (suffix_known d known) next.2)
 
   suffix_sound : (env : Environment) → IsKnown env → (s : written.Suffix) (t r : TypedExpr) → is_known t.ty ≡ true
-      → suffix_typed env t s ≡ Ok r → SuffixHasType env (term_of t) s (term_of r)
+      → check_suffix env t s ≡ Ok r → SuffixHasType env (term_of t) s (term_of r)
   suffix_sound env known (written.Field p text) t r as_value h =
       let f = field_ok env t t.ty p.at text r as_value h in
       subst (λ r. SuffixHasType env (term_of t) (written.Field p text) (term_of r)) (((f.2).2)) (field f.1 ((f.2).1))

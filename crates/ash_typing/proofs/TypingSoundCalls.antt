@@ -22,11 +22,11 @@ use Rattle.ash_typed.specs.Tree.{Expr, Exprs, This, Read, Cast, Call, Indexed, n
 use Rattle.ash_typing.specs.Coercions.{fits}
 use Rattle.ash_typing.specs.ModuleDeclarations.{object_named, element_named}
 use Rattle.ash_typing.specs.Environment.{Environment, Class, Known, Callee, variable_in, callee_in, array_built}
-use Rattle.ash_typing.specs.Expressions.{TypedExpr, typed, all_typed, call_typed, called, callee_at, known_at, this_at}
+use Rattle.ash_typing.specs.Expressions.{TypedExpr, check_expr, check_exprs, check_call, called, callee_at, known_at, this_at}
 use Rattle.ash_typing.specs.Expressions.{arguments_at, all_coerced, coerced_for_assignment, coerced, integer_of}
 use Rattle.ash_typing.specs.Expressions.{bool_of, handle_of}
 use Rattle.ash_typing.specs.Expressions.{convert_at, converting, term_at, read_at, integer_at, in_brackets, index_in}
-use Rattle.ash_typing.specs.Expressions.{indexed_object, indexed, at_element, known_element, array_typed, cast_type}
+use Rattle.ash_typing.specs.Expressions.{indexed_object, indexed, at_element, known_element, check_array, cast_type}
 use Rattle.ash_typing.specs.Expressions.{cast_at, term_of}
 use Rattle.ash_typing.specs.Typing.{is_known, HasType, AllHaveType, AreArguments, no_arguments, argument, IsCastType}
 use Rattle.ash_typing.specs.Typing.{to_class, to_interface, this, name, call, brackets, to_integer, to_bool, new_array}
@@ -102,10 +102,10 @@ arguments_ok classes at parameters ts trees h = go (nat_eq (length parameters) (
 
 -- what the walk finds has its type by the rules
 abbrev pub Sound : Environment → Bool → written.Expr → Type 0
-Sound env left e = (u : TypedExpr) → typed env left e ≡ Ok u → HasType env left e (term_of u)
+Sound env left e = (u : TypedExpr) → check_expr env left e ≡ Ok u → HasType env left e (term_of u)
 
 abbrev pub AllSound : Environment → written.Exprs → Type 0
-AllSound env es = (us : List TypedExpr) → all_typed env es ≡ Ok us → AllHaveType env es (terms us)
+AllSound env es = (us : List TypedExpr) → check_exprs env es ≡ Ok us → AllHaveType env es (terms us)
 
 pub this_sound : (env : Environment) (left : Bool) (p : place.Place) (found : Option ℕ) (r : TypedExpr) → env.this ≡ found
     → this_at p.at found ≡ Ok r → HasType env left (written.This p) (term_of r)
@@ -147,21 +147,21 @@ callee_ok at None callee h = absurd (no_fault _ callee h)
 callee_ok at (Some found) callee h = ap Some (same_ok found callee h)
 
 pub call_sound : (env : Environment) (left : Bool) (p : place.Place) (text : List ℕ) (es : written.Exprs) (r : TypedExpr)
-    → AllSound env es → call_typed env p.at text (all_typed env es) ≡ Ok r
+    → AllSound env es → check_call env p.at text (check_exprs env es) ≡ Ok r
     → HasType env left (written.Call p text es) (term_of r)
 call_sound env left p text es r all h =
     let c = bind_ok (callee_at p.at (callee_in env text))
-    (λ callee. all_typed env es >>= λ ts. called env.declarations.classes p.at callee ts callee.parameters) r h in
-    let a = bind_ok (all_typed env es) (λ ts. called env.declarations.classes p.at c.0 ts (c.0).parameters) r c.2 in
+    (λ callee. check_exprs env es >>= λ ts. called env.declarations.classes p.at callee ts callee.parameters) r h in
+    let a = bind_ok (check_exprs env es) (λ ts. called env.declarations.classes p.at c.0 ts (c.0).parameters) r c.2 in
     let d = called_ok env.declarations.classes p.at c.0 a.0 (c.0).parameters r a.2 in
     subst (λ r. HasType env left (written.Call p text es) (term_of r)) ((d.2).2)
     (call (callee_ok p.at (callee_in env text) c.0 c.1) d.1 (all a.0 a.1) ((d.2).1))
 
 pub brackets_sound : (env : Environment) (left : Bool) (p : place.Place) (e : written.Expr) (r : TypedExpr)
     → Sound env false e
-    → (typed env false e >>= λ t. Ok (in_brackets p.at t)) ≡ Ok r → HasType env left (written.Brackets p e) (term_of r)
+    → (check_expr env false e >>= λ t. Ok (in_brackets p.at t)) ≡ Ok r → HasType env left (written.Brackets p e) (term_of r)
 brackets_sound env left p e r sound h =
-    let a = bind_ok (typed env false e) (λ t. Ok (in_brackets p.at t)) r h in
+    let a = bind_ok (check_expr env false e) (λ t. Ok (in_brackets p.at t)) r h in
     at_ok (λ r. HasType env left (written.Brackets p e) (term_of r)) (in_brackets p.at a.0) r a.2
     (brackets (sound a.0 a.1))
 
@@ -205,14 +205,14 @@ array_by env left p of es elements ts count trees c n all args =
     (λ args. new_array n all args) args
 
 pub array_sound : (env : Environment) (left : Bool) (p : place.Place) (of : written.Element) (es : written.Exprs)
-    (r : TypedExpr) → AllSound env es → array_typed env p.at of (all_typed env es) ≡ Ok r
+    (r : TypedExpr) → AllSound env es → check_array env p.at of (check_exprs env es) ≡ Ok r
     → HasType env left (written.NewArray p of es) (term_of r)
 array_sound env left p of es r all h =
     let e = bind_ok (known_element (at_element of) (element_named env.registered env.declarations of))
-    (λ e. all_typed env es
+    (λ e. check_exprs env es
     >>= λ ts. called env.declarations.classes p.at (array_built e (length ts)) ts (Some (array_parameters (length ts)))) r
     h in
-    let a = bind_ok (all_typed env es)
+    let a = bind_ok (check_exprs env es)
     (λ ts. called env.declarations.classes p.at (array_built e.0 (length ts)) ts (Some (array_parameters (length ts)))) r
     e.2 in
     let d = called_with env.declarations.classes p.at (array_built e.0 (length a.0)) a.0 (array_parameters (length a.0)) r

@@ -17,7 +17,7 @@ use Rattle.ash_typing.specs.TypingResult.{◌>>=◌}
 use Rattle.ash_typing.specs.Types.{signed, common, operator_class_of, operator_result, common_operands, assumed_type}
 use Rattle.ash_typed.specs.Tree.{Expr, Alter, Conditional, Count, Place}
 use Rattle.ash_typing.specs.Environment.{Environment}
-use Rattle.ash_typing.specs.Expressions.{TypedExpr, UnifiedOperands, typed, links_typed, coerced, operate}
+use Rattle.ash_typing.specs.Expressions.{TypedExpr, UnifiedOperands, check_expr, check_links, coerced, operate}
 use Rattle.ash_typing.specs.Expressions.{operated as joined, unify_operands}
 use Rattle.ash_typing.specs.Expressions.{unified_as, unified_by, counted, altered, unary_at, integer_of, bool_of}
 use Rattle.ash_typing.specs.Expressions.{handle_of}
@@ -148,11 +148,11 @@ linked_by {env} {w = w} {ls = ls} d m is rest =
 
 pub one_link : (env : Environment) (t : TypedExpr) (op : BinaryOp) (e : written.Expr) (ls : written.Links) (r : TypedExpr)
     → IsKnown env → is_known t.ty ≡ true → Sound env false e
-    → ((v : TypedExpr) → is_known v.ty ≡ true → links_typed env v ls ≡ Ok r → LinksHaveType env (term_of v) ls (term_of r))
-    → links_typed env t (written.link op e ls) ≡ Ok r → LinksHaveType env (term_of t) (written.link op e ls) (term_of r)
+    → ((v : TypedExpr) → is_known v.ty ≡ true → check_links env v ls ≡ Ok r → LinksHaveType env (term_of v) ls (term_of r))
+    → check_links env t (written.link op e ls) ≡ Ok r → LinksHaveType env (term_of t) (written.link op e ls) (term_of r)
 one_link env t op e ls r known as_value sound rest h =
-    let u = bind_ok (typed env false e) (λ operand. operate op t operand >>= λ both. links_typed env both ls) r h in
-    let both = bind_ok (operate op t u.0) (λ both. links_typed env both ls) r u.2 in
+    let u = bind_ok (check_expr env false e) (λ operand. operate op t operand >>= λ both. check_links env both ls) r h in
+    let both = bind_ok (operate op t u.0) (λ both. check_links env both ls) r u.2 in
     let d = sound u.0 u.1 in
     let o = operate_ok op t u.0 both.0 as_value (known_type d known) both.1 in
     let still = subst (λ (v : Term). is_known v.ty ≡ true) o.2 (operator_result_known (operator_class_of op) o.0) in

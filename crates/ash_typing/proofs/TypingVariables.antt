@@ -10,10 +10,10 @@ use Rattle.ash_typing.specs.Types.{var_type, object_of}
 use Rattle.ash_typing.specs.Coercions.{fits}
 use Rattle.ash_typed.specs.Tree.{Expr, Exprs}
 use Rattle.ash_typing.specs.Environment.{Environment, Class, Callee, construction}
-use Rattle.ash_typing.specs.Expressions.{TypedExpr, typed, all_typed, coerced_for_assignment, called, placed, all_placed}
+use Rattle.ash_typing.specs.Expressions.{TypedExpr, check_expr, check_exprs, coerced_for_assignment, called, placed, all_placed}
 use Rattle.ash_typing.specs.Expressions.{term_of, first_at}
 use Rattle.ash_typing.specs.Declarations.{Initialization, constructed, begun, begun_with, begun_by, begun_by_one}
-use Rattle.ash_typing.specs.Declarations.{stored_first, initialized, decl_typed, built}
+use Rattle.ash_typing.specs.Declarations.{stored_first, initialized, check_decl, built}
 use Rattle.ash_typing.specs.Typing.{IsKnown, is_object, HasType, AllHaveType, each, AreArguments, IsConstructed}
 use Rattle.ash_typing.specs.Typing.{construct, BeginsWith, empty, default, value, one, built_by, IsDeclared, declared}
 use Rattle.ash_typing.proofs.TypingWords.{no_fault, same_ok, bind_ok}
@@ -81,8 +81,8 @@ begins_complete {env} (built_by {o = o} {es = es} {ts = ts} {tree = tree} all c)
     (all_terms all) (sym (placed_count all)) c)
 
 pub declared_complete : {env : Environment} {of : Ty} {d : written.Decl} {i : Initialization} → IsDeclared env of d i
-    → (at : ℕ) → decl_typed env at of d ≡ Ok i
-unfolding decl_typed
+    → (at : ℕ) → check_decl env at of d ≡ Ok i
+unfolding check_decl
 declared_complete (declared {d = d} h) at = rw (begins_complete h at d.place.at) refl
 
 -- what begins so in the walk begins by the rules
@@ -128,12 +128,12 @@ out_first : {env : Environment} {e : written.Expr} {t : Term} {es : written.Expr
     → AllHaveType env (written.expr e es) (t ∷ []) → HasType env false e t
 out_first (each d rest) = d
 
-none_typed : {env : Environment} {e : written.Expr} {es : written.Exprs} → AllHaveType env (written.expr e es) [] → ⊥
-none_typed h = elim h [ ]
+no_terms_of_some : {env : Environment} {e : written.Expr} {es : written.Exprs} → AllHaveType env (written.expr e es) [] → ⊥
+no_terms_of_some h = elim h [ ]
 
 no_second : {env : Environment} {e f : written.Expr} {t : Term} {es : written.Exprs}
     → AllHaveType env (written.expr e (written.expr f es)) (t ∷ []) → ⊥
-no_second (each d rest) = none_typed rest
+no_second (each d rest) = no_terms_of_some rest
 
 alone_sound : (env : Environment) (of : Ty) (es : List written.Expr) (t : TypedExpr) (begins : Option Expr)
     → object_of of ≡ None → AllHaveType env (written.exprs es) (term_of t ∷ [])
@@ -167,15 +167,15 @@ pub begins_sound : (env : Environment) → IsKnown env
 unfolding initialized
 begins_sound env known of_at at of written.Default begins h = begun_sound env of_at of begins h
 begins_sound env known of_at at of (written.Value e) begins h =
-    let t = bind_ok (typed env false e) (λ t. begun_with env.declarations.classes at of t) begins h in
+    let t = bind_ok (check_expr env false e) (λ t. begun_with env.declarations.classes at of t) begins h in
     value_sound env at of e t.0 begins (sound env known false e t.0 t.1) t.2
 begins_sound env known of_at at of (written.Arguments es) begins h =
-    let ts = bind_ok (all_typed env (written.exprs es)) (λ ts. begun_by env of_at at of ts) begins h in
+    let ts = bind_ok (check_exprs env (written.exprs es)) (λ ts. begun_by env of_at at of ts) begins h in
     begun_by_sound env of_at at of es ts.0 begins (all_sound env known (written.exprs es) ts.0 ts.1) ts.2
 
 pub declared_sound : (env : Environment) → IsKnown env → (at : ℕ) (of : Ty) (d : written.Decl) (i : Initialization)
-    → decl_typed env at of d ≡ Ok i → IsDeclared env of d i
-unfolding decl_typed
+    → check_decl env at of d ≡ Ok i → IsDeclared env of d i
+unfolding check_decl
 declared_sound env known at of d i h =
     let begins =
     bind_ok (initialized env at d.place.at of d.initializer) (λ value. Ok (initialization d.name of value)) i h in

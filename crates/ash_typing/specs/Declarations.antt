@@ -10,7 +10,7 @@ use Rattle.ash_typing.specs.TypingResult.{TypingResult, ◌>>=◌, broken}
 use Rattle.ash_typed.specs.Tree.{Expr}
 use Rattle.ash_typing.specs.Environment.{Environment, Class, Callee, construction}
 pub use Rattle.ash_typed.specs.StatementTree.{Initialization}
-use Rattle.ash_typing.specs.Expressions.{TypedExpr, typed, all_typed, coerced_for_assignment, called, at_element}
+use Rattle.ash_typing.specs.Expressions.{TypedExpr, check_expr, check_exprs, coerced_for_assignment, called, at_element}
 use Rattle.ash_typing.specs.Terms.{initialization}
 
 -- the type of variables
@@ -66,10 +66,10 @@ begun_by env of_at at of ts = begun_by_one env.declarations.classes at of ts
 
 unfoldable pub initialized : Environment → ℕ → ℕ → Ty → written.Initializer → TypingResult (Option Expr)
 initialized env of_at at of written.Default = begun env of_at of
-initialized env of_at at of (written.Value e) = typed env false e >>= λ t. begun_with env.declarations.classes at of t
+initialized env of_at at of (written.Value e) = check_expr env false e >>= λ t. begun_with env.declarations.classes at of t
 initialized env of_at at of (written.Arguments es) =
-    all_typed env (written.exprs es) >>= λ ts. begun_by env of_at at of ts
+    check_exprs env (written.exprs es) >>= λ ts. begun_by env of_at at of ts
 
 -- A variable is of this type, which is written at this offset.
-unfoldable pub decl_typed : Environment → ℕ → Ty → written.Decl → TypingResult Initialization
-decl_typed env at of d = initialized env at d.place.at of d.initializer >>= λ value. Ok (initialization d.name of value)
+unfoldable pub check_decl : Environment → ℕ → Ty → written.Decl → TypingResult Initialization
+check_decl env at of d = initialized env at d.place.at of d.initializer >>= λ value. Ok (initialization d.name of value)

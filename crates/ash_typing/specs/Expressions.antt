@@ -260,14 +260,14 @@ abbrev pub in_brackets : ℕ → TypedExpr → TypedExpr
 in_brackets at t = record { at = at; ty = t.ty; form = bracketed t.form; tree = t.tree }
 
 -- A call, whose arguments are walked once its name is known.
-abbrev pub call_typed : Environment → ℕ → List ℕ → TypingResult (List TypedExpr) → TypingResult TypedExpr
-call_typed env at name arguments =
+abbrev pub check_call : Environment → ℕ → List ℕ → TypingResult (List TypedExpr) → TypingResult TypedExpr
+check_call env at name arguments =
     callee_at at (callee_in env name) >>= λ callee. arguments
     >>= λ ts. called env.declarations.classes at callee ts callee.parameters
 
-abbrev pub invocation_typed : Environment → TypedExpr → ℕ → List ℕ → TypingResult (List TypedExpr)
+abbrev pub check_invocation : Environment → TypedExpr → ℕ → List ℕ → TypingResult (List TypedExpr)
     → TypingResult TypedExpr
-invocation_typed env t at name arguments =
+check_invocation env t at name arguments =
     method_of env t t.ty at name >>= λ m. arguments >>= λ ts. invoked env.declarations.classes t at ts m
 
 -- arrays
@@ -298,8 +298,8 @@ known_element at None = broken UnknownType at
 known_element at (Some e) = Ok e
 
 -- `array<T>(e ..)` is typed so.
-abbrev pub array_typed : Environment → ℕ → written.Element → TypingResult (List TypedExpr) → TypingResult TypedExpr
-array_typed env at of arguments =
+abbrev pub check_array : Environment → ℕ → written.Element → TypingResult (List TypedExpr) → TypingResult TypedExpr
+check_array env at of arguments =
     known_element (at_element of) (element_named env.registered env.declarations of) >>= λ e. arguments
     >>= λ ts. called env.declarations.classes at (array_built e (length ts)) ts (Some (array_parameters (length ts)))
 
@@ -318,49 +318,49 @@ cast_at at to t = handle_of t.at t.ty >>= λ h. Ok (term_at at (ty.Handle to) (C
 
 -- The walk. `left` is whether the expression is left of `=`.
 abbrev mutual
-  pub typed : Environment → Bool → written.Expr → TypingResult TypedExpr
-  typed env left (written.Number p n) = Ok (placed p.at (number_term n))
-  typed env left (written.Truth p b) = Ok (term_at p.at ty.Bool (Truth b))
-  typed env left (written.Null p) = Ok (term_at p.at ty.Null Null)
-  typed env left (written.This p) = this_at p.at env.this
-  typed env left (written.Name p name) = known_at p.at (variable_in env name)
-  typed env left (written.Call p name es) = call_typed env p.at name (all_typed env es)
-  typed env left (written.Brackets p e) = typed env false e >>= λ t. Ok (in_brackets p.at t)
-  typed env left (written.Convert p to e) = typed env false e >>= λ t. convert_at p.at to t
-  typed env left (written.NewArray p of es) = array_typed env p.at of (all_typed env es)
-  typed env left (written.Cast p to e) =
-      cast_type to.place.at (object_named env.registered env.declarations to.name) >>= λ o. typed env false e
+  pub check_expr : Environment → Bool → written.Expr → TypingResult TypedExpr
+  check_expr env left (written.Number p n) = Ok (placed p.at (number_term n))
+  check_expr env left (written.Truth p b) = Ok (term_at p.at ty.Bool (Truth b))
+  check_expr env left (written.Null p) = Ok (term_at p.at ty.Null Null)
+  check_expr env left (written.This p) = this_at p.at env.this
+  check_expr env left (written.Name p name) = known_at p.at (variable_in env name)
+  check_expr env left (written.Call p name es) = check_call env p.at name (check_exprs env es)
+  check_expr env left (written.Brackets p e) = check_expr env false e >>= λ t. Ok (in_brackets p.at t)
+  check_expr env left (written.Convert p to e) = check_expr env false e >>= λ t. convert_at p.at to t
+  check_expr env left (written.NewArray p of es) = check_array env p.at of (check_exprs env es)
+  check_expr env left (written.Cast p to e) =
+      cast_type to.place.at (object_named env.registered env.declarations to.name) >>= λ o. check_expr env false e
       >>= λ t. cast_at p.at o t
-  typed env left (written.Postfix p e ss) = typed env false e >>= λ t. suffixes_typed env t ss
-  typed env left (written.Unary p op e) = typed env false e >>= λ t. unary_at left p.at op t
-  typed env left (written.Binary p e ls) = typed env false e >>= λ t. links_typed env t ls
-  typed env left (written.Conditional p c a b) =
-      typed env false c >>= λ t. typed env false a >>= λ x. typed env false b >>= λ y. choice t x y
-  typed env left (written.Assign p e op v) =
-      typed env (is_assign op) e >>= λ target. typed env false v
+  check_expr env left (written.Postfix p e ss) = check_expr env false e >>= λ t. check_suffixes env t ss
+  check_expr env left (written.Unary p op e) = check_expr env false e >>= λ t. unary_at left p.at op t
+  check_expr env left (written.Binary p e ls) = check_expr env false e >>= λ t. check_links env t ls
+  check_expr env left (written.Conditional p c a b) =
+      check_expr env false c >>= λ t. check_expr env false a >>= λ x. check_expr env false b >>= λ y. choice t x y
+  check_expr env left (written.Assign p e op v) =
+      check_expr env (is_assign op) e >>= λ target. check_expr env false v
       >>= λ value. assigned env.declarations.classes target op value
 
   -- arguments, each in its turn
-  pub all_typed : Environment → written.Exprs → TypingResult (List TypedExpr)
-  all_typed env written.no_expr = Ok []
-  all_typed env (written.expr e es) = typed env false e >>= λ t. all_typed env es >>= λ ts. Ok (t ∷ ts)
+  pub check_exprs : Environment → written.Exprs → TypingResult (List TypedExpr)
+  check_exprs env written.no_expr = Ok []
+  check_exprs env (written.expr e es) = check_expr env false e >>= λ t. check_exprs env es >>= λ ts. Ok (t ∷ ts)
 
   -- operators of one level, each with what is before it
-  pub links_typed : Environment → TypedExpr → written.Links → TypingResult TypedExpr
-  links_typed env t written.no_link = Ok t
-  links_typed env t (written.link op e ls) =
-      typed env false e >>= λ operand. operate op t operand >>= λ both. links_typed env both ls
+  pub check_links : Environment → TypedExpr → written.Links → TypingResult TypedExpr
+  check_links env t written.no_link = Ok t
+  check_links env t (written.link op e ls) =
+      check_expr env false e >>= λ operand. operate op t operand >>= λ both. check_links env both ls
 
-  pub suffixes_typed : Environment → TypedExpr → written.Suffixes → TypingResult TypedExpr
-  suffixes_typed env t written.no_suffix = Ok t
-  suffixes_typed env t (written.suffix s ss) = suffix_typed env t s >>= λ next. suffixes_typed env next ss
+  pub check_suffixes : Environment → TypedExpr → written.Suffixes → TypingResult TypedExpr
+  check_suffixes env t written.no_suffix = Ok t
+  check_suffixes env t (written.suffix s ss) = check_suffix env t s >>= λ next. check_suffixes env next ss
 
-  pub suffix_typed : Environment → TypedExpr → written.Suffix → TypingResult TypedExpr
-  suffix_typed env t (written.Field p name) = field_of env t t.ty p.at name
-  suffix_typed env t (written.Method p name es) = invocation_typed env t p.at name (all_typed env es)
-  suffix_typed env t (written.Index e) = typed env false e >>= λ i. indexed t t.ty i
-  suffix_typed env t written.Increment = counted t.at steps.IncrementAfter t (assignable t.form t.tree)
-  suffix_typed env t written.Decrement = counted t.at steps.DecrementAfter t (assignable t.form t.tree)
+  pub check_suffix : Environment → TypedExpr → written.Suffix → TypingResult TypedExpr
+  check_suffix env t (written.Field p name) = field_of env t t.ty p.at name
+  check_suffix env t (written.Method p name es) = check_invocation env t p.at name (check_exprs env es)
+  check_suffix env t (written.Index e) = check_expr env false e >>= λ i. indexed t t.ty i
+  check_suffix env t written.Increment = counted t.at steps.IncrementAfter t (assignable t.form t.tree)
+  check_suffix env t written.Decrement = counted t.at steps.DecrementAfter t (assignable t.form t.tree)
 
 -- offsets
 

@@ -30,7 +30,7 @@ use Rattle.ash_typing.specs.Types.{is_interface, object_of}
 use Rattle.ash_typing.specs.Environment.{Environment, Callee, Invoked, declares, variable_in, callee_in, member_in}
 use Rattle.ash_typing.specs.Environment.{method_in, construction}
 use Rattle.ash_typing.specs.ModuleDeclarations.{declarations, object_named, ty_named}
-use Rattle.ash_typing.specs.Expressions.{TypedExpr, is_void, is_assign, typed}
+use Rattle.ash_typing.specs.Expressions.{TypedExpr, is_void, is_assign, check_expr}
 use Rattle.ash_typing.specs.Terms.{assignable, is_stored, array_parameters}
 use Rattle.ash_typing.specs.Declarations.{at_type, at_type_name}
 use Rattle.ash_typing.specs.Switches.{is_within}
@@ -323,14 +323,14 @@ pub data IsWrong (registrations : List Registration) (script : List written.Item
   -- what is left of `=` or of `op=` takes no value
   takes_none : {env : Environment} {p : Place} {op : AssignOp} {e v : written.Expr} {t : TypedExpr} {m : Meaning}
       → Occurs registrations script (Expression env (written.Assign p e op v))
-      → typed env (is_assign op) e ≡ Ok t
+      → check_expr env (is_assign op) e ≡ Ok t
       → takes_value t ≡ false
       → IsWrong registrations script rules.NotAssignable t.at m
   -- what is counted up or down is no place
   no_place : {env : Environment} {p : Place} {op : UnaryOp} {e : written.Expr} {t : TypedExpr} {m : Meaning}
       → Occurs registrations script (Expression env (written.Unary p op e))
       → counts op ≡ true
-      → typed env false e ≡ Ok t
+      → check_expr env false e ≡ Ok t
       → assignable t.form t.tree ≡ None
       → IsWrong registrations script rules.NotAssignable t.at m
   no_place_before : {env : Environment} {t : TypedExpr} {s : written.Suffix} {ss : written.Suffixes} {m : Meaning}

@@ -22,11 +22,11 @@ pub use Rattle.ash_typing.specs.Environment.{inside, module_environment}
 use Rattle.ash_typing.specs.Expressions.{is_void}
 use Rattle.ash_typing.specs.ModuleDeclarations.{object_named, declarations}
 pub use Rattle.ash_typing.specs.ModuleDeclarations.{ty_in}
-use Rattle.ash_typing.specs.Declarations.{Initialization, decl_typed}
+use Rattle.ash_typing.specs.Declarations.{Initialization, check_decl}
 pub use Rattle.ash_typing.specs.Declarations.{at_type, at_type_name, known_ty}
 use Rattle.ash_typed.specs.StatementTree.{Body}
 use Rattle.ash_typed.specs.Limits.{max_module_types, max_globals, max_class_members}
-use Rattle.ash_typing.specs.Statements.{body_typed}
+use Rattle.ash_typing.specs.Statements.{check_body}
 use Rattle.ash_typed.specs.Modules.{Variables, Function, Signature, Interface, Implementation, Class, Module}
 use Rattle.ash_typing.specs.Returning.{returns_in}
 use Rattle.ash_tree.specs.Items.{Routine, routine_of, constructing}
@@ -67,9 +67,9 @@ passed_ty of ty.Unknown = broken UnknownType (at_type_name of)
 passed_ty of (ty.Object o) = broken Misplaced (at_type of)
 passed_ty of t = Ok t
 
-abbrev pub result_typed : Environment → Option written.Named → TypingResult Ty
-result_typed env None = Ok ty.Void
-result_typed env (Some of) = passed_ty of (ty_in env of)
+abbrev pub check_result : Environment → Option written.Named → TypingResult Ty
+check_result env None = Ok ty.Void
+check_result env (Some of) = passed_ty of (ty_in env of)
 
 -- variables of a module or of a class
 
@@ -81,35 +81,35 @@ pub record Row : Type 0 where
 abbrev pub with_variable : Variables → Initialization → Variables
 with_variable v value = record { line = v.line; values = v.values ++ value ∷ [] }
 
-abbrev pub decls_typed : Environment → ℕ → Ty → Row → List written.Decl → TypingResult Row
-decls_typed env at of row [] = Ok row
-decls_typed env at of row (d ∷ ds) =
-    placed row.names d.place.at d.name >>= λ names. decl_typed env at of d
-    >>= λ value. decls_typed env at of (record { names = names; variables = with_variable row.variables value }) ds
+abbrev pub check_decls : Environment → ℕ → Ty → Row → List written.Decl → TypingResult Row
+check_decls env at of row [] = Ok row
+check_decls env at of row (d ∷ ds) =
+    placed row.names d.place.at d.name >>= λ names. check_decl env at of d
+    >>= λ value. check_decls env at of (record { names = names; variables = with_variable row.variables value }) ds
 
 abbrev pub no_variables : written.Named → Variables
 no_variables of = record { line = (written.place_of_type of).line; values = [] }
 
-unfoldable pub vars_typed : Environment → Names → written.Vars → TypingResult Row
-vars_typed env names v =
+unfoldable pub check_vars : Environment → Names → written.Vars → TypingResult Row
+check_vars env names v =
     known_ty v.of (ty_in env v.of)
-    >>= λ of. decls_typed env (at_type v.of) of (record { names = names; variables = no_variables v.of }) v.decls
+    >>= λ of. check_decls env (at_type v.of) of (record { names = names; variables = no_variables v.of }) v.decls
 
 -- functions
 
-abbrev pub parameters_typed : Environment → List Declared → List written.Parameter → TypingResult (List Declared)
-parameters_typed env before [] = Ok before
-parameters_typed env before (p ∷ ps) =
+abbrev pub check_parameters : Environment → List Declared → List written.Parameter → TypingResult (List Declared)
+check_parameters env before [] = Ok before
+check_parameters env before (p ∷ ps) =
     passed_ty p.of (ty_in env p.of) >>= λ of. if list_any (declares p.name) before then broken NameTaken p.place.at
-    else parameters_typed env (before ++ record { name = p.name; of = of } ∷ []) ps
+    else check_parameters env (before ++ record { name = p.name; of = of } ∷ []) ps
 
 -- A function with a result has to return.
 unfoldable pub returning : ℕ → Ty → List written.Stmt → Body → TypingResult Body
 returning at of statements body = if is_void of || returns_in statements then Ok body else broken NoReturn at
 
-unfoldable pub routine_typed : Environment → Ty → Routine → TypingResult Function
-routine_typed env of c =
-    parameters_typed env [] c.parameters >>= λ locals. body_typed (with_locals env locals) of c.body
+unfoldable pub check_routine : Environment → Ty → Routine → TypingResult Function
+check_routine env of c =
+    check_parameters env [] c.parameters >>= λ locals. check_body (with_locals env locals) of c.body
     >>= λ body. returning c.place.at of c.body body
     >>= λ done. Ok (record {
       name = c.name;
@@ -131,15 +131,15 @@ signature_of name of parameters =
     record { name = name; result = result_type of; parameters = map type_declared parameters }
 
 -- An interface declares a method, after those before it.
-unfoldable pub signature_typed : Environment → Signatures → written.InterfaceMethod → TypingResult Signatures
-signature_typed env ss m =
-    result_typed env m.result >>= λ of. placed ss.names m.place.at m.name
-    >>= λ names. parameters_typed env [] m.parameters
+unfoldable pub check_signature : Environment → Signatures → written.InterfaceMethod → TypingResult Signatures
+check_signature env ss m =
+    check_result env m.result >>= λ of. placed ss.names m.place.at m.name
+    >>= λ names. check_parameters env [] m.parameters
     >>= λ parameters. Ok (record { names = names; methods = ss.methods ++ signature_of m.name of parameters ∷ [] })
 
-abbrev pub signatures_typed : Environment → Signatures → List written.InterfaceMethod → TypingResult Signatures
-signatures_typed env ss [] = Ok ss
-signatures_typed env ss (m ∷ ms) = signature_typed env ss m >>= λ next. signatures_typed env next ms
+abbrev pub check_signatures : Environment → Signatures → List written.InterfaceMethod → TypingResult Signatures
+check_signatures env ss [] = Ok ss
+check_signatures env ss (m ∷ ms) = check_signature env ss m >>= λ next. check_signatures env next ms
 
 -- An interface has at most `max_class_members` methods.
 abbrev pub no_signatures : Signatures
@@ -150,8 +150,8 @@ interface_of i classes ss =
     record { name = i.name; line = i.place.line; classes_before = classes; methods = ss.methods }
 
 -- An interface comes after so many classes.
-unfoldable pub interface_typed : Environment → ℕ → written.Interface → TypingResult Interface
-interface_typed env classes i = signatures_typed env no_signatures i.methods >>= λ ss. Ok (interface_of i classes ss)
+unfoldable pub check_interface : Environment → ℕ → written.Interface → TypingResult Interface
+check_interface env classes i = check_signatures env no_signatures i.methods >>= λ ss. Ok (interface_of i classes ss)
 
 -- the interfaces that a class lists
 
@@ -171,8 +171,8 @@ pub record Listed : Type 0 where
   pub interfaces : List Implementation
 
 -- The class of this place lists an interface, after those before it.
-unfoldable pub listed_typed : Environment → ℕ → Listed → written.TypeName → TypingResult Listed
-listed_typed env class listed n =
+unfoldable pub check_listed : Environment → ℕ → Listed → written.TypeName → TypingResult Listed
+check_listed env class listed n =
     listed_at n.place.at (object_named env.registered env.declarations n.name)
     >>= λ interface. untaken listed.names n.place.at n.name
     >>= λ names. implemented_at n.place.at interface (implemented env class interface)
@@ -180,7 +180,7 @@ listed_typed env class listed n =
 
 abbrev pub all_listed : Environment → ℕ → Listed → List written.TypeName → TypingResult Listed
 all_listed env class listed [] = Ok listed
-all_listed env class listed (n ∷ ns) = listed_typed env class listed n >>= λ next. all_listed env class next ns
+all_listed env class listed (n ∷ ns) = check_listed env class listed n >>= λ next. all_listed env class next ns
 
 abbrev pub none_listed : Listed
 none_listed = record { names = record { registered = []; taken = []; room = 0 }; interfaces = [] }
@@ -228,20 +228,20 @@ constructor_named class c =
     if is_some class.constructor then broken NameTaken c.place.at
     else (if bytes_eq c.name class.name then Ok (constructing c) else broken Misplaced c.place.at)
 
-unfoldable pub member_typed : Environment → Members → written.Member → TypingResult Members
-member_typed env ms (written.AField v) =
-    vars_typed env ms.names v >>= λ row. Ok (record { names = row.names; class = with_fields ms.class row.variables })
-member_typed env ms (written.AMethod f) =
-    result_typed env f.result >>= λ of. placed ms.names f.place.at f.name
-    >>= λ names. routine_typed env of (routine_of f)
+unfoldable pub check_member : Environment → Members → written.Member → TypingResult Members
+check_member env ms (written.AField v) =
+    check_vars env ms.names v >>= λ row. Ok (record { names = row.names; class = with_fields ms.class row.variables })
+check_member env ms (written.AMethod f) =
+    check_result env f.result >>= λ of. placed ms.names f.place.at f.name
+    >>= λ names. check_routine env of (routine_of f)
     >>= λ t. Ok (record { names = names; class = with_method ms.class t })
-member_typed env ms (written.AConstructor c) =
-    constructor_named ms.class c >>= λ named. routine_typed env ty.Void named
+check_member env ms (written.AConstructor c) =
+    constructor_named ms.class c >>= λ named. check_routine env ty.Void named
     >>= λ t. Ok (record { names = ms.names; class = with_constructor ms.class t })
 
-abbrev pub members_typed : Environment → Members → List written.Member → TypingResult Members
-members_typed env ms [] = Ok ms
-members_typed env ms (m ∷ rest) = member_typed env ms m >>= λ next. members_typed env next rest
+abbrev pub check_members : Environment → Members → List written.Member → TypingResult Members
+check_members env ms [] = Ok ms
+check_members env ms (m ∷ rest) = check_member env ms m >>= λ next. check_members env next rest
 
 -- A class has at most `max_class_members` fields and methods.
 abbrev pub no_members : written.Class → List Implementation → Members
@@ -261,10 +261,10 @@ abbrev pub class_of_members : Members → Class
 class_of_members ms = ms.class
 
 -- The class of this place is typed so.
-unfoldable pub class_typed : Environment → ℕ → written.Class → TypingResult Class
-class_typed env place c =
+unfoldable pub check_class : Environment → ℕ → written.Class → TypingResult Class
+check_class env place c =
     all_listed env place none_listed c.interfaces
-    >>= λ listed. members_typed (inside env place) (no_members c listed.interfaces) c.members
+    >>= λ listed. check_members (inside env place) (no_members c listed.interfaces) c.members
     >>= λ ms. Ok (class_of_members ms)
 
 -- modules
@@ -297,24 +297,24 @@ with_globals m v =
     record { interfaces = m.interfaces; classes = m.classes; functions = m.functions; globals = m.globals ++ v ∷ [] }
 
 -- The next item is typed so.
-unfoldable pub item_typed : Environment → Walked → written.Item → TypingResult Walked
-item_typed env w (written.AClass c) =
-    untaken w.names c.place.at c.name >>= λ names. room_for_type c.place.at w.typed >>= λ place. class_typed env place c
+unfoldable pub check_item : Environment → Walked → written.Item → TypingResult Walked
+check_item env w (written.AClass c) =
+    untaken w.names c.place.at c.name >>= λ names. room_for_type c.place.at w.typed >>= λ place. check_class env place c
     >>= λ t. Ok (record { names = names; typed = with_class w.typed t })
-item_typed env w (written.AnInterface i) =
+check_item env w (written.AnInterface i) =
     untaken w.names i.place.at i.name >>= λ names. room_for_type i.place.at w.typed
-    >>= λ classes. interface_typed env classes i
+    >>= λ classes. check_interface env classes i
     >>= λ t. Ok (record { names = names; typed = with_interface w.typed t })
-item_typed env w (written.AFunction f) =
-    result_typed env f.result >>= λ of. untaken w.names f.place.at f.name
-    >>= λ names. routine_typed env of (routine_of f)
+check_item env w (written.AFunction f) =
+    check_result env f.result >>= λ of. untaken w.names f.place.at f.name
+    >>= λ names. check_routine env of (routine_of f)
     >>= λ t. Ok (record { names = names; typed = with_function w.typed t })
-item_typed env w (written.AGlobal v) =
-    vars_typed env w.names v >>= λ row. Ok (record { names = row.names; typed = with_globals w.typed row.variables })
+check_item env w (written.AGlobal v) =
+    check_vars env w.names v >>= λ row. Ok (record { names = row.names; typed = with_globals w.typed row.variables })
 
-abbrev pub items_typed : Environment → Walked → List written.Item → TypingResult Walked
-items_typed env w [] = Ok w
-items_typed env w (i ∷ is) = item_typed env w i >>= λ next. items_typed env next is
+abbrev pub check_items : Environment → Walked → List written.Item → TypingResult Walked
+check_items env w [] = Ok w
+check_items env w (i ∷ is) = check_item env w i >>= λ next. check_items env next is
 
 -- A module has at most `max_globals` variables.
 abbrev pub nothing : List host.Registration → Walked
@@ -328,7 +328,7 @@ module_walked w = w.typed
 
 abbrev pub module_by : List host.Registration → ModuleDeclarations → List written.Item → TypingResult Module
 module_by registrations h is =
-    items_typed (module_environment registrations h) (nothing registrations) is >>= λ w. Ok (module_walked w)
+    check_items (module_environment registrations h) (nothing registrations) is >>= λ w. Ok (module_walked w)
 
-unfoldable pub module_typed : List host.Registration → List written.Item → TypingResult Module
-module_typed registrations is = module_by registrations (declarations registrations is) is
+unfoldable pub check_module : List host.Registration → List written.Item → TypingResult Module
+check_module registrations is = module_by registrations (declarations registrations is) is

@@ -23,7 +23,7 @@ use Rattle.ash_typing.specs.Coercions.{fits}
 use Rattle.ash_typing.specs.Environment.{Environment, Class, Callee, Invoked, callee_in, method_in, construction}
 use Rattle.ash_typing.specs.ModuleDeclarations.{declarations, object_named}
 use Rattle.ash_typing.specs.Typing.{is_object}
-use Rattle.ash_typing.specs.Expressions.{TypedExpr, term_at, is_void, is_assign, unify_operands, typed, all_typed}
+use Rattle.ash_typing.specs.Expressions.{TypedExpr, term_at, is_void, is_assign, unify_operands, check_expr, check_exprs}
 use Rattle.ash_typing.specs.Terms.{operator_of, array_parameters}
 use Rattle.ash_typing.specs.Scopes.{Scope, block_of, after}
 use Rattle.ash_typing.specs.Statements.{gives_nothing}
@@ -112,7 +112,7 @@ pub data Mismatches (registrations : List Registration) (script : List written.I
       → Occurs registrations script (Expression env (written.Call p text es))
       → callee_in env text ≡ Some callee
       → callee.parameters ≡ Some parameters
-      → all_typed env es ≡ Ok ts
+      → check_exprs env es ≡ Ok ts
       → IsUnfit env.declarations.classes parameters ts at
       → Mismatches registrations script at
   of_method : {env : Environment} {t : TypedExpr} {p : Place} {text : List ℕ} {es : written.Exprs}
@@ -121,18 +121,18 @@ pub data Mismatches (registrations : List Registration) (script : List written.I
       → Occurs registrations script (Suffixes env t (written.suffix (written.Method p text es) ss))
       → object_of t.ty ≡ Some o
       → method_in env o text ≡ Some m
-      → all_typed env es ≡ Ok ts
+      → check_exprs env es ≡ Ok ts
       → IsUnfit env.declarations.classes m.parameters ts at
       → Mismatches registrations script at
   of_array : {env : Environment} {p : Place} {of : written.Element} {es : written.Exprs} {ts : List TypedExpr} {at : ℕ}
       → Occurs registrations script (Expression env (written.NewArray p of es))
-      → all_typed env es ≡ Ok ts
+      → check_exprs env es ≡ Ok ts
       → IsUnfit env.declarations.classes (array_parameters (length ts)) ts at
       → Mismatches registrations script at
   of_variable : {env : Environment} {of_at at : ℕ} {o : ObjectType} {es : List written.Expr} {callee : Callee}
       {parameters : List Ty} {ts : List TypedExpr} {arg_at : ℕ}
       → Occurs registrations script (Initializer env of_at at (ty.Object o) (written.Arguments es))
-      → all_typed env (written.exprs es) ≡ Ok ts
+      → check_exprs env (written.exprs es) ≡ Ok ts
       → construction env o (length ts) ≡ Some callee
       → callee.parameters ≡ Some parameters
       → IsUnfit env.declarations.classes parameters ts arg_at
@@ -141,7 +141,7 @@ pub data Mismatches (registrations : List Registration) (script : List written.I
   -- nowhere
   operand : {env : Environment} {p : Place} {op : UnaryOp} {e : written.Expr} {t : TypedExpr}
       → Occurs registrations script (Expression env (written.Unary p op e))
-      → typed env false e ≡ Ok t
+      → check_expr env false e ≡ Ok t
       → takes_operand op t.ty ≡ false
       → Mismatches registrations script t.at
   operand_before : {env : Environment} {t : TypedExpr} {s : written.Suffix} {ss : written.Suffixes}
@@ -151,18 +151,18 @@ pub data Mismatches (registrations : List Registration) (script : List written.I
       → Mismatches registrations script t.at
   operands : {env : Environment} {t u : TypedExpr} {op : BinaryOp} {e : written.Expr} {ls : written.Links} {at : ℕ}
       → Occurs registrations script (Links env t (written.link op e ls))
-      → typed env false e ≡ Ok u
+      → check_expr env false e ≡ Ok u
       → unify_operands op t u ≡ broken TypeMismatch at
       → Mismatches registrations script at
   converted : {env : Environment} {p : Place} {to : Primitive} {e : written.Expr} {t : TypedExpr}
       → Occurs registrations script (Expression env (written.Convert p to e))
-      → typed env false e ≡ Ok t
+      → check_expr env false e ≡ Ok t
       → converts (ty_of to) t.ty ≡ false
       → Mismatches registrations script t.at
   -- `cast`, of an object to a class or an interface
   cast_from : {env : Environment} {p : Place} {to : written.TypeName} {e : written.Expr} {t : TypedExpr}
       → Occurs registrations script (Expression env (written.Cast p to e))
-      → typed env false e ≡ Ok t
+      → check_expr env false e ≡ Ok t
       → may_be_object t.ty ≡ false
       → Mismatches registrations script t.at
   cast_to : {env : Environment} {p : Place} {to : written.TypeName} {e : written.Expr} {o : ObjectType}
@@ -173,34 +173,34 @@ pub data Mismatches (registrations : List Registration) (script : List written.I
   -- c ? a : b
   choice_condition : {env : Environment} {p : Place} {c a b : written.Expr} {t : TypedExpr}
       → Occurs registrations script (Expression env (written.Conditional p c a b))
-      → typed env false c ≡ Ok t
+      → check_expr env false c ≡ Ok t
       → may_be_bool t.ty ≡ false
       → Mismatches registrations script t.at
   branches : {env : Environment} {p : Place} {c a b : written.Expr} {x y : TypedExpr}
       → Occurs registrations script (Expression env (written.Conditional p c a b))
-      → typed env false a ≡ Ok x
-      → typed env false b ≡ Ok y
+      → check_expr env false a ≡ Ok x
+      → check_expr env false b ≡ Ok y
       → common x.ty y.ty ≡ None
       → Mismatches registrations script (if is_void x.ty then x.at else y.at)
   -- what is assigned does not fit the place, or the operator of `op=` takes no such operands
   assigned : {env : Environment} {p : Place} {op : AssignOp} {e v : written.Expr} {t u : TypedExpr}
       → Occurs registrations script (Expression env (written.Assign p e op v))
-      → typed env (is_assign op) e ≡ Ok t
-      → typed env false v ≡ Ok u
+      → check_expr env (is_assign op) e ≡ Ok t
+      → check_expr env false v ≡ Ok u
       → operator_of op ≡ None
       → fits env.declarations.classes t.ty u.ty ≡ false
       → Mismatches registrations script u.at
   updated : {env : Environment} {p : Place} {op : AssignOp} {c : Calculator} {e v : written.Expr} {t u : TypedExpr}
       {at : ℕ}
       → Occurs registrations script (Expression env (written.Assign p e op v))
-      → typed env (is_assign op) e ≡ Ok t
-      → typed env false v ≡ Ok u
+      → check_expr env (is_assign op) e ≡ Ok t
+      → check_expr env false v ≡ Ok u
       → operator_of op ≡ Some c
       → unify_operands (binary_of c) (term_at t.at t.ty Null) u ≡ broken TypeMismatch at
       → Mismatches registrations script at
   updated_place : {env : Environment} {p : Place} {op : AssignOp} {c : Calculator} {e v : written.Expr} {t : TypedExpr}
       → Occurs registrations script (Expression env (written.Assign p e op v))
-      → typed env (is_assign op) e ≡ Ok t
+      → check_expr env (is_assign op) e ≡ Ok t
       → operator_of op ≡ Some c
       → may_be_integer t.ty ≡ false
       → Mismatches registrations script t.at
@@ -216,24 +216,24 @@ pub data Mismatches (registrations : List Registration) (script : List written.I
       → Mismatches registrations script t.at
   no_index : {env : Environment} {t u : TypedExpr} {e : written.Expr} {ss : written.Suffixes}
       → Occurs registrations script (Suffixes env t (written.suffix (written.Index e) ss))
-      → typed env false e ≡ Ok u
+      → check_expr env false e ≡ Ok u
       → may_be_integer u.ty ≡ false
       → Mismatches registrations script u.at
   -- what a variable begins with; but of objects, its brackets have one value, and of a handle it has none
   initial_value : {env : Environment} {of_at at : ℕ} {of : Ty} {e : written.Expr} {t : TypedExpr}
       → Occurs registrations script (Initializer env of_at at of (written.Value e))
-      → typed env false e ≡ Ok t
+      → check_expr env false e ≡ Ok t
       → fits env.declarations.classes of t.ty ≡ false
       → Mismatches registrations script t.at
   initial_argument : {env : Environment} {of_at at : ℕ} {of : Ty} {es : List written.Expr} {t : TypedExpr}
       → Occurs registrations script (Initializer env of_at at of (written.Arguments es))
-      → all_typed env (written.exprs es) ≡ Ok (t ∷ [])
+      → check_exprs env (written.exprs es) ≡ Ok (t ∷ [])
       → fits env.declarations.classes of t.ty ≡ false
       → Mismatches registrations script t.at
   brackets : {env : Environment} {of_at at : ℕ} {of : Ty} {es : List written.Expr} {ts : List TypedExpr}
       → Occurs registrations script (Initializer env of_at at of (written.Arguments es))
       → is_object of ≡ false
-      → all_typed env (written.exprs es) ≡ Ok ts
+      → check_exprs env (written.exprs es) ≡ Ok ts
       → nat_eq (length ts) 1 ≡ false
       → Mismatches registrations script at
   handle_brackets : {env : Environment} {of_at at : ℕ} {o : ObjectType} {es : List written.Expr}
@@ -243,24 +243,24 @@ pub data Mismatches (registrations : List Registration) (script : List written.I
   condition : {scope : Scope} {s : written.Stmt} {c : written.Expr} {t : TypedExpr}
       → Occurs registrations script (Statement scope s)
       → condition_of s ≡ Some c
-      → typed scope.env false c ≡ Ok t
+      → check_expr scope.env false c ≡ Ok t
       → may_be_bool t.ty ≡ false
       → Mismatches registrations script t.at
   for_condition : {scope : Scope} {p : Place} {f s : written.Stmt} {c : written.Expr} {es : List written.Expr}
       {t : TypedExpr}
       → Occurs registrations script (Statement scope (written.For p f (Some c) es s))
-      → typed (after (block_of scope) f).env false c ≡ Ok t
+      → check_expr (after (block_of scope) f).env false c ≡ Ok t
       → may_be_bool t.ty ≡ false
       → Mismatches registrations script t.at
   switch_value : {scope : Scope} {p : Place} {e : written.Expr} {cs : written.Cases} {t : TypedExpr}
       → Occurs registrations script (Statement scope (written.Switch p e cs))
-      → typed scope.env false e ≡ Ok t
+      → check_expr scope.env false e ≡ Ok t
       → may_be_integer t.ty ≡ false
       → Mismatches registrations script t.at
   -- `return`: a value that does not fit, one where none is given, and none where one is
   returned : {scope : Scope} {p : Place} {e : written.Expr} {t : TypedExpr}
       → Occurs registrations script (Statement scope (written.Return p (Some e)))
-      → typed scope.env false e ≡ Ok t
+      → check_expr scope.env false e ≡ Ok t
       → fits scope.env.declarations.classes scope.result t.ty ≡ false
       → Mismatches registrations script t.at
   returned_value : {scope : Scope} {p : Place} {e : written.Expr}

@@ -15,11 +15,11 @@ use Rattle.ash_typing.specs.declared.types.Ty.{Ty}
 use Rattle.ash_typing.specs.declared.types.Ty.TheVariants as ty
 use Rattle.ash_typing.specs.Environment.{Environment, Declared, with_locals, inside}
 use Rattle.ash_typing.specs.ModuleDeclarations.{declared, ty_in}
-use Rattle.ash_typing.specs.Expressions.{TypedExpr, operate, typed, suffix_typed}
+use Rattle.ash_typing.specs.Expressions.{TypedExpr, operate, check_expr, check_suffix}
 use Rattle.ash_typing.specs.Declarations.{at_type, known_ty}
 use Rattle.ash_typing.specs.Switches.{integer_type_in}
 use Rattle.ash_typing.specs.Scopes.{Scope, block_of, loop_of, switch_of, with_variables, after, body_scope}
-use Rattle.ash_typing.specs.Items.{Names, passed_ty, result_typed, parameters_typed}
+use Rattle.ash_typing.specs.Items.{Names, passed_ty, check_result, check_parameters}
 use Rattle.ash_tree.specs.Items.{Routine, routine_of, constructing, classes_of, globals_of, variable_names}
 use Rattle.ash_tree.specs.Items.{member_names, item_names}
 use Rattle.ash_typing.specs.TypedModules.{signature_name, listed_name, environment}
@@ -126,7 +126,7 @@ pub data Occurs (registrations : List Registration) (script : List written.Item)
       → Occurs registrations script (Expression env e)
   suffixes : {env : Environment} {p : Place} {e : written.Expr} {ss : written.Suffixes} {t : TypedExpr}
       → Occurs registrations script (Expression env (written.Postfix p e ss))
-      → typed env false e ≡ Ok t
+      → check_expr env false e ≡ Ok t
       → Occurs registrations script (Suffixes env t ss)
   operand : {env : Environment} {p : Place} {op : UnaryOp} {e : written.Expr}
       → Occurs registrations script (Expression env (written.Unary p op e))
@@ -136,7 +136,7 @@ pub data Occurs (registrations : List Registration) (script : List written.Item)
       → Occurs registrations script (Expression env e)
   links : {env : Environment} {p : Place} {e : written.Expr} {ls : written.Links} {t : TypedExpr}
       → Occurs registrations script (Expression env (written.Binary p e ls))
-      → typed env false e ≡ Ok t
+      → check_expr env false e ≡ Ok t
       → Occurs registrations script (Links env t ls)
   condition : {env : Environment} {p : Place} {c a b : written.Expr}
       → Occurs registrations script (Expression env (written.Conditional p c a b))
@@ -164,7 +164,7 @@ pub data Occurs (registrations : List Registration) (script : List written.Item)
       → Occurs registrations script (Expression env e)
   other_links : {env : Environment} {t u next : TypedExpr} {op : BinaryOp} {e : written.Expr} {ls : written.Links}
       → Occurs registrations script (Links env t (written.link op e ls))
-      → typed env false e ≡ Ok u
+      → check_expr env false e ≡ Ok u
       → operate op t u ≡ Ok next
       → Occurs registrations script (Links env next ls)
   method_arguments : {env : Environment} {t : TypedExpr} {p : Place} {text : List ℕ} {es : written.Exprs}
@@ -176,7 +176,7 @@ pub data Occurs (registrations : List Registration) (script : List written.Item)
       → Occurs registrations script (Expression env e)
   other_suffixes : {env : Environment} {t next : TypedExpr} {s : written.Suffix} {ss : written.Suffixes}
       → Occurs registrations script (Suffixes env t (written.suffix s ss))
-      → suffix_typed env t s ≡ Ok next
+      → check_suffix env t s ≡ Ok next
       → Occurs registrations script (Suffixes env next ss)
   -- variables
   initial_value : {env : Environment} {of_at at : ℕ} {of : Ty} {e : written.Expr}
@@ -246,7 +246,7 @@ pub data Occurs (registrations : List Registration) (script : List written.Item)
       → Occurs registrations script (Expression scope.env e)
   cases : {scope : Scope} {p : Place} {e : written.Expr} {cs : written.Cases} {t : TypedExpr}
       → Occurs registrations script (Statement scope (written.Switch p e cs))
-      → typed scope.env false e ≡ Ok t
+      → check_expr scope.env false e ≡ Ok t
       → Occurs registrations script (Cases (switch_of scope) (integer_type_in t.ty) [] cs)
   returned : {scope : Scope} {p : Place} {e : written.Expr}
       → Occurs registrations script (Statement scope (written.Return p (Some e)))
@@ -276,7 +276,7 @@ pub data Occurs (registrations : List Registration) (script : List written.Item)
       → Occurs registrations script (Parameters env (before ++ record { name = x.name; of = of } ∷ []) xs)
   body : {env : Environment} {of : Ty} {r : Routine} {passed : List Declared}
       → Occurs registrations script (RoutinePhrase env of r)
-      → parameters_typed env [] r.parameters ≡ Ok passed
+      → check_parameters env [] r.parameters ≡ Ok passed
       → Occurs registrations script (Statements (body_scope (with_locals env passed) of) (written.stmts r.body))
   -- variables of a module or of a class
   variable : {env : Environment} {at : ℕ} {of : Ty} {names : Names} {d : written.Decl} {ds : List written.Decl}
@@ -307,7 +307,7 @@ pub data Occurs (registrations : List Registration) (script : List written.Item)
   method : {env : Environment} {class : List ℕ} {before : List written.Member} {f : written.Function}
       {ms : List written.Member} {of : Ty}
       → Occurs registrations script (ClassMembers env class before (written.AMethod f ∷ ms))
-      → result_typed env f.result ≡ Ok of
+      → check_result env f.result ≡ Ok of
       → Occurs registrations script (RoutinePhrase env of (routine_of f))
   constructor : {env : Environment} {class : List ℕ} {before : List written.Member} {c : written.Constructor}
       {ms : List written.Member}
@@ -333,7 +333,7 @@ pub data Occurs (registrations : List Registration) (script : List written.Item)
       → Occurs registrations script (Methods env [] i.methods)
   function : {env : Environment} {before : List written.Item} {f : written.Function} {is : List written.Item} {of : Ty}
       → Occurs registrations script (Items env before (written.AFunction f ∷ is))
-      → result_typed env f.result ≡ Ok of
+      → check_result env f.result ≡ Ok of
       → Occurs registrations script (RoutinePhrase env of (routine_of f))
   globals : {env : Environment} {before : List written.Item} {v : written.Vars} {is : List written.Item} {of : Ty}
       → Occurs registrations script (Items env before (written.AGlobal v ∷ is))

@@ -18,11 +18,11 @@ use Rattle.ash_typed.specs.StatementTree.{branch, Head, no_head, declared_head, 
 use Rattle.ash_typed.specs.StatementTree.{Switch, Break, Continue, Return, Stmts, no_stmt, stmt, labelled, Cases}
 use Rattle.ash_typed.specs.StatementTree.{no_case, next_case}
 use Rattle.ash_typing.specs.Environment.{Declared, Class, Environment}
-use Rattle.ash_typing.specs.Expressions.{TypedExpr, typed, all_typed, coerced_for_assignment}
+use Rattle.ash_typing.specs.Expressions.{TypedExpr, check_expr, check_exprs, coerced_for_assignment}
 use Rattle.ash_typing.specs.Expressions.{integer_of, bool_of, is_void}
 use Rattle.ash_typing.specs.ModuleDeclarations.{declared, ty_in}
-use Rattle.ash_typing.specs.Declarations.{at_type, known_ty, decl_typed}
-use Rattle.ash_typing.specs.Switches.{integer_type_in, label_typed}
+use Rattle.ash_typing.specs.Declarations.{at_type, known_ty, check_decl}
+use Rattle.ash_typing.specs.Switches.{integer_type_in, check_label}
 use Rattle.ash_typing.specs.Scopes.{Scope, block_of, loop_of, switch_of, with_variables, after, is_taken, body_scope}
 use Rattle.ash_typing.specs.Labels.{is_last}
 
@@ -33,56 +33,56 @@ unfoldable pub fresh : Scope → Ty → written.Decl → TypingResult Declared
 fresh scope of d = if is_taken scope d.name then broken NameTaken d.place.at else Ok (declared of d)
 
 -- Variables of the type at this offset are each seen from the end of their own on.
-abbrev pub decls_typed : Scope → ℕ → Ty → List written.Decl → TypingResult (List Initialization)
-decls_typed scope at of [] = Ok []
-decls_typed scope at of (d ∷ ds) =
-    fresh scope of d >>= λ v. decl_typed scope.env at of d
-    >>= λ value. decls_typed (with_variables scope (v ∷ [])) at of ds >>= λ values. Ok (value ∷ values)
+abbrev pub check_decls : Scope → ℕ → Ty → List written.Decl → TypingResult (List Initialization)
+check_decls scope at of [] = Ok []
+check_decls scope at of (d ∷ ds) =
+    fresh scope of d >>= λ v. check_decl scope.env at of d
+    >>= λ value. check_decls (with_variables scope (v ∷ [])) at of ds >>= λ values. Ok (value ∷ values)
 
-unfoldable pub vars_typed : Scope → written.Vars → TypingResult (List Initialization)
-vars_typed scope v = known_ty v.of (ty_in scope.env v.of) >>= λ of. decls_typed scope (at_type v.of) of v.decls
+unfoldable pub check_vars : Scope → written.Vars → TypingResult (List Initialization)
+check_vars scope v = known_ty v.of (ty_in scope.env v.of) >>= λ of. check_decls scope (at_type v.of) of v.decls
 
 -- The head of a `for` is nothing, variables or an expression, and no other statement.
-unfoldable pub head_typed : Scope → written.Stmt → TypingResult Head
-head_typed scope (written.Empty p) = Ok no_head
-head_typed scope (written.Declare p v) = vars_typed scope v >>= λ values. Ok (declared_head values)
-head_typed scope (written.Evaluate p e) = typed scope.env false e >>= λ t. Ok (evaluated_head t.tree)
-head_typed scope (written.Block p ss) = broken Misplaced p.at
-head_typed scope (written.If p c s) = broken Misplaced p.at
-head_typed scope (written.IfElse p c s t) = broken Misplaced p.at
-head_typed scope (written.While p c s) = broken Misplaced p.at
-head_typed scope (written.DoWhile p s c) = broken Misplaced p.at
-head_typed scope (written.For p f c es s) = broken Misplaced p.at
-head_typed scope (written.Switch p e cs) = broken Misplaced p.at
-head_typed scope (written.Break p) = broken Misplaced p.at
-head_typed scope (written.Continue p) = broken Misplaced p.at
-head_typed scope (written.Return p e) = broken Misplaced p.at
+unfoldable pub check_head : Scope → written.Stmt → TypingResult Head
+check_head scope (written.Empty p) = Ok no_head
+check_head scope (written.Declare p v) = check_vars scope v >>= λ values. Ok (declared_head values)
+check_head scope (written.Evaluate p e) = check_expr scope.env false e >>= λ t. Ok (evaluated_head t.tree)
+check_head scope (written.Block p ss) = broken Misplaced p.at
+check_head scope (written.If p c s) = broken Misplaced p.at
+check_head scope (written.IfElse p c s t) = broken Misplaced p.at
+check_head scope (written.While p c s) = broken Misplaced p.at
+check_head scope (written.DoWhile p s c) = broken Misplaced p.at
+check_head scope (written.For p f c es s) = broken Misplaced p.at
+check_head scope (written.Switch p e cs) = broken Misplaced p.at
+check_head scope (written.Break p) = broken Misplaced p.at
+check_head scope (written.Continue p) = broken Misplaced p.at
+check_head scope (written.Return p e) = broken Misplaced p.at
 
 -- statements, once their parts are walked
 
 abbrev pub condition_is : TypedExpr → TypingResult Bool
 condition_is t = bool_of t.at t.ty
 
-unfoldable pub if_typed : ℕ → TypingResult TypedExpr → TypingResult Stmt → TypingResult Stmt
-if_typed line condition inner =
+unfoldable pub check_if : ℕ → TypingResult TypedExpr → TypingResult Stmt → TypingResult Stmt
+check_if line condition inner =
     condition >>= λ c. inner >>= λ s. condition_is c >>= λ yes. Ok (If line c.tree s no_branch)
 
-unfoldable pub if_else_typed : ℕ → TypingResult TypedExpr → TypingResult Stmt → TypingResult Stmt → TypingResult Stmt
-if_else_typed line condition inner other =
+unfoldable pub check_if_else : ℕ → TypingResult TypedExpr → TypingResult Stmt → TypingResult Stmt → TypingResult Stmt
+check_if_else line condition inner other =
     condition >>= λ c. inner >>= λ s. other >>= λ t. condition_is c >>= λ yes. Ok (If line c.tree s (branch t))
 
-unfoldable pub while_typed : ℕ → TypingResult TypedExpr → TypingResult Stmt → TypingResult Stmt
-while_typed line condition body =
+unfoldable pub check_while : ℕ → TypingResult TypedExpr → TypingResult Stmt → TypingResult Stmt
+check_while line condition body =
     condition >>= λ c. body >>= λ s. condition_is c >>= λ yes. Ok (Repeat line (repeated First (Some c.tree) [] s))
 
-unfoldable pub do_while_typed : ℕ → TypingResult Stmt → TypingResult TypedExpr → TypingResult Stmt
-do_while_typed line body condition =
+unfoldable pub check_do_while : ℕ → TypingResult Stmt → TypingResult TypedExpr → TypingResult Stmt
+check_do_while line body condition =
     body >>= λ s. condition >>= λ c. condition_is c >>= λ yes. Ok (Repeat line (repeated Last (Some c.tree) [] s))
 
 -- The head of a `for` may have no condition.
-abbrev pub maybe_typed : Environment → Option written.Expr → TypingResult (Option TypedExpr)
-maybe_typed env None = Ok None
-maybe_typed env (Some e) = typed env false e >>= λ t. Ok (Some t)
+abbrev pub check_optional : Environment → Option written.Expr → TypingResult (Option TypedExpr)
+check_optional env None = Ok None
+check_optional env (Some e) = check_expr env false e >>= λ t. Ok (Some t)
 
 abbrev pub maybe_condition_is : Option TypedExpr → TypingResult Bool
 maybe_condition_is None = Ok true
@@ -91,19 +91,19 @@ maybe_condition_is (Some t) = condition_is t
 abbrev pub tree_of : TypedExpr → Expr
 tree_of t = t.tree
 
-unfoldable pub for_typed : ℕ → TypingResult Head → TypingResult (Option TypedExpr) → TypingResult (List TypedExpr)
+unfoldable pub check_for : ℕ → TypingResult Head → TypingResult (Option TypedExpr) → TypingResult (List TypedExpr)
     → TypingResult Stmt
     → TypingResult Stmt
-for_typed line head condition steps body =
+check_for line head condition steps body =
     head >>= λ h. condition >>= λ c. steps >>= λ ts. body >>= λ s. maybe_condition_is c
     >>= λ yes. Ok (For line h (repeated First (option_map tree_of c) (map tree_of ts) s))
 
 -- A `break` must have something that it leaves.
-unfoldable pub break_typed : Bool → Place → TypingResult Stmt
-break_typed leaves p = if leaves then Ok (Break p.line) else broken Misplaced p.at
+unfoldable pub check_break : Bool → Place → TypingResult Stmt
+check_break leaves p = if leaves then Ok (Break p.line) else broken Misplaced p.at
 
-unfoldable pub continue_typed : Bool → Place → TypingResult Stmt
-continue_typed leaves p = if leaves then Ok (Continue p.line) else broken Misplaced p.at
+unfoldable pub check_continue : Bool → Place → TypingResult Stmt
+check_continue leaves p = if leaves then Ok (Continue p.line) else broken Misplaced p.at
 
 -- A function of this type returns without a value.
 abbrev pub gives_nothing : Ty → Bool
@@ -115,49 +115,49 @@ gives_nothing _ = false
 unfoldable pub returned : List Class → Ty → ℕ → TypedExpr → TypingResult Expr
 returned classes of at t = if is_void of then broken TypeMismatch at else coerced_for_assignment classes of t
 
-unfoldable pub return_typed : Scope → Place → Option written.Expr → TypingResult Stmt
-return_typed scope p None = if gives_nothing scope.result then Ok (Return p.line None) else broken TypeMismatch p.at
-return_typed scope p (Some e) =
-    typed scope.env false e >>= λ t. returned scope.env.declarations.classes scope.result p.at t
+unfoldable pub check_return : Scope → Place → Option written.Expr → TypingResult Stmt
+check_return scope p None = if gives_nothing scope.result then Ok (Return p.line None) else broken TypeMismatch p.at
+check_return scope p (Some e) =
+    check_expr scope.env false e >>= λ t. returned scope.env.declarations.classes scope.result p.at t
     >>= λ value. Ok (Return p.line (Some value))
 
 -- the walk
 abbrev mutual
-  pub stmt_typed : Scope → written.Stmt → TypingResult Stmt
-  stmt_typed scope (written.Empty p) = Ok (Empty p.line)
-  stmt_typed scope (written.Declare p v) = vars_typed scope v >>= λ values. Ok (Declare p.line values)
-  stmt_typed scope (written.Evaluate p e) = typed scope.env false e >>= λ t. Ok (Evaluate p.line t.tree)
-  stmt_typed scope (written.Block p ss) = stmts_typed (block_of scope) ss >>= λ body. Ok (Block p.line body)
-  stmt_typed scope (written.If p c s) = if_typed p.line (typed scope.env false c) (stmt_typed scope s)
-  stmt_typed scope (written.IfElse p c s t) =
-      if_else_typed p.line (typed scope.env false c) (stmt_typed scope s) (stmt_typed scope t)
-  stmt_typed scope (written.While p c s) = while_typed p.line (typed scope.env false c) (stmt_typed (loop_of scope) s)
-  stmt_typed scope (written.DoWhile p s c) =
-      do_while_typed p.line (stmt_typed (loop_of scope) s) (typed scope.env false c)
-  stmt_typed scope (written.For p f c es s) =
-      for_typed p.line (head_typed (block_of scope) f) (maybe_typed (after (block_of scope) f).env c)
-      (all_typed (after (block_of scope) f).env (written.exprs es))
-      (stmt_typed (loop_of (after (block_of scope) f)) s)
-  stmt_typed scope (written.Switch p e cs) =
-      typed scope.env false e >>= λ v. cases_typed (switch_of scope) (integer_type_in v.ty) [] cs
+  pub check_stmt : Scope → written.Stmt → TypingResult Stmt
+  check_stmt scope (written.Empty p) = Ok (Empty p.line)
+  check_stmt scope (written.Declare p v) = check_vars scope v >>= λ values. Ok (Declare p.line values)
+  check_stmt scope (written.Evaluate p e) = check_expr scope.env false e >>= λ t. Ok (Evaluate p.line t.tree)
+  check_stmt scope (written.Block p ss) = check_stmts (block_of scope) ss >>= λ body. Ok (Block p.line body)
+  check_stmt scope (written.If p c s) = check_if p.line (check_expr scope.env false c) (check_stmt scope s)
+  check_stmt scope (written.IfElse p c s t) =
+      check_if_else p.line (check_expr scope.env false c) (check_stmt scope s) (check_stmt scope t)
+  check_stmt scope (written.While p c s) = check_while p.line (check_expr scope.env false c) (check_stmt (loop_of scope) s)
+  check_stmt scope (written.DoWhile p s c) =
+      check_do_while p.line (check_stmt (loop_of scope) s) (check_expr scope.env false c)
+  check_stmt scope (written.For p f c es s) =
+      check_for p.line (check_head (block_of scope) f) (check_optional (after (block_of scope) f).env c)
+      (check_exprs (after (block_of scope) f).env (written.exprs es))
+      (check_stmt (loop_of (after (block_of scope) f)) s)
+  check_stmt scope (written.Switch p e cs) =
+      check_expr scope.env false e >>= λ v. check_cases (switch_of scope) (integer_type_in v.ty) [] cs
       >>= λ rows. integer_of v.at v.ty >>= λ int_type. Ok (Switch p.line int_type v.tree rows)
-  stmt_typed scope (written.Break p) = break_typed (scope.in_loop || scope.in_switch) p
-  stmt_typed scope (written.Continue p) = continue_typed scope.in_loop p
-  stmt_typed scope (written.Return p e) = return_typed scope p e
+  check_stmt scope (written.Break p) = check_break (scope.in_loop || scope.in_switch) p
+  check_stmt scope (written.Continue p) = check_continue scope.in_loop p
+  check_stmt scope (written.Return p e) = check_return scope p e
 
   -- statements, each with the variables of those before it
-  pub stmts_typed : Scope → written.Stmts → TypingResult Stmts
-  stmts_typed scope written.no_stmt = Ok no_stmt
-  stmts_typed scope (written.stmt s ss) =
-      stmt_typed scope s >>= λ t. stmts_typed (after scope s) ss >>= λ ts. Ok (stmt t ts)
+  pub check_stmts : Scope → written.Stmts → TypingResult Stmts
+  check_stmts scope written.no_stmt = Ok no_stmt
+  check_stmts scope (written.stmt s ss) =
+      check_stmt scope s >>= λ t. check_stmts (after scope s) ss >>= λ ts. Ok (stmt t ts)
 
   -- labels, each after those before it, with the statements after them
-  pub cases_typed : Scope → Option IntType → List Label → written.Cases → TypingResult Cases
-  cases_typed scope int_type before written.no_case = Ok no_case
-  cases_typed scope int_type before (written.next_case (written.labelled p l ss) cs) =
-      label_typed int_type before (is_last cs) p.at l >>= λ label. stmts_typed scope ss
-      >>= λ body. cases_typed scope int_type (before ++ l ∷ []) cs >>= λ rest. Ok (next_case (labelled label body) rest)
+  pub check_cases : Scope → Option IntType → List Label → written.Cases → TypingResult Cases
+  check_cases scope int_type before written.no_case = Ok no_case
+  check_cases scope int_type before (written.next_case (written.labelled p l ss) cs) =
+      check_label int_type before (is_last cs) p.at l >>= λ label. check_stmts scope ss
+      >>= λ body. check_cases scope int_type (before ++ l ∷ []) cs >>= λ rest. Ok (next_case (labelled label body) rest)
 
 -- The body of a function that gives this type is typed so; its parameters are the locals.
-unfoldable pub body_typed : Environment → Ty → List written.Stmt → TypingResult Body
-body_typed env of body = stmts_typed (body_scope env of) (written.stmts body)
+unfoldable pub check_body : Environment → Ty → List written.Stmt → TypingResult Body
+check_body env of body = check_stmts (body_scope env of) (written.stmts body)

@@ -22,12 +22,12 @@ is_within None l = true
 is_within (Some k) l = holds_label k l
 
 -- The constant of a label is at this offset, after the labels before it.
-unfoldable pub constant_typed : Option IntType → List Label → ℕ → Label → TypingResult Label
-constant_typed int_type before at l =
+unfoldable pub check_constant : Option IntType → List Label → ℕ → Label → TypingResult Label
+check_constant int_type before at l =
     if is_within int_type l then (if list_any (is_same_constant l) before then broken DuplicateCase at else Ok l)
     else broken ConstantOutOfRange at
 
 -- A label is at this offset: `default` has to be the last one.
-unfoldable pub label_typed : Option IntType → List Label → Bool → ℕ → Label → TypingResult Label
-label_typed int_type before last at labels.Default = if last then Ok labels.Default else broken Misplaced at
-label_typed int_type before last at l = constant_typed int_type before at l
+unfoldable pub check_label : Option IntType → List Label → Bool → ℕ → Label → TypingResult Label
+check_label int_type before last at labels.Default = if last then Ok labels.Default else broken Misplaced at
+check_label int_type before last at l = check_constant int_type before at l

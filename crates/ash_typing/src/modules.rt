@@ -9,10 +9,10 @@ ghost use Rattle.ash_tree.specs.Tree as written;
 ghost use Rattle.ash_typing.specs.declared.fault.Fault.{Fault};
 ghost use Rattle.ash_typing.specs.FaultMeaning.{IsBrokenAt};
 ghost use Rattle.ash_typing.specs.FaultPlaces.{IsTokenOf, IsFaultOf};
-ghost use Rattle.ash_typing.specs.Items.{module_typed};
+ghost use Rattle.ash_typing.specs.Items.{check_module};
 ghost use Rattle.ash_typed.specs.Modules as modules;
 ghost use Rattle.ash_typed.specs.StatementTree.{Stmts};
-ghost use Rattle.ash_typing.specs.Statements.{stmts_typed};
+ghost use Rattle.ash_typing.specs.Statements.{check_stmts};
 ghost use Rattle.ash_typing.specs.TypedModules.{environment, IsTyped};
 ghost use Rattle.ash_typing.specs.TypedStatements.{IsKnownScope, AreStmts};
 ghost use Rattle.ash_typing.specs.Typing.{IsKnown};
@@ -22,11 +22,11 @@ ghost use Rattle.ash_typing.specs.Scopes.{Scope};
 /// then its answer is that tree. It does nothing when it runs.
 pub fn typing_of_statements()
     ensures complete { (scope : Scope) (ss : written.Stmts) (ts : Stmts) → AreStmts scope ss ts
-        → stmts_typed scope ss ≡ Ok ts }
+        → check_stmts scope ss ≡ Ok ts }
     ensures sound { (scope : Scope) → IsKnownScope scope → (ss : written.Stmts) (ts : Stmts)
-        → stmts_typed scope ss ≡ Ok ts → AreStmts scope ss ts }
+        → check_stmts scope ss ≡ Ok ts → AreStmts scope ss ts }
     ensures no_fault { (scope : Scope) → IsKnownScope scope → (ss : written.Stmts)
-        → IsOk (stmts_typed scope ss) ↔ ((ts : Stmts) × AreStmts scope ss ts) }
+        → IsOk (check_stmts scope ss) ↔ ((ts : Stmts) × AreStmts scope ss ts) }
     ensures one_tree { (scope : Scope) (ss : written.Stmts) (ts us : Stmts) → AreStmts scope ss ts
         → AreStmts scope ss us → ts ≡ us }
 {}
@@ -37,9 +37,9 @@ pub fn typing_of_statements()
 pub fn typing_of_modules()
     ensures agrees { (registrations : List Registration) (is : List written.Item)
         (typed : modules.Module)
-        → (module_typed registrations is ≡ Ok typed) ↔ IsTyped registrations is typed }
+        → (check_module registrations is ≡ Ok typed) ↔ IsTyped registrations is typed }
     ensures no_fault { (registrations : List Registration) (is : List written.Item)
-        → IsOk (module_typed registrations is)
+        → IsOk (check_module registrations is)
         ↔ ((typed : modules.Module) × IsTyped registrations is typed) }
     ensures one_tree { (registrations : List Registration) (is : List written.Item)
         (t u : modules.Module)
@@ -54,11 +54,11 @@ pub fn typing_of_modules()
 pub fn faults_are_at_tokens()
     ensures at_a_token { (registrations : List Registration) (free : ℕ) (tokens : Tokens)
         (is : List written.Item) (fault : Fault)
-        → Derives free tokens is → module_typed registrations is ≡ Err fault
+        → Derives free tokens is → check_module registrations is ≡ Err fault
         → IsTokenOf tokens fault.at }
     ensures at_its_token { (registrations : List Registration) (free : ℕ) (tokens : Tokens)
         (is : List written.Item) (fault : Fault)
-        → Derives free tokens is → module_typed registrations is ≡ Err fault
+        → Derives free tokens is → check_module registrations is ≡ Err fault
         → IsFaultOf tokens fault }
 {}
 
@@ -67,6 +67,6 @@ pub fn faults_are_at_tokens()
 pub fn faults_are_what_they_say()
     ensures broken_there { (registrations : List Registration) (free : ℕ) (tokens : Tokens)
         (is : List written.Item) (fault : Fault)
-        → Derives free tokens is → module_typed registrations is ≡ Err fault
+        → Derives free tokens is → check_module registrations is ≡ Err fault
         → IsBrokenAt registrations is tokens fault }
 {}

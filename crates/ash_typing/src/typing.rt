@@ -5,9 +5,9 @@ ghost use Rattle.ash_tree.specs.Tree as written;
 ghost use Rattle.ash_typing.specs.declared.types.Ty.{Ty};
 ghost use Rattle.ash_typing.specs.declared.types.Ty.TheVariants.{Unknown};
 ghost use Rattle.ash_typing.specs.Environment.{Environment};
-ghost use Rattle.ash_typing.specs.Expressions.{TypedExpr, typed, all_typed, first_at};
+ghost use Rattle.ash_typing.specs.Expressions.{TypedExpr, check_expr, check_exprs, first_at};
 ghost use Rattle.ash_typing.specs.Expressions.{placed, all_placed, term_of};
-ghost use Rattle.ash_typing.specs.Declarations.{Initialization, initialized, decl_typed};
+ghost use Rattle.ash_typing.specs.Declarations.{Initialization, initialized, check_decl};
 ghost use Rattle.ash_typed.specs.Tree.{Expr};
 ghost use Rattle.ash_typed.specs.TypeOf.{type_of};
 ghost use Rattle.ash_typed.specs.declared.types.VarType.{VarType};
@@ -22,11 +22,11 @@ ghost use Rattle.ash_typing.specs.Terms.{Term};
 /// type gives. What can be assigned has the tree of a read. It does nothing when it runs.
 pub fn typing_of_expressions()
     ensures complete { (env : Environment) (left : Bool) (e : written.Expr) (t : Term)
-        → HasType env left e t → typed env left e ≡ Ok (placed (first_at e) t) }
+        → HasType env left e t → check_expr env left e ≡ Ok (placed (first_at e) t) }
     ensures sound { (env : Environment) → IsKnown env → (left : Bool) (e : written.Expr)
-        (t : TypedExpr) → typed env left e ≡ Ok t → HasType env left e (term_of t) }
+        (t : TypedExpr) → check_expr env left e ≡ Ok t → HasType env left e (term_of t) }
     ensures no_fault { (env : Environment) → IsKnown env → (left : Bool) (e : written.Expr)
-        → IsOk (typed env left e) ↔ ((t : Term) × HasType env left e t) }
+        → IsOk (check_expr env left e) ↔ ((t : Term) × HasType env left e t) }
     ensures one_term { (env : Environment) (left : Bool) (e : written.Expr) (t u : Term)
         → HasType env left e t → HasType env left e u → t ≡ u }
     ensures known { (env : Environment) → IsKnown env → (left : Bool) (e : written.Expr) (t : Term)
@@ -40,11 +40,11 @@ pub fn typing_of_expressions()
 /// The same of arguments. It does nothing when it runs.
 pub fn typing_of_arguments()
     ensures complete { (env : Environment) (es : written.Exprs) (ts : List Term)
-        → AllHaveType env es ts → all_typed env es ≡ Ok (all_placed es ts) }
+        → AllHaveType env es ts → check_exprs env es ≡ Ok (all_placed es ts) }
     ensures sound { (env : Environment) → IsKnown env → (es : written.Exprs) (ts : List TypedExpr)
-        → all_typed env es ≡ Ok ts → AllHaveType env es (map term_of ts) }
+        → check_exprs env es ≡ Ok ts → AllHaveType env es (map term_of ts) }
     ensures no_fault { (env : Environment) → IsKnown env → (es : written.Exprs)
-        → IsOk (all_typed env es) ↔ ((ts : List Term) × AllHaveType env es ts) }
+        → IsOk (check_exprs env es) ↔ ((ts : List Term) × AllHaveType env es ts) }
 {}
 
 /// The same of variables and of what they begin with, whatever the offsets of the type and of the name. It does nothing
@@ -57,12 +57,12 @@ pub fn typing_of_variables()
         → (of_at at : ℕ) (of : Ty) (i : written.Initializer) (value : Option Expr)
         → initialized env of_at at of i ≡ Ok value → BeginsWith env of i value }
     ensures complete { (env : Environment) (at : ℕ) (of : Ty) (d : written.Decl)
-        (i : Initialization) → IsDeclared env of d i → decl_typed env at of d ≡ Ok i }
+        (i : Initialization) → IsDeclared env of d i → check_decl env at of d ≡ Ok i }
     ensures sound { (env : Environment) → IsKnown env
-        → (at : ℕ) (of : Ty) (d : written.Decl) (i : Initialization) → decl_typed env at of d ≡ Ok i
+        → (at : ℕ) (of : Ty) (d : written.Decl) (i : Initialization) → check_decl env at of d ≡ Ok i
         → IsDeclared env of d i }
     ensures no_fault { (env : Environment) → IsKnown env → (at : ℕ) (of : Ty) (d : written.Decl)
-        → IsOk (decl_typed env at of d) ↔ ((i : Initialization) × IsDeclared env of d i) }
+        → IsOk (check_decl env at of d) ↔ ((i : Initialization) × IsDeclared env of d i) }
 {}
 
 /// That each type of variables is one of a typed tree, and each of a typed tree one of variables. It does nothing when

@@ -26,7 +26,7 @@ use Rattle.ash_wellformed.specs.WellFormed.{Context, IsContext, Shape, shape_of,
 use Rattle.ash_wellformed.specs.Laws.{Goes, Leaves, done, ended, Evaluates}
 use Rattle.ash_wellformed.proofs.Values.{all_live}
 use Rattle.ash_wellformed.proofs.Changes.{world_changed, world_follows, changed_stays}
-use Rattle.ash_wellformed.proofs.Parts.{same_elements, elements_typed, elements_few, elements_put}
+use Rattle.ash_wellformed.proofs.Parts.{same_elements, elements_fit, elements_few, elements_put}
 use Rattle.ash_wellformed.proofs.Lists.{all_append, all_take, all_drop, all_replicate}
 use Rattle.ash_wellformed.proofs.Triples.{bind, after_demand, safe, goes_itself, goes_more, hold_goes}
 use Rattle.ash_wellformed.proofs.Hosts.{world_goes, well_after}
@@ -76,7 +76,7 @@ module _ {c : Context} {env : Environment} {envs : List Environment} where
     pub elements_are : AllAre c.program (a.world).objects (type_of_element e) elements_here
     elements_are =
         let there = object_with number (a.world).objects shape at in
-        subst (AllAre c.program (a.world).objects (type_of_element e)) (sym (words_of number a.world there.0 there.1)) (elements_typed context i there.0 there.2 ((h.world).living.each number there.0 there.1))
+        subst (AllAre c.program (a.world).objects (type_of_element e)) (sym (words_of number a.world there.0 there.1)) (elements_fit context i there.0 there.2 ((h.world).living.each number there.0 there.1))
 
     pub few_elements : length elements_here ≤ max_elements
     few_elements =

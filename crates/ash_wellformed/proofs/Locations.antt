@@ -28,7 +28,7 @@ use Rattle.ash_wellformed.specs.Laws.{Goes, Offers, Leaves, done, Evaluates}
 use Rattle.ash_wellformed.proofs.Values.{integer_is_none, value_lives, handle_cases, none_in}
 use Rattle.ash_wellformed.proofs.Fits.{kept_value, unkept, given_value}
 use Rattle.ash_wellformed.proofs.Integers.{integer_word, counted_integer, given_integer, calculate_gives}
-use Rattle.ash_wellformed.proofs.Parts.{fields_typed, fields_put}
+use Rattle.ash_wellformed.proofs.Parts.{fields_fit, fields_put}
 use Rattle.ash_wellformed.proofs.Lists.{value_at, values_set, all_at, all_set}
 use Rattle.ash_wellformed.proofs.Triples.{follows_itself, bind, weaken, safe, goes_itself, goes_more, hold_goes, carry}
 use Rattle.ash_wellformed.proofs.Hosts.{world_goes, well_after, get_property_gives, set_property_goes}
@@ -73,7 +73,7 @@ module _ {c : Context} (context : IsContext c) {env : Environment} {envs : List 
   field_values : {a : Activity} (h : IsWellFormed c env envs a) (number : ℕ) {class : ℕ} {shape : Shape} (i : IsOfClass c.program class shape) → shape_at number (a.world).objects ≡ Some shape → AreValues c.program (a.world).objects (map type_declared (i.source).fields) (words_in number a.world)
   field_values {a} h number {class} {shape} i at =
       let there = object_with number (a.world).objects shape at in
-      subst (AreValues c.program (a.world).objects (map type_declared (i.source).fields)) (sym (words_of number a.world there.0 there.1)) (fields_typed context i there.0 there.2 ((h.world).living.each number there.0 there.1))
+      subst (AreValues c.program (a.world).objects (map type_declared (i.source).fields)) (sym (words_of number a.world there.0 there.1)) (fields_fit context i there.0 there.2 ((h.world).living.each number there.0 there.1))
 
   pub read_gives : {a : Activity} (l : Location) {of : VarType} → IsWellFormed c env envs a → IsLocated c env a l of → Leaves c (IsRead c env envs l of a) (read l a)
   read_gives (Local slot) {of} h (in_local at) = done (record { goes = goes_itself h; value = value_at (h.frame).locals slot of at; located = in_local at })

@@ -67,14 +67,14 @@ module _ {c : Context} (context : IsContext c) where
         subst (λ (x : Class). AreValues p all (types_in x) ws) one of_tree
 
     -- an object of the class has values of the types of its fields
-    pub fields_typed : (o : Plain (List ℕ)) → shape_of o ≡ shape → IsObject c.modules all o → AreValues p all (types_in i.source) (fields_of o)
-    fields_typed (Script owner place ws) e (is_script s) =
+    pub fields_fit : (o : Plain (List ℕ)) → shape_of o ≡ shape → IsObject c.modules all o → AreValues p all (types_in i.source) (fields_of o)
+    fields_fit (Script owner place ws) e (is_script s) =
         let whole = e ∙ i.is in
         let name : owner ≡ p.name = same_owner whole in
         let at : place ≡ place_of_class p.tree class = same_place whole in
         values_as owner s.tree s.source s.class ws name (same_tree owner s.tree s.known name) s.at (sym s.is ∙ at) s.values
-    fields_typed (Array of ws) e o = absurd (let whole = e ∙ i.is in cc)
-    fields_typed (Host kind state) e o = absurd (let whole = e ∙ i.is in cc)
+    fields_fit (Array of ws) e o = absurd (let whole = e ∙ i.is in cc)
+    fields_fit (Host kind state) e o = absurd (let whole = e ∙ i.is in cc)
 
     -- and stays well-formed with other values of these types
     pub fields_put : (o : Plain (List ℕ)) (ws : List Word) → shape_of o ≡ shape → AreValues p all (types_in i.source) ws → IsObject c.modules all (with_words ws o)
@@ -178,10 +178,10 @@ module _ {c : Context} (context : IsContext c) where
 
   module _ {all : Objects (List ℕ)} {e : typed_element.Element} {shape : Shape} (i : IsArrayOf p e shape) where
     -- an array of the elements has values of their type
-    pub elements_typed : (o : Plain (List ℕ)) → shape_of o ≡ shape → IsObject c.modules all o → AllAre p all (type_of_element e) (fields_of o)
-    elements_typed (Script owner place ws) s o = absurd (let whole = s ∙ i.is in cc)
-    elements_typed (Array of ws) s (is_array a) = elements_as a.program e a.element a.known i.named a.named (sym a.is ∙ same_elements (s ∙ i.is)) a.values
-    elements_typed (Host kind state) s o = absurd (let whole = s ∙ i.is in cc)
+    pub elements_fit : (o : Plain (List ℕ)) → shape_of o ≡ shape → IsObject c.modules all o → AllAre p all (type_of_element e) (fields_of o)
+    elements_fit (Script owner place ws) s o = absurd (let whole = s ∙ i.is in cc)
+    elements_fit (Array of ws) s (is_array a) = elements_as a.program e a.element a.known i.named a.named (sym a.is ∙ same_elements (s ∙ i.is)) a.values
+    elements_fit (Host kind state) s o = absurd (let whole = s ∙ i.is in cc)
 
     pub elements_few : (o : Plain (List ℕ)) → shape_of o ≡ shape → IsObject c.modules all o → length (fields_of o) ≤ max_elements
     elements_few (Script owner place ws) s o = absurd (let whole = s ∙ i.is in cc)

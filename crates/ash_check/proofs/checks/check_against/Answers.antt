@@ -15,7 +15,7 @@ use Rattle.ash_check.specs.Faults.{fault_of_error}
 use Rattle.ash_check.proofs.CheckedLaws.{is_checked}
 use Rattle.ash_check.proofs.CheckLaws.{error_is_reported, reported_if_err, typed_is_checked, cycle_is_reported}
 use Rattle.ash_check.proofs.CheckLaws.{path_begins_within, path_is_within, named_cycle}
-use Rattle.ash_typing.proofs.ModuleLaws.{module_typed-exact}
+use Rattle.ash_typing.proofs.ModuleLaws.{check_module-exact}
 use Rattle.ash_check.proofs.checks.check_against.Goals as goal
 
 pub returns-in_err-module-clause-answer : goal.returns-in_err-module-clause-answer
@@ -58,7 +58,7 @@ returns-in_ok-cycle_names-in-Err-clause-cycle c =
     subst (IsNamedCycle classes) (sym c.in_ok-cycle_names-in-Err.ensures) (named_cycle classes c.in-Err.cycle.first c.in-Err.cycle.others.items reported.cycle.path)
 
 pub returns-in-Ok-clause-typed : goal.returns-in-Ok-clause-typed
-returns-in-Ok-clause-typed c = (module_typed-exact (registered c.args.registry.now) (written_module c.args.script.now) (module_of c.in_ok-module.module)).0 c.in_ok-module.ensures
+returns-in-Ok-clause-typed c = (check_module-exact (registered c.args.registry.now) (written_module c.args.script.now) (module_of c.in_ok-module.module)).0 c.in_ok-module.ensures
 
 pub returns-in-Ok-clause-sound : goal.returns-in-Ok-clause-sound
 returns-in-Ok-clause-sound c =

@@ -1,10 +1,10 @@
 use Rattle.std.proofs.Common.{◌≡◌, map, drop}
 use Rattle.ash_tree.specs.Views.{interface_method_of}
-use Rattle.ash_typing.specs.Items.{signatures_typed}
+use Rattle.ash_typing.specs.Items.{check_signatures}
 use Rattle.ash_expressions.specs.Views.{environment_of}
 use Rattle.ash_check.specs.WalkViews.{interface_parts_of}
 use Rattle.ash_check.proofs.interfaces.check_interface.Given as goal
 
 -- the outcome of what is left is that of the whole
 abbrev pub invariant-loop-method : goal.invariant-loop-method
-invariant-loop-method l = signatures_typed (environment_of l.env) (interface_parts_of l.parts) (map interface_method_of (drop l.method-index l.interface.methods.items)) ≡ signatures_typed (environment_of l.env) (interface_parts_of l.initial.parts) (map interface_method_of l.interface.methods.items)
+invariant-loop-method l = check_signatures (environment_of l.env) (interface_parts_of l.parts) (map interface_method_of (drop l.method-index l.interface.methods.items)) ≡ check_signatures (environment_of l.env) (interface_parts_of l.initial.parts) (map interface_method_of l.interface.methods.items)

@@ -7,4 +7,4 @@ use Rattle.ash_check.proofs.items.check_items.Given as goal
 
 -- the outcome of what is left is that of the whole
 abbrev pub invariant-loop-item : goal.invariant-loop-item
-invariant-loop-item l = definition.items_typed (environment_of l.env) (walked_of (names_of l.names) l.typed) (map item_of (drop l.item-index l.items)) ≡ definition.items_typed (environment_of l.env) (walked_of (names_of l.initial.names) l.initial.typed) (map item_of l.items)
+invariant-loop-item l = definition.check_items (environment_of l.env) (walked_of (names_of l.names) l.typed) (map item_of (drop l.item-index l.items)) ≡ definition.check_items (environment_of l.env) (walked_of (names_of l.initial.names) l.initial.typed) (map item_of l.items)

@@ -1,10 +1,10 @@
 use Rattle.std.proofs.Common.{◌≡◌, map, drop}
 use Rattle.ash_tree.specs.Views.{member_of}
-use Rattle.ash_typing.specs.Items.{members_typed}
+use Rattle.ash_typing.specs.Items.{check_members}
 use Rattle.ash_expressions.specs.Views.{environment_of}
 use Rattle.ash_check.specs.WalkViews.{names_of, members_of}
 use Rattle.ash_check.proofs.items.check_members.Given as goal
 
 -- the outcome of what is left is that of the whole
 abbrev pub invariant-loop-member : goal.invariant-loop-member
-invariant-loop-member l = members_typed (environment_of l.inside) (members_of (names_of l.names) l.typed) (map member_of (drop l.member-index l.class.members.items)) ≡ members_typed (environment_of l.inside) (members_of (names_of l.initial.names) l.initial.typed) (map member_of l.class.members.items)
+invariant-loop-member l = check_members (environment_of l.inside) (members_of (names_of l.names) l.typed) (map member_of (drop l.member-index l.class.members.items)) ≡ check_members (environment_of l.inside) (members_of (names_of l.initial.names) l.initial.typed) (map member_of l.class.members.items)

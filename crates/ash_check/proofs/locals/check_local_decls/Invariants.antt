@@ -9,5 +9,5 @@ use Rattle.ash_check.proofs.locals.check_local_decls.Given as goal
 -- the results so far, with those of the rest, are those of the whole; and so are the locals
 abbrev pub invariant-loop-decl : goal.invariant-loop-decl
 invariant-loop-decl l =
-    (values_after (values_of l.values) (definition.decls_typed (scope_of l.scope (locals_of l.locals)) l.written.at l.written.of (map decl_of (drop l.decl-index l.decls))) ≡ definition.decls_typed (scope_of l.scope (locals_of l.initial.locals)) l.written.at l.written.of (map decl_of l.decls))
+    (values_after (values_of l.values) (definition.check_decls (scope_of l.scope (locals_of l.locals)) l.written.at l.written.of (map decl_of (drop l.decl-index l.decls))) ≡ definition.check_decls (scope_of l.scope (locals_of l.initial.locals)) l.written.at l.written.of (map decl_of l.decls))
     × (locals_of l.locals ++ map (declared l.written.of) (map decl_of (drop l.decl-index l.decls)) ≡ locals_of l.initial.locals ++ map (declared l.written.of) (map decl_of l.decls))

@@ -12,5 +12,5 @@ fails_first (errors.Fault f) first rest h = ap (λ x. x >>= rest) h
 fails_first errors.NoMemory first rest h = tt
 
 pub returns-in-Err : goal.returns-in-Err
-unfolding definition.for_typed
+unfolding definition.check_for
 returns-in-Err c = fails_first c.in-Err.error _ _ c.in-Err.ensures

@@ -7,13 +7,13 @@ use Rattle.ash_tree.specs.Views.{stmt_of, case_of}
 use Rattle.ash_typed.specs.BodyViews as typed_views
 use Rattle.ash_typing.specs.Labels.{is_last}
 use Rattle.ash_typing.specs.Statements as definition
-use Rattle.ash_typing.specs.Statements.{stmts_typed}
-use Rattle.ash_typing.specs.Switches.{label_typed}
+use Rattle.ash_typing.specs.Statements.{check_stmts}
+use Rattle.ash_typing.specs.Switches.{check_label}
 use Rattle.ash_expressions.specs.Agreement.{Agrees, FailsWith}
 use Rattle.ash_expressions.specs.Views.{binding_of}
 use Rattle.ash_check.specs.StatementViews.{locals_of, scope_of}
 use Rattle.ash_check.proofs.StatementLaws.{Extends, at_first, extends_itself, extends_next, locals_go, block_step}
-use Rattle.ash_check.proofs.StatementLaws.{block_end, block_of_source, switch_of_source, for_of_source, block_typed}
+use Rattle.ash_check.proofs.StatementLaws.{block_end, block_of_source, switch_of_source, for_of_source, block_checked}
 use Rattle.ash_check.proofs.StatementLaws.{block_fails, cases_step, label_fails, labelled_fails, cases_end}
 use Rattle.ash_check.proofs.StatementLaws.{first_is_all, any_ok}
 use Rattle.ash_check.proofs.statements.+statements.Goals as goal
@@ -52,8 +52,8 @@ check_cases-returns-in_err-known-clause-typed t c =
     let last = is_last (written.cases (map case_of (drop (c.loop-i.i + 1) labels))) in
     let at = (code_case.out-Case x).place.at in
     let l = (code_case.out-Case x).label in
-    let same_label : label_typed c.args.int_type c.loop-i.before.items last at l ≡ label_typed c.args.int_type c.deref.result.now c.is_last-last.result at l =
-    ap (λ before. label_typed c.args.int_type before last at l) (sym c.deref.ensures.value) ∙ ap (λ b. label_typed c.args.int_type c.deref.result.now b at l) (sym c.is_last-last.ensures) in
+    let same_label : check_label c.args.int_type c.loop-i.before.items last at l ≡ check_label c.args.int_type c.deref.result.now c.is_last-last.result at l =
+    ap (λ before. check_label c.args.int_type before last at l) (sym c.deref.ensures.value) ∙ ap (λ b. check_label c.args.int_type c.deref.result.now b at l) (sym c.is_last-last.ensures) in
     rw (p.1, p.2) (label_fails c.loop-i.typed.items (scope_of c.args.scope.now (locals_of c.loop-i.locals)) c.args.int_type c.loop-i.before.items labels c.loop-i.i x c.in_err-known.field-0.0 _ c.loop-i-test.true c.index-labels-i.is (subst (FailsWith c.in_err-known.field-0.0) (sym same_label) c.in_err-known.ensures) c.loop-i.invariant.0)
 
 pub check_cases-returns-in_err-body-clause-typed : goal.check_cases-returns-in_err-body-clause-typed
@@ -64,10 +64,10 @@ check_cases-returns-in_err-body-clause-typed t c =
     let last = is_last (written.cases (map case_of (drop (c.loop-i.i + 1) labels))) in
     let at = (code_case.out-Case x).place.at in
     let l = (code_case.out-Case x).label in
-    let same_label : label_typed c.args.int_type c.loop-i.before.items last at l ≡ label_typed c.args.int_type c.deref.result.now c.is_last-last.result at l =
-    ap (λ before. label_typed c.args.int_type before last at l) (sym c.deref.ensures.value) ∙ ap (λ b. label_typed c.args.int_type c.deref.result.now b at l) (sym c.is_last-last.ensures) in
+    let same_label : check_label c.args.int_type c.loop-i.before.items last at l ≡ check_label c.args.int_type c.deref.result.now c.is_last-last.result at l =
+    ap (λ before. check_label c.args.int_type before last at l) (sym c.deref.ensures.value) ∙ ap (λ b. check_label c.args.int_type c.deref.result.now b at l) (sym c.is_last-last.ensures) in
     let scope = scope_of c.args.scope.now (locals_of c.loop-i.locals) in
-    let body : stmts_typed scope (written.stmts (map stmt_of (code_case.out-Case x).body.items)) ≡ stmts_typed scope (written.stmts (map stmt_of c.deref-in-loop-i.result.now)) = ap (λ xs. stmts_typed scope (written.stmts (map stmt_of xs))) (sym c.deref-in-loop-i.ensures.value) in
+    let body : check_stmts scope (written.stmts (map stmt_of (code_case.out-Case x).body.items)) ≡ check_stmts scope (written.stmts (map stmt_of c.deref-in-loop-i.result.now)) = ap (λ xs. check_stmts scope (written.stmts (map stmt_of xs))) (sym c.deref-in-loop-i.ensures.value) in
     rw (p.1, p.2) (labelled_fails c.loop-i.typed.items scope c.args.int_type c.loop-i.before.items labels c.loop-i.i x c.in_ok-known.known c.in_err-body.field-0.0 _ c.loop-i-test.true c.index-labels-i.is (same_label ∙ c.in_ok-known.ensures) (subst (FailsWith c.in_err-body.field-0.0) (sym body) c.in_err-body.ensures.typed) c.loop-i.invariant.0)
 
 pub check_cases-loop-i-preserved : goal.check_cases-loop-i-preserved
@@ -77,10 +77,10 @@ check_cases-loop-i-preserved t c =
     let last = is_last (written.cases (map case_of (drop (c.loop-i.i + 1) labels))) in
     let at = (code_case.out-Case x).place.at in
     let l = (code_case.out-Case x).label in
-    let same_label : label_typed c.args.int_type c.loop-i.before.items last at l ≡ label_typed c.args.int_type c.deref.result.now c.is_last-last.result at l =
-    ap (λ before. label_typed c.args.int_type before last at l) (sym c.deref.ensures.value) ∙ ap (λ b. label_typed c.args.int_type c.deref.result.now b at l) (sym c.is_last-last.ensures) in
+    let same_label : check_label c.args.int_type c.loop-i.before.items last at l ≡ check_label c.args.int_type c.deref.result.now c.is_last-last.result at l =
+    ap (λ before. check_label c.args.int_type before last at l) (sym c.deref.ensures.value) ∙ ap (λ b. check_label c.args.int_type c.deref.result.now b at l) (sym c.is_last-last.ensures) in
     let scope = scope_of c.args.scope.now (locals_of c.loop-i.locals) in
-    let body : stmts_typed scope (written.stmts (map stmt_of (code_case.out-Case x).body.items)) ≡ stmts_typed scope (written.stmts (map stmt_of c.deref-in-loop-i.result.now)) = ap (λ xs. stmts_typed scope (written.stmts (map stmt_of xs))) (sym c.deref-in-loop-i.ensures.value) in
+    let body : check_stmts scope (written.stmts (map stmt_of (code_case.out-Case x).body.items)) ≡ check_stmts scope (written.stmts (map stmt_of c.deref-in-loop-i.result.now)) = ap (λ xs. check_stmts scope (written.stmts (map stmt_of xs))) (sym c.deref-in-loop-i.ensures.value) in
     let next = scope_of c.args.scope.now (locals_of c.check_block.new.locals) in (
       cases_step c.loop-i.typed.items c.push-in-loop-i.new.self.items c.case.result scope next c.args.int_type c.loop-i.before.items c.push.new.self.items labels c.loop-i.i x c.in_ok-known.known (typed_views.body_of c.in_ok-body.body.items) _ c.in_ok-push-2.ensures.items c.in_ok-push.ensures.items (ap (scope_of c.args.scope.now) c.in_ok-body.ensures.unchanged) c.loop-i-test.true c.index-labels-i.is (same_label ∙ c.in_ok-known.ensures) (body ∙ c.in_ok-body.ensures.typed) c.case.ensures.label_first c.loop-i.invariant.0,
       c.in_ok-body.ensures.unchanged ∙ c.loop-i.invariant.1,
@@ -101,19 +101,19 @@ pub check_inner_block-returns-clause-typed : goal.check_inner_block-returns-clau
 check_inner_block-returns-clause-typed t c =
     let scope = scope_of c.args.scope.now (locals_of c.args.locals.now) in
     let k : c.len.result ≡ length (locals_of c.args.locals.now) = omega (arith, c.len.ensures, c.args.locals.now.ok.0, length-map c.args.locals.now.items binding_of) in
-    block_typed scope _ _ c.args.place (written.stmts (map stmt_of c.args.body.now)) _ refl (first_is_all scope c.len.result k) c.in_ok-body.ensures.typed ∙ ap Ok (sym c.block-typed.ensures.body_in_order)
+    block_checked scope _ _ c.args.place (written.stmts (map stmt_of c.args.body.now)) _ refl (first_is_all scope c.len.result k) c.in_ok-body.ensures.typed ∙ ap Ok (sym c.block-typed.ensures.body_in_order)
 
 pub check_stmt-returns-in-Block-clause-typed : goal.check_stmt-returns-in-Block-clause-typed
 check_stmt-returns-in-Block-clause-typed t c =
     let scope = scope_of c.args.scope.now (locals_of c.args.locals.now) in
     let is = block_of_source c.args.source.now c.in-Block.body c.deref-in-Block.result.now c.in-Block.is c.deref-in-Block.ensures.value in
-    subst (λ (x : written.Stmt). Agrees typed_views.stmt_of c.check_inner_block.result (definition.stmt_typed scope x)) (sym is) c.check_inner_block.ensures.typed
+    subst (λ (x : written.Stmt). Agrees typed_views.stmt_of c.check_inner_block.result (definition.check_stmt scope x)) (sym is) c.check_inner_block.ensures.typed
 
 pub check_stmt-returns-in-Switch-clause-typed : goal.check_stmt-returns-in-Switch-clause-typed
 check_stmt-returns-in-Switch-clause-typed t c =
     let scope = scope_of c.args.scope.now (locals_of c.args.locals.now) in
     let is = switch_of_source c.args.source.now c.in-Switch.value c.in-Switch.cases c.deref-in-Switch.result.now c.in-Switch.is c.deref-in-Switch.ensures.value in
-    subst (λ (x : written.Stmt). Agrees typed_views.stmt_of c.check_switch.result (definition.stmt_typed scope x)) (sym is) c.check_switch.ensures.typed
+    subst (λ (x : written.Stmt). Agrees typed_views.stmt_of c.check_switch.result (definition.check_stmt scope x)) (sym is) c.check_switch.ensures.typed
 
 pub check_for-returns-clause-unchanged : goal.check_for-returns-clause-unchanged
 check_for-returns-clause-unchanged t c =

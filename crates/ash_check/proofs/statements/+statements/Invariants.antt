@@ -49,10 +49,10 @@ decreases-check_cases l = 3 * most size-Case l.labels.now + 1
 
 abbrev pub invariant-check_block-loop-source : goal.invariant-check_block-loop-source
 invariant-check_block-loop-source l =
-    (stmts_after (map stmt_of l.typed.items) (definition.stmts_typed (scope_of l.scope (locals_of l.locals)) (stmts (map written.stmt_of (drop l.source-index l.body)))) ≡ definition.stmts_typed (scope_of l.scope (locals_of l.initial.locals)) (stmts (map written.stmt_of l.body)))
+    (stmts_after (map stmt_of l.typed.items) (definition.check_stmts (scope_of l.scope (locals_of l.locals)) (stmts (map written.stmt_of (drop l.source-index l.body)))) ≡ definition.check_stmts (scope_of l.scope (locals_of l.initial.locals)) (stmts (map written.stmt_of l.body)))
     × Extends (locals_of l.initial.locals) (locals_of l.locals)
 
 abbrev pub invariant-check_cases-loop-i : goal.invariant-check_cases-loop-i
 invariant-check_cases-loop-i l =
-    (cases_after (map case_of l.typed.items) (definition.cases_typed (scope_of l.scope (locals_of l.locals)) l.int_type l.before.items (cases (map written.case_of (drop l.i l.labels)))) ≡ definition.cases_typed (scope_of l.scope (locals_of l.initial.locals)) l.int_type [] (cases (map written.case_of l.labels)))
+    (cases_after (map case_of l.typed.items) (definition.check_cases (scope_of l.scope (locals_of l.locals)) l.int_type l.before.items (cases (map written.case_of (drop l.i l.labels)))) ≡ definition.check_cases (scope_of l.scope (locals_of l.initial.locals)) l.int_type [] (cases (map written.case_of l.labels)))
     × (locals_of l.locals ≡ locals_of l.initial.locals)

@@ -6,7 +6,7 @@ use Rattle.ash_tree.specs.declared.tree.expressions.Suffix.{size-Suffix}
 use Rattle.ash_tree.specs.Tree as written
 use Rattle.ash_tree.specs.Views as views
 use Rattle.ash_typing.specs.TypingResult.{◌>>=◌}
-use Rattle.ash_typing.specs.Expressions.{typed, all_typed, links_typed, suffixes_typed}
+use Rattle.ash_typing.specs.Expressions.{check_expr, check_exprs, check_links, check_suffixes}
 use Rattle.ash_expressions.specs.Views.{typed_of, environment_of}
 use Rattle.ash_expressions.proofs.Loops.{typed_after}
 use Rattle.ash_expressions.proofs.expressions.+expressions.Given as goal
@@ -63,12 +63,12 @@ decreases-check_exprs l = 3 * most size-Expr l.arguments.now + 1
 
 abbrev pub invariant-check_exprs-loop-argument : goal.invariant-check_exprs-loop-argument
 invariant-check_exprs-loop-argument l =
-    typed_after (map typed_of l.typed.items) (all_typed (environment_of l.env) (written.exprs (map views.expr_of (drop l.argument-index l.arguments)))) ≡ all_typed (environment_of l.env) (written.exprs (map views.expr_of l.arguments))
+    typed_after (map typed_of l.typed.items) (check_exprs (environment_of l.env) (written.exprs (map views.expr_of (drop l.argument-index l.arguments)))) ≡ check_exprs (environment_of l.env) (written.exprs (map views.expr_of l.arguments))
 
 abbrev pub invariant-check_binary-loop-link : goal.invariant-check_binary-loop-link
 invariant-check_binary-loop-link l =
-    links_typed (environment_of l.env) (typed_of l.typed) (written.links (map views.operation_of (drop l.link-index l.operators))) ≡ (typed (environment_of l.env) false (views.expr_of l.fn.first) >>= λ t. links_typed (environment_of l.env) t (written.links (map views.operation_of l.operators)))
+    check_links (environment_of l.env) (typed_of l.typed) (written.links (map views.operation_of (drop l.link-index l.operators))) ≡ (check_expr (environment_of l.env) false (views.expr_of l.fn.first) >>= λ t. check_links (environment_of l.env) t (written.links (map views.operation_of l.operators)))
 
 abbrev pub invariant-check_postfix-loop-suffix : goal.invariant-check_postfix-loop-suffix
 invariant-check_postfix-loop-suffix l =
-    suffixes_typed (environment_of l.env) (typed_of l.typed) (written.suffixes (map views.suffix_of (drop l.suffix-index l.rest))) ≡ (typed (environment_of l.env) false (views.expr_of l.fn.operand) >>= λ t. suffixes_typed (environment_of l.env) t (written.suffixes (map views.suffix_of l.rest)))
+    check_suffixes (environment_of l.env) (typed_of l.typed) (written.suffixes (map views.suffix_of (drop l.suffix-index l.rest))) ≡ (check_expr (environment_of l.env) false (views.expr_of l.fn.operand) >>= λ t. check_suffixes (environment_of l.env) t (written.suffixes (map views.suffix_of l.rest)))

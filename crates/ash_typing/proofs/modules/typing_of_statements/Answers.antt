@@ -1,5 +1,5 @@
 use Rattle.std.proofs.Common.{sym, ◌∙◌}
-use Rattle.ash_typing.specs.Statements.{stmts_typed}
+use Rattle.ash_typing.specs.Statements.{check_stmts}
 use Rattle.ash_typing.proofs.TypingWords.{answered, no_fault_at, same_ok}
 use Rattle.ash_typing.proofs.StatementsComplete.{stmts_complete}
 use Rattle.ash_typing.proofs.StatementsSound.{stmts_sound}
@@ -14,8 +14,8 @@ returns-clause-sound c = stmts_sound
 pub returns-clause-no_fault : goal.returns-clause-no_fault
 returns-clause-no_fault c =
     λ scope known ss. (
-      λ ok. answered (stmts_typed scope ss) ok (λ ts h. (ts, stmts_sound scope known ss ts h)),
-      λ ts. no_fault_at (stmts_typed scope ss) ts.0 (stmts_complete ts.1),
+      λ ok. answered (check_stmts scope ss) ok (λ ts h. (ts, stmts_sound scope known ss ts h)),
+      λ ts. no_fault_at (check_stmts scope ss) ts.0 (stmts_complete ts.1),
     )
 
 pub returns-clause-one_tree : goal.returns-clause-one_tree

@@ -1,4 +1,4 @@
-use Rattle.ash_typing.specs.Expressions.{all_typed, all_placed}
+use Rattle.ash_typing.specs.Expressions.{check_exprs, all_placed}
 use Rattle.ash_typing.proofs.TypingWords.{answered, no_fault_at}
 use Rattle.ash_typing.proofs.TypingComplete.{terms, all_complete}
 use Rattle.ash_typing.proofs.TypingSound.{all_sound}
@@ -13,6 +13,6 @@ returns-clause-sound c = all_sound
 pub returns-clause-no_fault : goal.returns-clause-no_fault
 returns-clause-no_fault c =
     λ env known es. (
-      λ ok. answered (all_typed env es) ok (λ ts h. (terms ts, all_sound env known es ts h)),
-      λ ts. no_fault_at (all_typed env es) (all_placed es ts.0) (all_complete ts.1),
+      λ ok. answered (check_exprs env es) ok (λ ts h. (terms ts, all_sound env known es ts h)),
+      λ ts. no_fault_at (check_exprs env es) (all_placed es ts.0) (all_complete ts.1),
     )

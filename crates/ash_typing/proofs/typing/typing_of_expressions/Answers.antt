@@ -1,5 +1,5 @@
 use Rattle.std.proofs.Common.{sym, ap, ◌∙◌}
-use Rattle.ash_typing.specs.Expressions.{typed, placed, term_of, first_at}
+use Rattle.ash_typing.specs.Expressions.{check_expr, placed, term_of, first_at}
 use Rattle.ash_typing.specs.Typing.{is_known}
 use Rattle.ash_typing.proofs.TypingWords.{answered, no_fault_at, same_ok}
 use Rattle.ash_typing.proofs.TypingKnown.{known_type}
@@ -17,8 +17,8 @@ returns-clause-sound c = sound
 pub returns-clause-no_fault : goal.returns-clause-no_fault
 returns-clause-no_fault c =
     λ env known left e. (
-      λ ok. answered (typed env left e) ok (λ t h. (term_of t, sound env known left e t h)),
-      λ t. no_fault_at (typed env left e) (placed (first_at e) t.0) (complete t.1),
+      λ ok. answered (check_expr env left e) ok (λ t h. (term_of t, sound env known left e t h)),
+      λ t. no_fault_at (check_expr env left e) (placed (first_at e) t.0) (complete t.1),
     )
 
 pub returns-clause-one_term : goal.returns-clause-one_term

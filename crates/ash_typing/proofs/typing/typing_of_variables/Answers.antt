@@ -1,4 +1,4 @@
-use Rattle.ash_typing.specs.Declarations.{decl_typed}
+use Rattle.ash_typing.specs.Declarations.{check_decl}
 use Rattle.ash_typing.proofs.TypingWords.{answered, no_fault_at}
 use Rattle.ash_typing.proofs.TypingVariables.{begins_complete, begins_sound, declared_complete, declared_sound}
 use Rattle.ash_typing.proofs.typing.typing_of_variables.Goals as goal
@@ -18,6 +18,6 @@ returns-clause-sound c = declared_sound
 pub returns-clause-no_fault : goal.returns-clause-no_fault
 returns-clause-no_fault c =
     λ env known at of d. (
-      λ ok. answered (decl_typed env at of d) ok (λ i h. (i, declared_sound env known at of d i h)),
-      λ i. no_fault_at (decl_typed env at of d) i.0 (declared_complete i.1 at),
+      λ ok. answered (check_decl env at of d) ok (λ i h. (i, declared_sound env known at of d i h)),
+      λ i. no_fault_at (check_decl env at of d) i.0 (declared_complete i.1 at),
     )

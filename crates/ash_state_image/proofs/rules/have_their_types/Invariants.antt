@@ -3,7 +3,7 @@ use Rattle.std.specs.List.{list_all}
 use Rattle.ash_host.specs.Objects.{Plain}
 use Rattle.ash_state_image.specs.Views.{objects_of}
 use Rattle.ash_state_image.specs.Rules.{are_elements}
-use Rattle.ash_state_image.proofs.rules.are_typed.Given as goal
+use Rattle.ash_state_image.proofs.rules.have_their_types.Given as goal
 
 abbrev pub invariant-loop-object : goal.invariant-loop-object
 invariant-loop-object l =
