@@ -19,7 +19,7 @@ use Rattle.ash_plain_steps.specs.StateViews.{loaded_seen, modules_seen}
 use Rattle.ash_plain_steps.specs.Consistency.{IsRead, AreConsistent}
 use Rattle.ash_wellformed_states.specs.WellFormedStates.{IsLoaded, known_of}
 use Rattle.ash_admission.specs.Contents.{program_of_name, known_in, are_objects}
-use Rattle.ash_admission.specs.Admission.{OffersNothing, program_of, HasTypedGlobals, IsWellTyped, IsWellTypedAsRead, is_loaded, is_well_typed}
+use Rattle.ash_admission.specs.Admission.{ConstructsNothing, program_of, HasTypedGlobals, IsWellTyped, IsWellTypedAsRead, is_loaded, is_well_typed}
 use Rattle.ash_admission.proofs.ValueLaws.{values_say, values_yes}
 use Rattle.ash_admission.proofs.ContentLaws.{objects_say, objects_yes}
 
@@ -36,16 +36,16 @@ module _ (all : plain.Objects (List ℕ)) where
   globals_yes [] h = refl
   globals_yes (m ∷ ms) h = both_and (is_loaded all m) (list_all (is_loaded all) ms) (values_yes (program_of m) all h.0) (globals_yes ms h.1)
 
-  pub test_says : (host : Host) (ms : List LoadedModule) → OffersNothing host → is_well_typed ms all ≡ true → IsWellTyped host ms all
+  pub test_says : (host : Host) (ms : List LoadedModule) → ConstructsNothing host → is_well_typed ms all ≡ true → IsWellTyped host ms all
   test_says host ms nothing h =
       let both = and_both (are_objects (map program_of ms) all) (list_all (is_loaded all) ms) h in
       let objects = objects_say (map program_of ms) all host nothing both.0 in
       (globals_say ms both.1, objects.0, objects.1)
 
-  pub test_yes : (host : Host) (ms : List LoadedModule) → OffersNothing host → IsInOrder all → IsWellTyped host ms all → is_well_typed ms all ≡ true
+  pub test_yes : (host : Host) (ms : List LoadedModule) → ConstructsNothing host → IsInOrder all → IsWellTyped host ms all → is_well_typed ms all ≡ true
   test_yes host ms nothing order h = both_and (are_objects (map program_of ms) all) (list_all (is_loaded all) ms) (objects_yes (map program_of ms) all host nothing order h.1 h.2) (globals_yes ms h.0)
 
-  pub decides : (host : Host) (ms : List LoadedModule) (b : Bool) → b ≡ is_well_typed ms all → IsInOrder all → OffersNothing host → (b ≡ true) ↔ IsWellTyped host ms all
+  pub decides : (host : Host) (ms : List LoadedModule) (b : Bool) → b ≡ is_well_typed ms all → IsInOrder all → ConstructsNothing host → (b ≡ true) ↔ IsWellTyped host ms all
   decides host ms b is order nothing = (λ h. test_says host ms nothing (sym is ∙ h), λ h. is ∙ test_yes host ms nothing order h)
 
 -- sources

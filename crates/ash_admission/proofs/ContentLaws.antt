@@ -19,7 +19,7 @@ use Rattle.ash_wellformed.specs.WellFormed.{Shape, OfKind, shape_of, shape_at, A
 use Rattle.ash_admission.specs.Places.{class_at}
 use Rattle.ash_admission.specs.Values.{are_values}
 use Rattle.ash_admission.specs.Contents.{program_of_name, known_in, is_script, are_elements, is_object, are_objects}
-use Rattle.ash_admission.specs.Admission.{OffersNothing}
+use Rattle.ash_admission.specs.Admission.{ConstructsNothing}
 use Rattle.ash_admission.proofs.Tests.{le_says, le_yes, none_in}
 use Rattle.ash_admission.proofs.PlaceLaws.{class_there, class_found}
 use Rattle.ash_admission.proofs.ValueLaws.{values_say, values_yes}
@@ -98,7 +98,7 @@ each_passes P (x ∷ entries) order h =
     (each_passes P entries (in_order_after x entries order) (λ number o at.
     h number o (object_later number x entries (none_after x entries number order (some_object (object_at number entries) o at)) ∙ at)))
 
-module _ (ps : List Program) (all : Objects (List ℕ)) (host : signatures.Host) (nothing : OffersNothing host) where
+module _ (ps : List Program) (all : Objects (List ℕ)) (host : signatures.Host) (nothing : ConstructsNothing host) where
   -- no kind is offered
   not_offered : (kind : ℕ) → IsOffered host kind → ⊥
   not_offered kind (parameters, inside) = none_in parameters (subst (λ (l : List (List Primitive)). Contains l parameters) (nothing kind) inside)

@@ -13,8 +13,8 @@ use Rattle.ash_admission.specs.Values.{are_values}
 use Rattle.ash_admission.specs.Contents.{known_in, are_objects}
 
 -- the host constructs no objects
-abbrev pub OffersNothing : Host → Type 0
-OffersNothing host = (kind : ℕ) → host.factories kind ≡ []
+abbrev pub ConstructsNothing : Host → Type 0
+ConstructsNothing host = (kind : ℕ) → host.factories kind ≡ []
 
 -- a module by its name and its typed tree
 abbrev pub program_of : LoadedModule → Program

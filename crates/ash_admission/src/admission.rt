@@ -9,7 +9,7 @@ ghost use Rattle.ash_steps.specs.States.{Embedding};
 ghost use Rattle.ash_plain_steps.specs.declared.state.LoadedModule as loaded_module;
 ghost use Rattle.ash_plain_steps.specs.StateViews.{modules_seen};
 ghost use Rattle.ash_plain_steps.specs.Consistency.{AreConsistent};
-ghost use Rattle.ash_admission.specs.Admission.{OffersNothing, IsWellTyped, IsWellTypedAsRead};
+ghost use Rattle.ash_admission.specs.Admission.{ConstructsNothing, IsWellTyped, IsWellTypedAsRead};
 ghost use Rattle.ash_admission.specs.Admission.{is_loaded};
 ghost use Rattle.ash_admission.specs.Admission.{is_well_typed};
 
@@ -42,7 +42,7 @@ fn is_of_its_types(modules: &[LoadedModule], objects: &Objects) -> bool
 /// the globals are values of their types, each object is as its class or its elements say, and none is a host object.
 pub fn is_well_typed(modules: &[LoadedModule], objects: &Objects) -> bool
     ensures exact { (host : Host)
-        → OffersNothing host
+        → ConstructsNothing host
         → (IsTrue result ↔ (IsWellTyped host modules.now objects.now)) }
 {
     is_of_its_types(modules, objects)

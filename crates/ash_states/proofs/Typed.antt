@@ -6,17 +6,17 @@ use Rattle.ash_typed.specs.Signatures.{Host}
 use Rattle.ash_plain_steps.specs.declared.state.LoadedModule as code_module
 use Rattle.ash_plain_steps.specs.StateViews.{modules_seen}
 use Rattle.ash_plain_steps.specs.Consistency.{AreConsistent}
-use Rattle.ash_admission.specs.Admission.{OffersNothing, IsWellTyped}
+use Rattle.ash_admission.specs.Admission.{ConstructsNothing, IsWellTyped}
 use Rattle.ash_admission.proofs.AdmissionLaws.{as_read}
 use Rattle.ash_states.specs.States.{embedding_for, offered_to}
 use Rattle.ash_states.proofs.Restored.{Typed}
 
-nothing_offered : (registered : List Registration) → OffersNothing (offered_to registered)
+nothing_offered : (registered : List Registration) → ConstructsNothing (offered_to registered)
 nothing_offered registered kind = refl
 
 -- the test of the code, where the trees are those of the sources
 pub typed_if : (registered : List Registration) (ms : List code_module.LoadedModule) (objects : Objects (List ℕ)) (b : Bool) → AreConsistent (embedding_for registered) ms
-    → ((host : Host) → OffersNothing host → ((b ≡ true) ↔ IsWellTyped host ms objects))
+    → ((host : Host) → ConstructsNothing host → ((b ≡ true) ↔ IsWellTyped host ms objects))
     → (b ≡ true) ↔ Typed registered (modules_seen ms) objects
 typed_if registered ms objects b consistent exact =
     let test = exact (offered_to registered) (nothing_offered registered) in

@@ -1,5 +1,5 @@
 -- Each request of a well-formed state has a step, where the host offers nothing.
-use Rattle.std.proofs.Common.{◌≡◌, ℕ, List, [], ◌∷◌, refl, ap, ◌∙◌}
+use Rattle.std.proofs.Common.{◌≡◌, ℕ, [], ◌∷◌, refl, ap, ◌∙◌}
 use Rattle.std.specs.Prelude.{Option, Ok, Err, IsSome, is_some, option_map}
 use Rattle.std.specs.Option.{option_and_then}
 use Rattle.ash_typed.specs.Signatures.{Host}

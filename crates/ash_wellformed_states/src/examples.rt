@@ -2,12 +2,14 @@
 ghost use Rattle.std.specs.Prelude.{[]};
 ghost use Rattle.ash_steps.specs.States.{empty};
 ghost use Rattle.ash_steps.specs.Premises.{ReadsSound};
+ghost use Rattle.ash_wellformed.specs.Laws.{OffersNothing};
 ghost use Rattle.ash_wellformed_states.specs.WellFormedStates.{IsWellFormedState};
 ghost use Rattle.ash_wellformed_states.specs.Examples.{no_host, read_adding};
 
 /// Where each source is read as one small module, sources are read as sound modules, so that whatever requests leave is
-/// well-formed.
+/// well-formed; and a host that offers nothing has no function, construction, method or property for scripts.
 pub fn worked_premises()
+    ensures nothing { OffersNothing no_host }
     ensures sound { ReadsSound no_host read_adding }
     ensures first { IsWellFormedState read_adding no_host (empty []) }
 {}

@@ -10,7 +10,7 @@ use Rattle.ash_plain_steps.specs.declared.state.LoadedModule as code_module
 use Rattle.ash_plain_steps.specs.declared.state.PlainState.{PlainState}
 use Rattle.ash_plain_steps.specs.StateViews.{modules_seen, state_seen}
 use Rattle.ash_sources.specs.Sources.{SourceRules, embedding_of}
-use Rattle.ash_admission.specs.Admission.{OffersNothing, IsWellTyped}
+use Rattle.ash_admission.specs.Admission.{ConstructsNothing, IsWellTyped}
 use Rattle.ash_state_image.specs.Snapshots.{Snapshot}
 use Rattle.ash_state_image.specs.ObjectViews.{service_of}
 use Rattle.ash_state_image.specs.Views.{services_of, modules_of, objects_of, snapshot_of}
@@ -49,7 +49,7 @@ returns-then-not-is_well_typed c =
     ∙ ap (λ (all : List LoadedModule). map (entry_named (name_at all)) (objects_of c.args.stored.objects.items)) some.0 in
     let test = typed_if registrations ms c.in_ok-objects.objects c.is_well_typed.result
     (read_consistent registrations snapshot c.requires.shaped ms some)
-    (subst (λ (all : List code_module.LoadedModule). (host : Host) → OffersNothing host → ((c.is_well_typed.result ≡ true) ↔ IsWellTyped host all c.in_ok-objects.objects)) c.deref-2.ensures.value c.is_well_typed.ensures.exact) in
+    (subst (λ (all : List code_module.LoadedModule). (host : Host) → ConstructsNothing host → ((c.is_well_typed.result ≡ true) ↔ IsWellTyped host all c.in_ok-objects.objects)) c.deref-2.ensures.value c.is_well_typed.ensures.exact) in
     let fails : c.is_well_typed.result ≡ false = search rules in
     record {
       exact = mistyped_read registrations snapshot (modules_seen ms) c.in_ok-objects.objects some.0 objects
@@ -71,7 +71,7 @@ returns c =
     ∙ ap (λ (all : List LoadedModule). map (entry_named (name_at all)) (objects_of c.args.stored.objects.items)) some.0 in
     let test = typed_if registrations ms c.in_ok-objects.objects c.is_well_typed.result
     (read_consistent registrations snapshot c.requires.shaped ms some)
-    (subst (λ (all : List code_module.LoadedModule). (host : Host) → OffersNothing host → ((c.is_well_typed.result ≡ true) ↔ IsWellTyped host all c.in_ok-objects.objects)) c.deref-2.ensures.value c.is_well_typed.ensures.exact) in
+    (subst (λ (all : List code_module.LoadedModule). (host : Host) → ConstructsNothing host → ((c.is_well_typed.result ≡ true) ↔ IsWellTyped host all c.in_ok-objects.objects)) c.deref-2.ensures.value c.is_well_typed.ensures.exact) in
     let holds : c.is_well_typed.result ≡ true = search rules in
     let count : length c.args.stored.services.items ≡ 0 = grind (arith, common_steps) in
     let none : services_of c.args.stored.services.items ≡ [] = none_seen service_of c.args.stored.services.items count in

@@ -8,6 +8,8 @@ use Rattle.ash_typed.specs.SoundStatements as statements
 use Rattle.ash_typed.specs.SoundModules.{IsSound}
 use Rattle.ash_typed.specs.Returning.{returned, first_returns, later_returns}
 use Rattle.ash_steps.specs.Examples.{adding}
+use Rattle.ash_wellformed.specs.Laws.{OffersNothing, a_function, a_construction, a_method, a_property}
+use Rattle.ash_wellformed.proofs.Values.{none_in}
 use Rattle.ash_wellformed_states.specs.Examples.{no_host, read_adding}
 use Rattle.ash_wellformed_states.proofs.First.{empty_well}
 use Rattle.ash_wellformed_states.proofs.examples.worked_premises.Goals as goal
@@ -37,6 +39,15 @@ adding_is_sound = record {
 
 read_is : (tree : Module) → ◌≡◌ {A = Result Module (Unit {0})} (Ok adding) (Ok tree) → adding ≡ tree
 read_is tree e = cc
+
+offers_nothing : OffersNothing no_host
+offers_nothing (a_function service id offered within) = none_in offered within
+offers_nothing (a_construction kind parameters within) = none_in parameters within
+offers_nothing (a_method kind id offered within) = none_in offered within
+offers_nothing (a_property kind id of within) = none_in of within
+
+pub returns-clause-nothing : goal.returns-clause-nothing
+returns-clause-nothing c = offers_nothing
 
 pub returns-clause-sound : goal.returns-clause-sound
 returns-clause-sound c = λ source tree e. subst (IsSound no_host) (read_is tree e) adding_is_sound
