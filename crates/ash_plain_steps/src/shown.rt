@@ -148,8 +148,8 @@ fn array_shown(alloc: Global, words: &[Word]) -> Result<(String, ObjectContents)
 
 /// A host object of a kind, with the name of its type. An `Err` means that memory was refused.
 fn host_shown<S: Sources>(
-    sources: &S,
     alloc: Global,
+    sources: &S,
     kind: u16,
     state: &[u8],
 ) -> Result<(String, ObjectContents), AllocError>
@@ -185,6 +185,6 @@ pub(crate) fn described<S: Sources>(
             Ok(Some(script_shown(alloc, owner, class, fields)?))
         }
         Object::Array { elements, .. } => Ok(Some(array_shown(alloc, elements)?)),
-        Object::Host { kind, state: bytes } => Ok(Some(host_shown(sources, alloc, *kind, bytes)?)),
+        Object::Host { kind, state: bytes } => Ok(Some(host_shown(alloc, sources, *kind, bytes)?)),
     }
 }
