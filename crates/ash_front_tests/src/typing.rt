@@ -3,21 +3,12 @@
 //! which `ash_expressions` checks, cycles of classes, which `ash_classes` finds, and the slots of locals.
 //!
 //! `sources` has what is registered and the helpers; each other module is a table or two on one subject.
-#![tactic(auto)]
 
-#[cfg(test)]
 mod cycles;
-#[cfg(test)]
 mod declared;
-#[cfg(test)]
 mod expressions;
-#[cfg(test)]
 mod foreign;
-#[cfg(test)]
 mod limits;
-#[cfg(test)]
 mod sentences;
-#[cfg(test)]
 mod sources;
-#[cfg(test)]
 mod variables;

@@ -1,6 +1,6 @@
 //! Sources that are refused for a name or for a type where a small script is nearly right.
 
-use crate::sources::{check_rows, check_source_of};
+use crate::sources::checks::{check_rows, check_source_of};
 use std::alloc::{AllocError, Global};
 use std::fmt::Write;
 use std::test::Fail;

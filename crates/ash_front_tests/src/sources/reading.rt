@@ -1,6 +1,6 @@
 //! Sources, and what reading refuses them for before their types are looked at.
 
-use crate::sources::{bracketed, check_rows, check_source_of, check_sources, with_blanks};
+use crate::sources::checks::{bracketed, check_rows, check_source_of, check_sources, with_blanks};
 use std::alloc::Global;
 use std::process::Abort;
 use std::test::Fail;

@@ -1,6 +1,6 @@
 //! Rules of typing that sources break, and which fault comes first.
 
-use crate::sources::{bracketed, check_rows, check_source_of, check_sources, with_blanks};
+use crate::sources::checks::{bracketed, check_rows, check_source_of, check_sources, with_blanks};
 use std::test::Fail;
 
 #[test]

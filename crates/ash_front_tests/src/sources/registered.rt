@@ -2,7 +2,7 @@
 //! use nothing registered.
 
 use crate::compare::check_text;
-use crate::sources::{checked, parts_of, read};
+use crate::sources::checks::{checked, parts_of, read};
 use ash_registry::Registry;
 use ash_sources::sources::{AdmittedScripts, Sources};
 use ash_steps::sources::Sources as ReadSources;

@@ -1,6 +1,6 @@
 //! Limits: how many variables, classes and interfaces a module has, and how many members a class or an interface.
 
-use crate::sources::{Expectation, Question, check_answer, check_number, checked};
+use crate::typing::sources::{Expectation, Question, check_answer, check_number, checked};
 use std::alloc::{AllocError, Global};
 use std::fmt::Write;
 use std::process::Abort;

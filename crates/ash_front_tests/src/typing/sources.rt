@@ -5,8 +5,8 @@ ghost use Rattle.std.specs.Prelude.{IfOk};
 ghost use Rattle.ash_tree.specs.Views.{module_of};
 ghost use Rattle.ash_typing.specs.Nesting.{ItemsDeclareInBlocks};
 
-use crate::cycles::cycle_of;
-use crate::expressions::{operands_of, type_of};
+use crate::typing::cycles::cycle_of;
+use crate::typing::expressions::{operands_of, type_of};
 use ash_check::{CheckFault, CheckedScript, check};
 use ash_lex::lex;
 use ash_parse::parse_module;

@@ -1,8 +1,8 @@
 //! Expressions by themselves, each as the value of `int z`: their types, their faults, and what operators take their
 //! operands for.
 
-use crate::declared::module_signatures;
-use crate::sources::{Question, check_rows, coded, printed, tree_of};
+use crate::typing::declared::module_signatures;
+use crate::typing::sources::{Question, check_rows, coded, printed, tree_of};
 use ash_check::CheckFault;
 use ash_expressions::{AssignmentSide, Environment, TypedExpr, check_expr};
 use ash_registrations::Registrations;

@@ -1,6 +1,6 @@
 //! Cycles of classes: the places, among the classes alone, of those on the cycle that is reported, worked out by hand.
 
-use crate::sources::{Question, check_number, check_rows, printed, tree_of};
+use crate::typing::sources::{Question, check_number, check_rows, printed, tree_of};
 use ash_classes::{Cycle, class_ranks};
 use std::alloc::{AllocError, Global};
 use std::fmt::Write;

@@ -1,6 +1,6 @@
 //! The lines of statements and the slots of locals.
 
-use crate::sources::checked;
+use crate::typing::sources::checked;
 use ash_typed::{Expr, Function, Stmt, StmtKind, Variable};
 use std::alloc::{AllocError, Global};
 use std::test::Fail;

@@ -1,7 +1,7 @@
 //! A registered type that scripts can't construct, which `ashd` has none of: what is checked of the others is in
 //! `tests/rows/check`.
 
-use crate::sources::{Question, check_rows};
+use crate::typing::sources::{Question, check_rows};
 
 const CONSTRUCTIONS: &str = "
     310 NoFactory 0 | Plain p;
