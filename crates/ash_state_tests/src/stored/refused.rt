@@ -1,7 +1,7 @@
 //! Bytes that are the image of nothing, each for one reason, and some that are nearly so.
 
-use crate::compare::check_true;
-use crate::images::{
+use crate::stored::compare::check_true;
+use crate::stored::images::{
     DANGLING, EACH_WORD, MODULE_A, MODULE_B, NOTHING, ONE, ONE_MODULE, ONE_SERVICE, Parts,
     THREE_TAGS, TWO, TWO_TAGS, image, modules, with_byte, with_tag,
 };

@@ -1,6 +1,6 @@
 use Rattle.ash_sources.specs.Sources.{rules_of, embedding_of}
 use Rattle.ash_plain_steps.specs.Consistency.{AreConsistent}
-use Rattle.ash_step_tests.proofs.rows.check_row.Given as goal
+use Rattle.ash_state_tests.proofs.rows.check_row.Given as goal
 
 -- the modules so far are what their sources are read as
 abbrev pub invariant-loop-request : goal.invariant-loop-request

@@ -4,8 +4,8 @@
 ghost use Rattle.ash_state_image.specs.Rules.{IsShaped};
 ghost use Rattle.ash_state_image.specs.Views.{snapshot_of};
 
-use crate::compare::{check_bytes, check_count, check_true};
-use crate::images::{
+use crate::stored::compare::{check_bytes, check_count, check_true};
+use crate::stored::images::{
     DANGLING, EACH_WORD, NOTHING, OF_TWO_MODULES, ONE, ONE_MODULE, ONE_SERVICE, Parts, STORED,
     THREE_TAGS, TWO, TWO_TAGS, image, with_byte,
 };

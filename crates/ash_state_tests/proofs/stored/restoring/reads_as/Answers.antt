@@ -1,4 +1,4 @@
-use Rattle.ash_state_tests.proofs.restoring.reads_as.Goals as goal
+use Rattle.ash_state_tests.proofs.stored.restoring.reads_as.Goals as goal
 
 -- what was read has a shape
 pub restored-requires : goal.restored-requires

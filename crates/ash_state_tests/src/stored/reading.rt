@@ -1,8 +1,8 @@
 //! What images depict, and what the bodies of records lead to.
 
-use crate::compare::{check_bytes, check_text};
-use crate::encoding::encoded;
-use crate::images::{
+use crate::stored::compare::{check_bytes, check_text};
+use crate::stored::encoding::encoded;
+use crate::stored::images::{
     EACH_WORD, LOADED, MODULE_A, MODULE_B, NOTHING, ONE, ONE_MODULE, ONE_SERVICE, Parts,
     THREE_TAGS, TWO, TWO_TAGS, image, modules, with_tag,
 };

@@ -1,7 +1,7 @@
 //! The states of hosts, and the images by hand that they have.
 
-use crate::compare::check_bytes;
-use crate::images::{
+use crate::stored::compare::check_bytes;
+use crate::stored::images::{
     AFTER_THREE, CONSTRUCTED, LOADED, MODULE_A, MODULE_B, NOTHING, OF_TWO_MODULES, ONE_SERVICE,
     TWO, image, modules, with_tag,
 };

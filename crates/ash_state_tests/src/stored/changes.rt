@@ -1,9 +1,11 @@
 //! Each byte of an image changed to every other, and each cut, whatever is registered: what is left is refused, or is
 //! the image of another state.
 
-use crate::compare::{check_bytes, check_count, check_true};
-use crate::encoding::encoded;
-use crate::images::{NOTHING, ONE, ONE_MODULE, Parts, THREE_TAGS, TWO, TWO_TAGS, image, with_byte};
+use crate::stored::compare::{check_bytes, check_count, check_true};
+use crate::stored::encoding::encoded;
+use crate::stored::images::{
+    NOTHING, ONE, ONE_MODULE, Parts, THREE_TAGS, TWO, TWO_TAGS, image, with_byte,
+};
 use ash_state_image::image::read_image;
 use std::alloc::Global;
 use std::process::Abort;
