@@ -1,9 +1,10 @@
-//! Tests of the front end: tokens, trees and registrations. They are in a crate of their own, so that the crates with
-//! the code are proved once.
+//! Tests of all that reads scripts: tokens, trees, registrations, the check, and sources as a whole. They are in a crate
+//! of their own, so that the crates with the code are proved once.
 //!
 //! In reading order: `compare`, with the comparisons; `tokens`, `signs` and `words`, of `ash_lex`; `declarations`,
 //! `trees` with `expression_trees`, `statement_trees` and `item_trees`, and `largest`, of `ash_parse`;
-//! `registrations`, `refusals` and `registry_limits`, of `ash_registry`; `sentences`, of the faults of all three.
+//! `registrations`, `refusals` and `registry_limits`, of `ash_registry`; `sentences`, of the faults of all three;
+//! `typing`, of `ash_check` and what it is built on; `sources`, of `ash_sources`.
 #![tactic(auto)]
 
 #[cfg(test)]
@@ -27,10 +28,14 @@ mod sentences;
 #[cfg(test)]
 mod signs;
 #[cfg(test)]
+mod sources;
+#[cfg(test)]
 mod statement_trees;
 #[cfg(test)]
 mod tokens;
 #[cfg(test)]
 mod trees;
+#[cfg(test)]
+mod typing;
 #[cfg(test)]
 mod words;

@@ -1,27 +1,49 @@
-//! Tests of the images of whole states: bytes that were written by hand, what they are read as, which changes of them
-//! are images of other states, and the states of hosts whose images they are. They are apart from the crates with the
+//! Tests of states: what requests make of them, and the bytes that store them. They are apart from the crates with the
 //! code, which need not wait for them.
 //!
-//! In reading order: `images`, the bytes in their parts; `compare`; `encoding`, which writes what was read by the
-//! layout alone; `reading`, `refused` and `limits`, of images and the bodies of records; `changes`, with each byte
-//! changed and each cut; `hosts`, the states of hosts, and `restoring`, the changes that a host may be in.
+//! Of requests there are worked rows of scripts with classes, handles, host objects, interfaces and arrays. Each row has
+//! a script, requests, and what they come to: the replies as the program writes them, the events, and the state that is
+//! left. They are worked out by hand.
+//!
+//! `calls` has what host objects and services answer, as `Counter` and `Tally` do; `registered` what is registered;
+//! `requests`, `replies` and `states` the texts of a row; `rows` runs them. The rows: `classes`, `counters`,
+//! `services`, `modules`, `interfaces`, `arrays`, `limits`, `integers`, `sources`, `points` of the release points,
+//! and `ticks` of what host objects take. `stored` has the images of whole states.
 #![tactic(auto)]
 
 #[cfg(test)]
-mod changes;
+mod arrays;
 #[cfg(test)]
-mod compare;
+mod calls;
 #[cfg(test)]
-mod encoding;
+mod classes;
 #[cfg(test)]
-mod hosts;
+mod counters;
 #[cfg(test)]
-mod images;
+mod integers;
+#[cfg(test)]
+mod interfaces;
 #[cfg(test)]
 mod limits;
 #[cfg(test)]
-mod reading;
+mod modules;
 #[cfg(test)]
-mod refused;
+mod points;
 #[cfg(test)]
-mod restoring;
+mod registered;
+#[cfg(test)]
+mod replies;
+#[cfg(test)]
+mod requests;
+#[cfg(test)]
+mod rows;
+#[cfg(test)]
+mod services;
+#[cfg(test)]
+mod sources;
+#[cfg(test)]
+mod states;
+#[cfg(test)]
+mod stored;
+#[cfg(test)]
+mod ticks;

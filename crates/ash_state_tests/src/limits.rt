@@ -1,238 +1,127 @@
-//! Images at their limits, and one step past these.
+//! Ticks, frames, numbers and objects that run out.
 
-use crate::compare::check_true;
-use crate::images::{ONE, TWO};
-use ash_state_image::image::read_image;
-use std::alloc::{AllocError, Global};
-use std::process::Abort;
+use crate::rows::{HOST, Host, Row, check_row};
 use std::test::Fail;
 
-/// An image that is made up: what it is called, the length of its text, how many spaces there are, how many modules of
-/// one letter each, from `A` on, and whether it is one.
-type MadeUp = (&'static str, u32, usize, u8, bool);
-
-const MADE_UP: [MadeUp; 7] = [
-    ("a text at its limit", 1_048_576, 1_048_576, 0, true),
-    ("a text beyond its limit", 1_048_577, 1_048_577, 0, false),
-    // A length that is one byte more, and one less, than there is.
-    ("a length of 4 and 3 spaces", 4, 3, 0, false),
-    ("a length of 3 and 4 spaces", 3, 4, 0, false),
-    ("a length of 3 and 3 spaces", 3, 3, 0, true),
-    // As many modules as a host has, and one more.
-    ("16 modules", 0, 0, 16, true),
-    ("17 modules", 0, 0, 17, false),
-];
-
-/// The image of a state before any request, whose text is so many spaces, with a length of its own, and so many modules
-/// with no source and no globals.
-fn made_up(alloc: Global, version: &[u8], row: &MadeUp) -> Result<Vec<u8>, AllocError> {
-    let (_, length, spaces, count, _) = *row;
-    let mut image = Vec::from_slice(alloc, version)?;
-    image.extend_from_slice(&length.to_le_bytes())?;
-    image.resize(6_usize.saturating_add(spaces), b' ')?;
-    image.extend_from_slice(&[0; 18])?;
-    image.push(count)?;
-    for place in 0..count {
-        image.extend_from_slice(&[1, b'A'.wrapping_add(place), 0, 0, 0, 0, 0, 0])?;
-    }
-    image.extend_from_slice(&[0; 4])?;
-    Ok(image)
-}
-
-fn check_made_up(rt: &impl Abort, alloc: Global, row: &MadeUp) -> Result<(), Fail> {
-    for version in [ONE, TWO] {
-        let image = made_up(alloc, version, row)?;
-        let found = read_image(alloc, &image)?.is_some();
-        check_true(rt, found == row.4, row.0);
-    }
-    Ok(())
+#[test]
+fn the_last_tick(rt: HostRuntime) -> Result<(), Fail> {
+    check_row(
+        &rt,
+        rt.alloc(),
+        &Row {
+            what: "as many ticks as are taken",
+            host: Host { budget: 2, ..HOST },
+            steps: &[],
+            exchanges: &[
+                ("load m int f() { return 1; }", "ok seq 1", ""),
+                ("call m f", "ok 1 seq 2", ""),
+            ],
+            left: "seq 2 last 0 | m | objects | services 00000000 | free 3 left 0",
+        },
+    )?;
+    check_row(
+        &rt,
+        rt.alloc(),
+        &Row {
+            what: "one tick fewer than are taken",
+            host: Host { budget: 1, ..HOST },
+            steps: &[],
+            exchanges: &[
+                ("load m int f() { return 1; }", "ok seq 1", ""),
+                ("call m f", "aborted f 1 seq 2", ""),
+            ],
+            left: "seq 2 last 0 | m | objects | services 00000000 | free 3 left 0",
+        },
+    )
 }
 
 #[test]
-fn texts_and_modules_at_their_limits(rt: HostRuntime) -> Result<(), Fail> {
-    for row in &MADE_UP {
-        check_made_up(&rt, rt.alloc(), row)?;
-    }
-    Ok(())
-}
-
-/// The image of a module `m` with a source of so many spaces, and so many globals that are null.
-fn one_module(alloc: Global, spaces: u32, globals: u16) -> Result<Vec<u8>, AllocError> {
-    let mut image = Vec::from_slice(alloc, TWO)?;
-    image.extend_from_slice(&[0; 22])?;
-    image.extend_from_slice(b"\x01\x01m")?;
-    image.extend_from_slice(&spaces.to_le_bytes())?;
-    image.extend_from_slice(&vec![in alloc; b' '; spaces as usize]?)?;
-    image.extend_from_slice(&globals.to_le_bytes())?;
-    image.extend_from_slice(&vec![in alloc; 5; usize::from(globals)]?)?;
-    image.extend_from_slice(&[0; 4])?;
-    Ok(image)
-}
-
-/// A module: what it is called, the length of its source, how many globals it has, and whether it is in an image.
-type Sized = (&'static str, u32, u16, bool);
-
-const SIZED: [Sized; 4] = [
-    ("a source at its limit", 65_536, 0, true),
-    ("a source beyond its limit", 65_537, 0, false),
-    ("256 globals", 0, 256, true),
-    ("257 globals", 0, 257, false),
-];
-
-fn check_sized(rt: &impl Abort, alloc: Global, row: Sized) -> Result<(), Fail> {
-    let (what, spaces, globals, is_one) = row;
-    let image = one_module(alloc, spaces, globals)?;
-    check_true(rt, read_image(alloc, &image)?.is_some() == is_one, what);
-    Ok(())
+fn a_load_without_ticks(rt: HostRuntime) -> Result<(), Fail> {
+    check_row(
+        &rt,
+        rt.alloc(),
+        &Row {
+            what: "a load without ticks",
+            host: Host { budget: 0, ..HOST },
+            steps: &[],
+            exchanges: &[
+                (
+                    "load m int n = 2; int f(int k) { n += k; return n; }",
+                    "aborted (init) 1 seq 1",
+                    "",
+                ),
+                ("call m f", "refused 401 NoModule", ""),
+            ],
+            left: "seq 1 last 0 | objects | services 00000000 | free 3 left 0",
+        },
+    )
 }
 
 #[test]
-fn sources_and_globals_at_their_limits(rt: HostRuntime) -> Result<(), Fail> {
-    for row in &SIZED {
-        check_sized(&rt, rt.alloc(), *row)?;
-    }
-    Ok(())
-}
-
-/// Compares whether bytes are an image.
-fn check_is_image(
-    rt: &impl Abort,
-    alloc: Global,
-    image: &[u8],
-    is_one: bool,
-    what: &str,
-) -> Result<(), Fail> {
-    check_true(rt, read_image(alloc, image)?.is_some() == is_one, what);
-    Ok(())
-}
-
-/// What an image has before its objects: no text, no request, this last number of an object, no services, and a module
-/// `m` with no source, whose global has the object 1. Then come so many objects.
-fn before_objects(alloc: Global, last: u16, objects: u16) -> Result<Vec<u8>, AllocError> {
-    let mut image = Vec::from_slice(alloc, TWO)?;
-    image.extend_from_slice(&[0; 12])?;
-    image.extend_from_slice(&u64::from(last).to_le_bytes())?;
-    image.extend_from_slice(&[0; 2])?;
-    image.extend_from_slice(b"\x01\x01m\x00\x00\x00\x00")?;
-    image.extend_from_slice(b"\x01\x00\x06\x01\x00\x00\x00\x00\x00\x00\x00")?;
-    image.extend_from_slice(&u32::from(objects).to_le_bytes())?;
-    Ok(image)
-}
-
-/// The image of such a module, where the object 1 is this.
-fn one_object(alloc: Global, object: &[u8]) -> Result<Vec<u8>, AllocError> {
-    let mut image = before_objects(alloc, 1, 1)?;
-    image.extend_from_slice(&1_u64.to_le_bytes())?;
-    image.extend_from_slice(object)?;
-    Ok(image)
-}
-
-/// An object: what it is called, its bytes up to how many parts it has, that number, each part, and whether it is in an
-/// image.
-type Filled = (&'static str, &'static [u8], usize, &'static [u8], bool);
-
-const FILLED: [Filled; 6] = [
-    // Fields that are null, elements of `int`, and the state of a host object.
-    ("32 fields", &[1, 0, 0, 0, 32], 32, &[5], true),
-    ("33 fields", &[1, 0, 0, 0, 33], 33, &[5], false),
-    (
-        "4,096 elements",
-        &[3, 1, 0x00, 0x10],
-        4096,
-        &[1, 0, 0, 0, 0],
-        true,
-    ),
-    (
-        "4,097 elements",
-        &[3, 1, 0x01, 0x10],
-        4097,
-        &[1, 0, 0, 0, 0],
-        false,
-    ),
-    (
-        "a state of 1,024 bytes",
-        &[2, 1, 0, 0x00, 0x04],
-        1024,
-        &[0],
-        true,
-    ),
-    (
-        "a state of 1,025 bytes",
-        &[2, 1, 0, 0x01, 0x04],
-        1025,
-        &[0],
-        false,
-    ),
-];
-
-fn check_filled(rt: &impl Abort, alloc: Global, row: Filled) -> Result<(), Fail> {
-    let (what, first, count, part, is_one) = row;
-    let mut object = Vec::from_slice(alloc, first)?;
-    for _ in 0..count {
-        object.extend_from_slice(part)?;
-    }
-    let image = one_object(alloc, &object)?;
-    check_is_image(rt, alloc, &image, is_one, what)
+fn endless_calls(rt: HostRuntime) -> Result<(), Fail> {
+    check_row(
+        &rt,
+        rt.alloc(),
+        &Row {
+            what: "as many frames as there may be",
+            host: Host {
+                budget: 512,
+                ..HOST
+            },
+            steps: &[],
+            exchanges: &[
+                (
+                    "load m int f() { return f(); } void g() { for (;;) {} }",
+                    "ok seq 1",
+                    "",
+                ),
+                ("call m f", "exception StackOverflow f 1 seq 2", ""),
+                ("call m g", "aborted g 1 seq 3", ""),
+            ],
+            left: "seq 3 last 0 | m | objects | services 00000000 | free 3 left 0",
+        },
+    )?;
+    check_row(
+        &rt,
+        rt.alloc(),
+        &Row {
+            what: "a tick fewer than the frames take",
+            host: Host {
+                budget: 511,
+                ..HOST
+            },
+            steps: &[],
+            exchanges: &[
+                (
+                    "load m int f() { return f(); } void g() { for (;;) {} }",
+                    "ok seq 1",
+                    "",
+                ),
+                ("call m f", "aborted f 1 seq 2", ""),
+            ],
+            left: "seq 2 last 0 | m | objects | services 00000000 | free 3 left 0",
+        },
+    )
 }
 
 #[test]
-fn objects_as_long_as_they_may_be(rt: HostRuntime) -> Result<(), Fail> {
-    for row in &FILLED {
-        check_filled(&rt, rt.alloc(), *row)?;
-    }
-    Ok(())
-}
-
-/// Adds handles to the objects up to this number, from 2 on.
-fn add_handles(image: &mut Vec<u8>, last: u16) -> Result<(), AllocError> {
-    for number in 2..=last {
-        image.push(6)?;
-        image.extend_from_slice(&u64::from(number).to_le_bytes())?;
-    }
-    Ok(())
-}
-
-/// Adds these objects, which have no fields.
-fn add_objects(image: &mut Vec<u8>, last: u16) -> Result<(), AllocError> {
-    for number in 2..=last {
-        image.extend_from_slice(&u64::from(number).to_le_bytes())?;
-        image.extend_from_slice(&[1, 0, 0, 0, 0])?;
-    }
-    Ok(())
-}
-
-/// The image of so many objects, of which the first is an array with handles to all others.
-fn objects_in_an_array(alloc: Global, last: u16) -> Result<Vec<u8>, AllocError> {
-    let mut image = before_objects(alloc, last, last)?;
-    image.extend_from_slice(&1_u64.to_le_bytes())?;
-    image.extend_from_slice(&[3, 5, 0, 0, 0])?;
-    image.extend_from_slice(&last.saturating_sub(1).to_le_bytes())?;
-    add_handles(&mut image, last)?;
-    add_objects(&mut image, last)?;
-    Ok(image)
-}
-
-/// The image of a state before any request with so many services that have no state.
-fn services(alloc: Global, count: u8) -> Result<Vec<u8>, AllocError> {
-    let mut image = Vec::from_slice(alloc, TWO)?;
-    image.extend_from_slice(&[0; 20])?;
-    image.extend_from_slice(&[count, 0])?;
-    for kind in 0..count {
-        image.extend_from_slice(&[kind, 0, 0, 0])?;
-    }
-    image.extend_from_slice(&[0; 5])?;
-    Ok(image)
-}
-
-#[test]
-fn objects_and_services_at_their_limits(rt: HostRuntime) -> Result<(), Fail> {
-    let alloc = rt.alloc();
-    let image = objects_in_an_array(alloc, 4096)?;
-    check_is_image(&rt, alloc, &image, true, "4,096 objects")?;
-    let image = objects_in_an_array(alloc, 4097)?;
-    check_is_image(&rt, alloc, &image, false, "4,097 objects")?;
-    let image = services(alloc, 16)?;
-    check_is_image(&rt, alloc, &image, true, "16 services")?;
-    let image = services(alloc, 17)?;
-    check_is_image(&rt, alloc, &image, false, "17 services")
+fn numbers_that_are_spent(rt: HostRuntime) -> Result<(), Fail> {
+    check_row(
+        &rt,
+        rt.alloc(),
+        &Row {
+            what: "the last number, before an empty pool",
+            host: Host {
+                counters: 0,
+                last: u64::MAX,
+                ..HOST
+            },
+            steps: &[],
+            exchanges: &[
+                ("load m void f() { Counter c(1); }", "ok seq 1", ""),
+                ("call m f", "exception NumbersSpent f 1 seq 2", ""),
+            ],
+            left: "seq 2 last 18446744073709551615 | m | objects | services 00000000 | free 1 left 0",
+        },
+    )
 }

@@ -1,0 +1,102 @@
+//! Scripts that use what is registered: they are checked like all others, and not admitted where only those are that
+//! use nothing registered.
+
+use crate::compare::check_text;
+use crate::sources::checks::{checked, parts_of, read};
+use ash_registry::Registry;
+use ash_sources::sources::{AdmittedScripts, Sources};
+use ash_steps::sources::Sources as ReadSources;
+use std::alloc::{AllocError, Global};
+use std::process::Abort;
+use std::test::Fail;
+
+/// A type with a factory, and a function of a service.
+fn registry(alloc: Global) -> Result<Registry, Fail> {
+    let mut registry = Registry::new(alloc);
+    registry.object_type("Counter", 1)?;
+    registry.factory("Counter", "Counter@ make(int)")?;
+    registry.service(2)?;
+    registry.function(0, "int total()", 1)?;
+    Ok(registry)
+}
+
+/// How a source ends: checked, read where all scripts are admitted, and read where those are that use nothing
+/// registered.
+fn ends(alloc: Global, registry: &Registry, source: &[u8]) -> Result<String, AllocError> {
+    let checked = checked(alloc, registry, source)?;
+    let all = read(alloc, registry, AdmittedScripts::All, source)?;
+    let alone = read(
+        alloc,
+        registry,
+        AdmittedScripts::UsingNothingRegistered,
+        source,
+    )?;
+    format!(in alloc; "{checked}, {all}, {alone}")
+}
+
+fn check_ends(rt: &impl Abort, alloc: Global, rows: &str) -> Result<(), Fail> {
+    let registry = registry(alloc)?;
+    for row in rows.trim().lines() {
+        let (wanted, source) = parts_of(row);
+        let found = ends(alloc, &registry, source.as_bytes())?;
+        check_text(rt, found.as_str(), wanted, source);
+    }
+    Ok(())
+}
+
+#[test]
+fn scripts_that_use_what_is_registered(rt: HostRuntime) -> Result<(), Fail> {
+    check_ends(
+        &rt,
+        rt.alloc(),
+        "
+        ok, ok, NotYet | class Box { Counter@ c; }
+        ok, ok, NotYet | Counter@ g = Counter(7);
+        ok, ok, NotYet | void f(Counter@ c) { }
+        ok, ok, NotYet | array<Counter@> l;
+        ok, ok, NotYet | int t() { return total(); }
+        ok, ok, ok | int n = 2;
+        ok, ok, ok | class A { int total; }
+        ",
+    )
+}
+
+#[test]
+fn faults_come_before_what_is_registered(rt: HostRuntime) -> Result<(), Fail> {
+    check_ends(
+        &rt,
+        rt.alloc(),
+        "
+        NameTaken { at: 11 }, NameTaken { at: 11 }, NameTaken { at: 11 } | int n; int Counter() { return 1; }
+        NameTaken { at: 4 }, NameTaken { at: 4 }, NameTaken { at: 4 } | int total = 1;
+        Unexpected { at: 19 }, Unexpected { at: 19 }, Unexpected { at: 19 } | Counter@ g; int f( {
+        UnknownName { at: 20 }, UnknownName { at: 20 }, UnknownName { at: 20 } | Counter@ g; int n = m;
+        ",
+    )
+}
+
+/// How reading a source ends by the trait that the steps of requests use, and the name of a kind.
+fn read_by_steps(
+    alloc: Global,
+    registry: &Registry,
+    source: &[u8],
+    kind: u16,
+) -> Result<String, AllocError> {
+    let sources = Sources {
+        registry,
+        admitted: AdmittedScripts::UsingNothingRegistered,
+    };
+    let name = ReadSources::name_of_kind(&sources, alloc, kind)?;
+    let is_read = ReadSources::read(&sources, alloc, source)?.is_ok();
+    format!(in alloc; "{is_read} {name}")
+}
+
+#[test]
+fn sources_of_steps(rt: HostRuntime) -> Result<(), Fail> {
+    let registry = registry(rt.alloc())?;
+    let found = read_by_steps(rt.alloc(), &registry, b"int n = 2;", 1)?;
+    check_text(&rt, found.as_str(), "true Counter", "a script alone");
+    let found = read_by_steps(rt.alloc(), &registry, b"Counter@ g;", 2)?;
+    check_text(&rt, found.as_str(), "false ", "a script with a counter");
+    Ok(())
+}

@@ -1,0 +1,196 @@
+//! Rows: each has what is found of a source, counted by hand, a bar, and the source. What is found is how the check of
+//! the source ends (`ok`, or its fault with the offset), or what another question asks.
+
+ghost use Rattle.std.specs.Prelude.{IfOk};
+ghost use Rattle.ash_tree.specs.Views.{module_of};
+ghost use Rattle.ash_typing.specs.Nesting.{ItemsDeclareInBlocks};
+
+use crate::typing::cycles::cycle_of;
+use crate::typing::expressions::{operands_of, type_of};
+use ash_check::{CheckFault, CheckedScript, check};
+use ash_lex::lex;
+use ash_parse::parse_module;
+use ash_registry::{Registry, RegistryFault};
+use ash_tree::Module;
+use std::alloc::{AllocError, Global};
+use std::fmt::{Display, Write};
+use std::process::Abort;
+use std::test::Fail;
+
+/// A value as it is printed, or nothing where memory is refused.
+pub(crate) fn printed<F: Display>(alloc: Global, fault: &F) -> String {
+    match format!(in alloc; "{fault}") {
+        Ok(text) => text,
+        Err(_) => String::new(alloc),
+    }
+}
+
+/// Writes names, each after a blank.
+fn write_names(out: &mut String, names: &[String]) -> Result<(), AllocError> {
+    for name in names {
+        write!(out, " {name}")?;
+    }
+    Ok(())
+}
+
+/// Writes a fault by its code, with its offset or its classes.
+fn write_fault(out: &mut String, fault: &CheckFault) -> Result<(), AllocError> {
+    write!(out, "{}", fault.code())?;
+    match fault {
+        CheckFault::Broken(broken) => write!(out, " {}", broken.at),
+        CheckFault::Cyclic(names) => write_names(out, names.0.as_slice()),
+        CheckFault::NoMemory => Ok(()),
+    }
+}
+
+/// A fault by its code, with its offset or its classes, or what could be written of it where memory is refused.
+pub(crate) fn coded(alloc: Global, fault: &CheckFault) -> String {
+    let mut out = String::new(alloc);
+    let _ = write_fault(&mut out, fault);
+    out
+}
+
+/// What is registered.
+enum Registration {
+    Type(&'static str, u16),
+    Factory(&'static str, &'static str),
+    Method(&'static str, &'static str, u16),
+    Property(&'static str, &'static str, u16),
+    Service(u16),
+    Function(u16, &'static str, u16),
+}
+
+/// The type `Counter`, which takes an `int`, a service, and the type `Plain`, which scripts can't construct.
+static REGISTERED: [Registration; 9] = [
+    Registration::Type("Counter", 1),
+    Registration::Factory("Counter", "Counter@ f(int)"),
+    Registration::Method("Counter", "int add(int)", 1),
+    Registration::Method("Counter", "void fail(int)", 2),
+    Registration::Property("Counter", "int value", 1),
+    Registration::Service(2),
+    Registration::Function(0, "int tally(int)", 1),
+    Registration::Function(0, "int total()", 2),
+    Registration::Type("Plain", 3),
+];
+
+fn register(registry: &mut Registry, registration: &Registration) -> Result<(), RegistryFault> {
+    match registration {
+        Registration::Type(name, kind) => registry.object_type(name, *kind),
+        Registration::Factory(of, decl) => registry.factory(of, decl),
+        Registration::Method(of, decl, id) => registry.method(of, decl, *id),
+        Registration::Property(of, decl, id) => registry.property(of, decl, *id),
+        Registration::Service(kind) => match registry.service(*kind) {
+            Ok(_) => Ok(()),
+            Err(fault) => Err(fault),
+        },
+        Registration::Function(service, decl, id) => registry.function(*service, decl, *id),
+    }
+}
+
+fn registered(alloc: Global) -> Result<Registry, String> {
+    let mut registry = Registry::new(alloc);
+    for registration in &REGISTERED {
+        match register(&mut registry, registration) {
+            Ok(()) => {}
+            Err(fault) => return Err(printed(alloc, &fault)),
+        }
+    }
+    Ok(registry)
+}
+
+/// The tree of a source, or its fault.
+#[tactic(auto, using(ash_typing::proofs::SoundnessNesting::derived_proper))]
+pub(crate) fn tree_of(alloc: Global, source: &str) -> Result<Module, String>
+    ensures nested { IfOk result (λ tree. ItemsDeclareInBlocks (module_of tree)) }
+{
+    let tokens = match lex(alloc, source) {
+        Ok(tokens) => tokens,
+        Err(fault) => return Err(printed(alloc, &fault)),
+    };
+    match parse_module(alloc, tokens.as_slice()) {
+        Ok(tree) => Ok(tree),
+        Err(fault) => Err(printed(alloc, &fault)),
+    }
+}
+
+/// The typed module of a source, with the ranks of its classes, or its fault.
+pub(crate) fn checked(alloc: Global, source: &str) -> Result<CheckedScript, String> {
+    let registry = registered(alloc)?;
+    let script = tree_of(alloc, source)?;
+    match check(alloc, &registry, &script) {
+        Ok(found) => Ok(found),
+        Err(fault) => Err(coded(alloc, &fault)),
+    }
+}
+
+/// How the check of a source ends.
+fn outcome_of(alloc: Global, source: &str) -> String {
+    match checked(alloc, source) {
+        Ok(_) => printed(alloc, &"ok"),
+        Err(fault) => fault,
+    }
+}
+
+/// What is asked of a source.
+#[derive(Clone, Copy)]
+pub(crate) enum Question {
+    /// How its check ends.
+    Outcome,
+    /// The type of its value.
+    Type,
+    /// What the last operator of its value takes its operands for.
+    Operands,
+    /// The cycle of its classes.
+    Cycle,
+}
+
+/// The answer to a question, or the fault of the source.
+fn answer(alloc: Global, question: Question, source: &str) -> String {
+    match question {
+        Question::Outcome => outcome_of(alloc, source),
+        Question::Type => type_of(alloc, source),
+        Question::Operands => operands_of(alloc, source),
+        Question::Cycle => cycle_of(alloc, source),
+    }
+}
+
+/// Compares a number with the one that is wanted of a source.
+pub(crate) fn check_number(rt: &impl Abort, found: usize, wanted: usize, source: &str) {
+    assert_eq!(rt; found, wanted, "{source}");
+}
+
+/// A source, the answer that is wanted of it, and the name by which a test that fails says which it was.
+#[derive(Clone, Copy)]
+pub(crate) struct Expectation<'a> {
+    pub(crate) source: &'a str,
+    pub(crate) wanted: &'a str,
+    pub(crate) name: &'a str,
+}
+
+/// Compares the answer to a question about a source with the one that is wanted.
+pub(crate) fn check_answer(
+    rt: &impl Abort,
+    alloc: Global,
+    question: Question,
+    expectation: Expectation,
+) {
+    let found = answer(alloc, question, expectation.source);
+    let name = expectation.name;
+    assert_eq!(rt; found.as_str(), expectation.wanted, "{name}");
+}
+
+/// Asks a question about each row's source.
+pub(crate) fn check_rows(rt: &impl Abort, alloc: Global, question: Question, rows: &str) {
+    for row in rows.trim().lines() {
+        let (wanted, source) = row
+            .trim()
+            .split_once(" | ")
+            .unwrap_or((row, "no bar in this row"));
+        let expectation = Expectation {
+            source,
+            wanted,
+            name: source,
+        };
+        check_answer(rt, alloc, question, expectation);
+    }
+}
