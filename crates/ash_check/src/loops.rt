@@ -16,7 +16,7 @@ use crate::scopes::Scope;
 use ash_expressions::{
     AssignmentSide, Binding, CheckResult, Environment, TypedExpr, check_bool, check_expr, fault_at,
 };
-use ash_tree::{Expr, Stmt as Source, StmtKind};
+use ash_tree::{Expr, Place, Stmt as Source, StmtKind};
 use ash_typed::{Expr as Tree, Head, Stmt, Test, nodes};
 use ash_typing::Rule;
 use std::alloc::{AllocError, Global};
@@ -90,6 +90,16 @@ pub(crate) fn build_do_while(
     check_bool(condition.at, condition.ty)?;
     let inside = nodes::repetition(Test::Last, Some(condition.tree), Vec::new(alloc), inner);
     Ok(nodes::repeat(line, inside))
+}
+
+/// The parts of `for`, as the source has them.
+#[derive(Clone, Copy)]
+pub(crate) struct ForParts<'n> {
+    pub(crate) place: Place,
+    pub(crate) first: &'n Source,
+    pub(crate) condition: &'n Option<Expr>,
+    pub(crate) steps: &'n [Expr],
+    pub(crate) body: &'n Source,
 }
 
 /// The checked parts of `for`.

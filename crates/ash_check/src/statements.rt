@@ -15,7 +15,8 @@ use crate::conditions::{boxed_stmt, build_if, build_if_else};
 use crate::jumps::{check_break, check_continue, check_return};
 use crate::locals::check_local_vars;
 use crate::loops::{
-    CheckedFor, build_do_while, build_for, build_while, check_for_head, check_optional_expr,
+    CheckedFor, ForParts, build_do_while, build_for, build_while, check_for_head,
+    check_optional_expr,
 };
 use crate::scopes::Scope;
 use crate::switches::{LabelContext, check_label, integer_type_in, is_last};
@@ -30,16 +31,6 @@ use ash_typed::{Case as TypedCase, IntType, Stmt as TypedStmt, StmtKind as Typed
 struct Branches<'n> {
     then: &'n Stmt,
     otherwise: &'n Stmt,
-}
-
-/// The parts of `for`.
-#[derive(Clone, Copy)]
-struct ForParts<'n> {
-    place: Place,
-    first: &'n Stmt,
-    condition: &'n Option<Expr>,
-    steps: &'n [Expr],
-    body: &'n Stmt,
 }
 
 /// Checks a statement. Its variables are added to the locals.

@@ -103,7 +103,7 @@ synced_may_stay first (Write at bytes ∷ earlier) = (
 )
 synced_may_stay first (Sync ∷ earlier) = refl
 
--- what the last sync brought to the device is an image that a crash after the first calls may leave
+-- what the device has by the last sync is an image that a crash after the first calls may leave
 pub synced_left : {E : Type 0} (r : Result (Vec ℕ Global) E) (first f : List ℕ) (calls k : List Call) (n : ℕ)
     → f ≡ first → k ≡ calls → IfOk r (λ image. image.items ≡ synced_after f (reverse (take n k)))
     → IfOk r (λ image. MayLeave first (reverse (take n calls)) image.items)

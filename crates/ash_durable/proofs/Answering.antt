@@ -1,5 +1,5 @@
--- What the step of a request comes to: what is not an answer leaves the state, an answer comes of a task that changes it,
--- and no step is refused for a device.
+-- What the step of a request comes to: what is not an answer leaves the state, an answer comes of a task that changes
+-- it, and no step is refused for a device.
 use Rattle.std.proofs.Common.{◌≡◌, inl, inr, ℕ, Bool, true, false, nat_lt, not, List, length, Option, Some, None}
 use Rattle.std.proofs.Common.{is_some}
 use Rattle.std.proofs.Common.{option_map, position, slice_get, Result, Ok, Err, refl, sym, ◌∙◌, ap, subst}

@@ -1,5 +1,5 @@
--- What a request of a host does that finds room: one that is not answered, one that is, if the answer is stored, and one
--- that loses the state.
+-- What a request of a host does that finds room: one that is not answered, one that is, if the answer is stored, and
+-- one that loses the state.
 use Rattle.std.proofs.Common.{◌≡◌, inl, inr, ℕ, Option, Some, None, unwrap_or, Result, Ok, Err}
 use Rattle.std.proofs.Common.{refl, sym, ◌∙◌, ap, subst}
 use Rattle.ash_disk.specs.Device.{Device}

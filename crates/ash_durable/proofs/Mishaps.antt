@@ -1,5 +1,5 @@
--- Files that represent contents of a state are refused because memory ran out, a device failed or their version 1 has no
--- further generation, and for nothing else.
+-- Files that represent contents of a state are refused because memory ran out, a device failed or their version 1 has
+-- no further generation, and for nothing else.
 use Rattle.std.proofs.Common.{◌≡◌, inl, inr, ℕ, List, Err, subst}
 use Rattle.ash_journal.specs.Current.{Contents, Represent}
 use Rattle.ash_journal.proofs.SettleLaws.{represent_once}

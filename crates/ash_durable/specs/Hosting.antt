@@ -166,8 +166,8 @@ pub record WasNotCommitted {D : Type 0} (device : Device D) (budget : ℕ) (requ
   pub stopped : HasStopped old new
   pub settles : Settles device state after old new
 
--- Memory was refused while a request changed the state: the state is lost. The host has to be reopened, and is then in the
--- state before the request, on which alone the files settle.
+-- Memory was refused while a request changed the state: the state is lost. The host has to be reopened, and is then in
+-- the state before the request, on which alone the files settle.
 pub record LostItsState {D : Type 0} (device : Device D) (request : Request) (state : HostState) (old : Hosted D)
     (reply : Reply SourceFault) (new : Hosted D) : Type 0 where
   pub between : Hosted D

@@ -124,10 +124,10 @@ fn last_state(alloc: Global, first: HostState, records: &[Record]) -> Result<Hos
 
 /// The state of an image and the records after it, with this registry, and their version.
 ///
-/// Faults, the first that holds: `Damaged` where the image or a record has not its shape, or a record has another version
-/// or another text of what was registered than the image; `OtherInterface` where that text is not this registry's;
-/// `Damaged` where no host with this registry may be in the state of the image, and then of a record. An offset is that
-/// of the gate before the record, or 0 for the image. `NoMemory` may come at any time.
+/// Faults, the first that holds: `Damaged` where the image or a record has not its shape, or a record has another
+/// version or another text of what was registered than the image; `OtherInterface` where that text is not this
+/// registry's; `Damaged` where no host with this registry may be in the state of the image, and then of a record. An
+/// offset is that of the gate before the record, or 0 for the image. `NoMemory` may come at any time.
 pub fn state_in(
     alloc: Global,
     registry: Registry,

@@ -96,9 +96,9 @@ impl<D: Disk> Host<D> {
     /// Faults, the first that holds: `DeviceFailed`; `NoGeneration` where no file is open; `Damaged` where bytes have
     /// not the shape of a generation, an image or a record, or a record has not its image's version; `OtherInterface`
     /// where the store was made with a registry of another text; `Damaged` where no host with the registry may be in a
-    /// state; `GenerationSpent` where the generation is of version 1, and its number is 2^64 - 1. `NoMemory` where there
-    /// is none to read into, or none for the generation of version 2. But for `DeviceFailed` in the last steps, both
-    /// disks read as before.
+    /// state; `GenerationSpent` where the generation is of version 1, and its number is 2^64 - 1. `NoMemory` where
+    /// there is none to read into, or none for the generation of version 2. But for `DeviceFailed` in the last steps,
+    /// both disks read as before.
     pub fn open(alloc: Global, a: D, b: D, registry: Registry) -> Result<Host<D>, OpenRefused<D>>
         ensures opened { Opens D.Disk (registered registry) a b result }
     {
@@ -244,8 +244,8 @@ impl<D: Disk> Host<D> {
     /// was.
     ///
     /// Refusals, the first that holds. Each request but `seq`: `Reopen`. A `load`, a `call` and a `discard`:
-    /// `GenerationSpent`, `NoMemory` and `DeviceFailed` where a new generation is installed first; `SequenceSpent`; of a
-    /// `load` then `BadName`, `ModuleTaken`, `TooManyModules` and `BadSource`; of a `call` `NoModule`, `NoFunction`,
+    /// `GenerationSpent`, `NoMemory` and `DeviceFailed` where a new generation is installed first; `SequenceSpent`; of
+    /// a `load` then `BadName`, `ModuleTaken`, `TooManyModules` and `BadSource`; of a `call` `NoModule`, `NoFunction`,
     /// `NotCallable` and `BadArguments`; of a `discard` `NoModule`; `NoMemory` where finding these, the run or the
     /// record finds no memory; `DeviceFailed` where the answer could not be stored. A `get`: `NoModule`, `NoGlobal`. An
     /// `object`: `NoObject`, `NoMemory`. A snapshot: `GenerationSpent`, `NoMemory`, `DeviceFailed`. At `DeviceFailed`,

@@ -68,8 +68,8 @@ pub trait HostObject: Drop {
         ensures bounded { length (state self.now) ≤ max_state_bytes };
 
     /// Makes these bytes its state, or answers why not: `Refused`, only for bytes that it `refuses`, or `NoMemory`, for
-    /// any bytes, since a kind may need memory to find them bad. It may take bytes that it `refuses`. After an error its
-    /// state may be another one.
+    /// any bytes, since a kind may need memory to find them bad. It may take bytes that it `refuses`. After an error
+    /// its state may be another one.
     fn restore(&mut self, bytes: &[u8]) -> Result<(), RestoreFault>
         ensures restored { OnOk result (state self.new ≡ bytes.now) }
         ensures refused { IsErrOf result RestoreFault.Refused → refuses self.old bytes.now }

@@ -28,11 +28,12 @@
 //! whole, so `settle` writes 0 over it before anything is written after it. A journal is ready for that once `settle`
 //! has answered `Ok`, and is so no more once a device has failed in one of its calls.
 //!
-//! In reading order: `journal` (the calls) with its `generations` (how the next one is installed), `gate` (all writes but
-//! that of 0 over the first gate of a new file), `bytes` (what is written), `creation`, `two_files` and `one_file` (what
-//! files are read as), `first_append` (the first record after an opening), `other_state` (the file that is not current),
-//! `record`, `refusal`, `error`. The words of the clauses are in `specs/Layout` (a file), `specs/Current` (two files,
-//! and what they settle on), `specs/Runs` (moments), `specs/Journal` (what a journal holds) and `specs/Opening` (faults).
+//! In reading order: `journal` (the calls) with its `generations` (how the next one is installed), `gate` (all writes
+//! but that of 0 over the first gate of a new file), `bytes` (what is written), `creation`, `two_files` and `one_file`
+//! (what files are read as), `first_append` (the first record after an opening), `other_state` (the file that is not
+//! current), `record`, `refusal`, `error`. The words of the clauses are in `specs/Layout` (a file), `specs/Current`
+//! (two files, and what they settle on), `specs/Runs` (moments), `specs/Journal` (what a journal holds) and
+//! `specs/Opening` (faults).
 #![tactic(auto)]
 
 mod bytes;

@@ -2,8 +2,8 @@
 //! bytes and any sink.
 //!
 //! `source` and `sink` are what both ends give; `line`, `words`, `number`, `request_line` and `bytes` read a request;
-//! `reply` writes the text of a reply, by `answer`, `object`, and `refusal` with `faults` and `details` (what the faults of
-//! sources report), in `pieces`; `reader` and `writer` are a source and a sink over std's traits.
+//! `reply` writes the text of a reply, by `answer`, `object`, and `refusal` with `faults` and `details` (what the
+//! faults of sources report), in `pieces`; `reader` and `writer` are a source and a sink over std's traits.
 #![tactic(auto)]
 
 mod answer;

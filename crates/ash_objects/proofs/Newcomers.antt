@@ -36,7 +36,8 @@ length-with_at {A} n v (e ∷ l) =
     go Equal later = omega arith
     go Greater later = omega (arith, later)
 
--- A new object under a number that is not in use yet, counted nowhere, and each object that its words refer to counted once more.
+-- A new object under a number that is not in use yet, counted nowhere, and each object that its words refer to
+-- counted once more.
 module _ {B : Type 0} (n : ℕ) (p : SlotEntry B) (l : List (ℕ × SlotEntry B)) (o : IsInOrder l) (s : AreCounted l) (none : object_at n l ≡ None) (alive : AllLive l (words_of (p.item).body)) (fresh : (p.item).count ≡ 0) where
   at_new : (m : ℕ) → object_at m (with_at n p l) ≡ cond (nat_eq m n) (Some p) (object_at m l)
   at_new m = object_at-with_at n p m l

@@ -148,7 +148,8 @@ module _ {B : Type 0} where
       rw (← first, ← second) fit.0
   fit_at (o ∷ objects) (b ∷ boxes) (suc k) object box fit one two = fit_at objects boxes k object box fit.1 one two
 
-  -- How far the putting of objects has come, the last first: what is left of them and of what they took, and what is there.
+  -- How far the putting of objects has come, the last first: what is left of them and of what they took,
+  -- and what is there.
   pub record PutState (objects : List StoredObject) (boxes : List (Option B)) (os : List StoredObject) (bs : List (Option B)) (l : List (ℕ × SlotEntry B)) : Type 0 where
     pub left : os ≡ take (length os) objects
     pub right : bs ≡ take (length os) boxes

@@ -15,8 +15,8 @@ abbrev pub left_at : Halt → Tokens
 left_at (Unexpected rest) = rest
 left_at (TooDeep rest) = rest
 
--- what a phrase goes on with from the fault on: where a token is too deep, with this token, and, whatever is after, with
--- no declaration of variables
+-- what a phrase goes on with from the fault on: where a token is too deep, with this token, and, whatever is after,
+-- with no declaration of variables
 abbrev pub GoesOn : Halt → Tokens → Type 0
 GoesOn (Unexpected rest) tail = Unit {0}
 GoesOn (TooDeep []) tail = ⊥
@@ -33,7 +33,8 @@ pub record TakenTokens {A : Type 0} (ts : Tokens) (x : A) (rest : Tokens) (P : �
   pub all : ts ≡ taken ++ rest
   pub is : (free : ℕ) (left : Tokens) → P free (taken ++ left) x left
 
--- the tokens before the fault begin the phrase: with this tail they are one, where the depth isn't asked from the tail on
+-- the tokens before the fault begin the phrase: with this tail they are one,
+-- where the depth isn't asked from the tail on
 pub record Stopped {A : Type 0} (ts : Tokens) (h : Halt) (P : ℕ → Tokens → A → Tokens → Type 0) : Type 0 where
   pub prefix : Tokens
   pub all : ts ≡ prefix ++ left_at h
@@ -147,7 +148,8 @@ stopped_at Q ts f = record { prefix = []; all = refl; tail = f.text; goes_on = t
 pub stops_here : {A : Type 0} (Q : ℕ → Tokens → A → Tokens → Type 0) (ts : Tokens) → Filled Q → Law (Err (Unexpected ts)) ts Q
 stops_here Q ts f = record { explained = stopped_at Q ts f; filled = f }
 
--- some tokens after this one are, with it, the phrase, where the depth isn't asked of them, and no declaration of variables
+-- some tokens after this one are, with it, the phrase, where the depth isn't asked of them,
+-- and no declaration of variables
 pub record FilledBy {A : Type 0} (t : Meaning × Place) (P : ℕ → Tokens → A → Tokens → Type 0) : Type 0 where
   pub text : Tokens
   pub tree : A

@@ -87,8 +87,8 @@ passed_is_read ts =
     (λ x s. ap (λ o. and_after o (λ e. after_sign signs.Greater e)) (elem_passed s)
     ∙ then_passed (elem_at s) (λ e. expect_at signs.Greater e.1 >>= λ z. Ok (e.0, z.1)) (λ e. after_sign signs.Greater e) (λ e r. sign_passed signs.Greater r ∙ map_passed (expect_at signs.Greater r) e))
 
--- These tokens begin with what leaves it open whether a declaration of variables begins, and so many are after it at the
--- most: after a name, after a primitive type, or in or after an array's `"<" elem ">"`.
+-- These tokens begin with what leaves it open whether a declaration of variables begins, and so many are after it at
+-- the most: after a name, after a primitive type, or in or after an array's `"<" elem ">"`.
 pub data Passed (n : ℕ) : Tokens → Type 0 where
   name_passed : (text : List ℕ) (p : Place) (s : Tokens) → length s ≤ n → Passed n ((name text, p) ∷ s)
   word_passed : (m : Meaning) (p : Place) (k : Primitive) (s : Tokens) → primitive m ≡ Some k → length s ≤ n → Passed n ((m, p) ∷ s)
@@ -117,7 +117,8 @@ element_taken t more other prefix differs =
     element_passed_by (element_lawful.keeps t more other prefix) (element_uncut (prefix ++ t ∷ more))
     (λ e. differs (ap (λ o. array_names_vars o) (passed_is_read (prefix ++ t ∷ more)) ∙ e ∙ sym (ap (λ o. array_names_vars o) (passed_is_read (prefix ++ t ∷ other)))))
 
--- where two lists of tokens that are the same up to `t` differ in beginning a declaration, `t` is in what leaves it open
+-- where two lists of tokens that are the same up to `t` differ in beginning a declaration,
+-- `t` is in what leaves it open
 first_passed : (k : Option Primitive) (m : Meaning) (p : Place) (more other : Tokens) → primitive m ≡ k → (is_vars ((m, p) ∷ more) ≡ is_vars ((m, p) ∷ other) → ⊥) → Passed (length more) ((m, p) ∷ more)
 unfolding is_vars is_name is_array
 first_passed (Some k) m p more other e differs = word_passed m p k more e (omega arith)

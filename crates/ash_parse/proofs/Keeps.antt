@@ -32,10 +32,10 @@ Fewer n (Err (TooDeep rest)) = length rest < n
 abbrev pub Beyond : Meaning × Place → Tokens → ℕ → Type 0
 Beyond t more n = (seen rest : Tokens) → LeavesOpen t seen → more ≡ seen ++ rest → n ≤ length rest
 
--- What two answers have to do with each other, where the tokens that were read differ only in what is after `t`. They are
--- one answer, but that where `more` is left after `t` in the first, `other` is in the second; or both took `t`. Or the
--- first took what decides that a declaration of variables begins, which it doesn't with the tokens of the second; or it
--- stops at a token that is too deep, with which a declaration begins in the second.
+-- What two answers have to do with each other, where the tokens that were read differ only in what is after `t`. They
+-- are one answer, but that where `more` is left after `t` in the first, `other` is in the second; or both took `t`. Or
+-- the first took what decides that a declaration of variables begins, which it doesn't with the tokens of the second;
+-- or it stops at a token that is too deep, with which a declaration begins in the second.
 pub data Agree {A : Type 0} (t : Meaning × Place) (more other : Tokens) : ParseResult A → ParseResult A → Type 0 where
   reads : (x : A) (prefix : Tokens) → Agree t more other (Ok (x, prefix ++ t ∷ more)) (Ok (x, prefix ++ t ∷ other))
   stops : (prefix : Tokens) → Agree t more other (Err (Unexpected (prefix ++ t ∷ more))) (Err (Unexpected (prefix ++ t ∷ other)))
@@ -56,8 +56,8 @@ pub data Clear {A : Type 0} (t : Meaning × Place) (more : Tokens) (n : ℕ) : P
   unexpected : (rest : Tokens) → Clear t more n (Err (Unexpected rest))
   after_it : {o : ParseResult A} → Fewer n o → Clear t more n o
 
--- With other tokens after `t`, the answers agree; tokens that are taken stay so; and no reading ends, or is cut, inside an
--- array's `"<" elem ">"`.
+-- With other tokens after `t`, the answers agree; tokens that are taken stay so; and no reading ends, or is cut, inside
+-- an array's `"<" elem ">"`.
 pub record Lawful {A : Type 0} (read : Tokens → ParseResult A) : Type 0 where
   pub keeps : (t : Meaning × Place) (more other prefix : Tokens) → Agree t more other (read (prefix ++ t ∷ more)) (read (prefix ++ t ∷ other))
   pub stays : (n : ℕ) (s : Tokens) → length s ≤ n → Past n (read s)

@@ -1,4 +1,5 @@
--- Tokens have one first fault at most: of two, the later one would have a module go on where the other says that none does.
+-- Tokens have one first fault at most: of two, the later one would have a module go on
+-- where the other says that none does.
 use Rattle.std.proofs.Common.{◌≡◌, ℕ, zero, suc, ◌+◌, ◌<◌, ◌≤◌, ◌⊎◌, inl, inr, List, [], ◌∷◌, ◌++◌, length, Ok, Err, refl, sym, ap, subst, ◌∙◌, append_assoc, length-append, arith}
 use Rattle.std.proofs.lemmas.List.{append-nil}
 use Rattle.ash_lex.specs.Tokens.{Meaning, reserved}
@@ -85,7 +86,8 @@ inside_seen : (t : Meaning × Place) (mid more : Tokens) (u : Meaning × Place) 
 inside_seen t mid more u (inl e) = absurd (not_none mid more u e)
 inside_seen t mid more u (inr d) = (d.0, more ++ d.1, d.2, subst (λ (l : Tokens). IsElement l d.2 []) (append_assoc mid (u ∷ more) d.1) d.3)
 
--- a module that goes on after `t` has `t` too deep, where each does that has the same tokens after it as far as they count
+-- a module that goes on after `t` has `t` too deep, where each does that has the same tokens after it
+-- as far as they count
 module _ (less : Tokens) (t : Meaning × Place) (mid tail rest : Tokens) (u : Meaning × Place) (free : ℕ) (items : List Item) (inside : IsInside t mid u → ⊥) (d : Derives free (less ++ t ∷ (mid ++ u ∷ tail)) items) (few : free ≤ suc (length tail)) where
   at_same : NoneKeeps less t mid (u ∷ rest) → ⊥
   at_same none = none tail items (derives_freer d (length mid + suc (length tail)) (omega arith))

@@ -1,8 +1,8 @@
 //! Trees from tokens.
 //!
-//! `parse_module` reads the tokens of a script as one tree, and `parse_declaration` those of what a host registers; each
-//! returns a fault where there is no tree. The crate uses `ash_lex`, whose tokens it reads, and `ash_tree`, whose trees
-//! it makes and whose grammar it follows: what is returned is derived, and whatever the tokens derive is what is
+//! `parse_module` reads the tokens of a script as one tree, and `parse_declaration` those of what a host registers;
+//! each returns a fault where there is no tree. The crate uses `ash_lex`, whose tokens it reads, and `ash_tree`, whose
+//! trees it makes and whose grammar it follows: what is returned is derived, and whatever the tokens derive is what is
 //! returned, so that they have one tree at most; and a fault is the first by the grammar, of which they have one where
 //! they have no tree. The tokens are read once, from left to right, and at most ten of them ahead.
 //!

@@ -99,7 +99,8 @@ pub fn parse_module(alloc: Global, tokens: &[Token]) -> Result<Module, ParseFaul
     // Whatever the tokens derive within depth 64 is what is answered, unless memory runs out.
     ensures only { (derived : List Item) → Derives 0 (tokens_of tokens.now) derived
         → MatchResult result (λ tree. module_of tree ≡ derived) (λ fault. fault ≡ NoMemory) }
-    // A fault is the first by the grammar: the tokens before it begin a module, and nothing that goes on with it is one.
+    // A fault is the first by the grammar: the tokens before it begin a module,
+    // and nothing that goes on with it is one.
     ensures first { IfErr result (λ fault. ReportsFirst FirstFault tokens.now fault) }
 {
     match items(alloc, tokens) {

@@ -1,5 +1,5 @@
--- Walks: two runs that come to the same wherever at most so many ticks are left, that come there by a trace, and that go on
--- where they have more ticks; and how they are put together.
+-- Walks: two runs that come to the same wherever at most so many ticks are left, that come there by a trace, and that
+-- go on where they have more ticks; and how they are put together.
 use Rattle.std.proofs.Common.{◌≡◌, ◌≤◌, ◌<◌, ◌+◌, ◌∙◌, ℕ, zero, suc, Bool, true, false, Option, Some, None, if◌then◌else◌, refl, sym, subst, ap, arith}
 use Rattle.ash_phrases.specs.declared.exception.Exception.{Exception}
 use Rattle.ash_phrases.specs.Activity.{Activity, in_frame}

@@ -1,4 +1,4 @@
--- Small modules whose meaning is computed: of exceptions in each sort of phrase, and of what they leave.
+-- Small modules whose meaning is computed: of exceptions in each form of phrase, and of what they leave.
 use Rattle.std.specs.Prelude.{List, [], ◌∷◌, codes, Some, None}
 use Rattle.ash_integers.specs.declared.int_type.IntType.TheVariants as ints
 use Rattle.ash_typed.specs.declared.tree.operations.Calculator.TheVariants as calculators

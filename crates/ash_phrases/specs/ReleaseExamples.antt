@@ -1,4 +1,4 @@
--- Small modules whose meaning is computed: of objects that go at each sort of release point.
+-- Small modules whose meaning is computed: of objects that go at each form of release point.
 use Rattle.std.specs.Prelude.{ℕ, pos, List, [], ◌∷◌, codes, Some, None}
 use Rattle.ash_host.specs.declared.word.Word.TheVariants as words
 use Rattle.ash_host.specs.declared.answer.HostAnswer.TheVariants.{Value}

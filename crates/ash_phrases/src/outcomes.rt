@@ -209,7 +209,7 @@ pub fn worked_point_examples()
     ensures held_outside { HasEvents (call_function examples.sum 0 [] 2 held_outside) [] }
 {}
 
-/// Exceptions in each sort of phrase, with the function and the line of the last tick.
+/// Exceptions in each form of phrase, with the function and the line of the last tick.
 pub fn worked_exception_examples()
     ensures local { ThrowsAt
         (call_function exceptions.in_a_local 0 [] 9 empty_world) Exception.DivideByZero f 3 }

@@ -251,7 +251,7 @@ pub fn worked_conversions()
         Word.Uint64 18446744073709551615 ∷ Word.Uint64 4294967303 ∷ []) }
 {}
 
-/// The line of each tick of a function with each sort of statement: with as many ticks as are before it, the function
+/// The line of each tick of a function with each form of statement: with as many ticks as are before it, the function
 /// is aborted there, and with all of them it comes to its end.
 pub fn worked_ticks()
     ensures lines { ends_within every_statement 25

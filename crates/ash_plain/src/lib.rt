@@ -5,8 +5,8 @@
 //! it says. Where memory runs out it answers `NoMemory`, and of the activity nothing is said then.
 //!
 //! In reading order: `objects` (those that live, how many handles there are to each, and the sweep), `activity` (what
-//! runs); the named steps of activities: `releases`, `frames`, `object_steps`, `host_steps`, `array_steps`, `locations`,
-//! `stores`, `flow`.
+//! runs); the named steps of activities: `releases`, `frames`, `object_steps`, `host_steps`, `array_steps`,
+//! `locations`, `stores`, `flow`.
 #![tactic(auto)]
 
 pub mod activity;

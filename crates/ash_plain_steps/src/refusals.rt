@@ -135,7 +135,8 @@ fn reading<S: Sources>(
     }
 }
 
-/// Refused with `NoObject`. Whether there is an object of the number, and a class of it, is tested before memory is taken.
+/// Refused with `NoObject`. Whether there is an object of the number, and a class of it,
+/// is tested before memory is taken.
 #[tactic(auto, using(crate::proofs::ShownObjects::shown_nowhere, crate::proofs::ShownObjects::shown_by_no_class, crate::proofs::ShownObjects::shown_takes))]
 fn showing<S: Sources>(
     sources: &S,

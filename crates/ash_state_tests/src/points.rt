@@ -1,4 +1,4 @@
-//! Counters that go at each sort of release point, those of one point by ascending number.
+//! Counters that go at each form of release point, those of one point by ascending number.
 
 use crate::calls::HostStep;
 use crate::rows::{HOST, Host, Row, check_rows};

@@ -50,8 +50,8 @@ pub record RanOut (request : Request) (old : HostState) (reply : Reply SourceFau
 abbrev pub Steps : ℕ → Request → HostState → Reply SourceFault → HostState → Type 0
 Steps budget request old reply new = (step budget request old ≡ Some (reply, new)) ⊎ RanOut request old reply new
 
--- The request is not refused, its task changes the state, and memory was refused while the state changed. That there is no
--- step never comes.
+-- The request is not refused, its task changes the state, and memory was refused while the state changed. That there is
+-- no step never comes.
 abbrev pub HasNoEnd : Request → HostState → StepError → Type 0
 HasNoEnd request old errors.NoMemory = IsChange (task_of request old)
 HasNoEnd request old errors.NoStep = ⊥
@@ -68,7 +68,7 @@ abbrev pub StepsKeepAdmitted : Type 0
 StepsKeepAdmitted = (budget : ℕ) (request : Request) (old : HostState) (reply : Reply SourceFault) (new : HostState)
     → IsAdmitted old → Steps budget request old reply new → IsAdmitted new × (new.registered ≡ old.registered)
 
--- Each request has a step in a state that a host may be in: scripts that are admitted call nothing that is registered, so
--- that no run waits for an answer.
+-- Each request has a step in a state that a host may be in: scripts that are admitted call nothing that is registered,
+-- so that no run waits for an answer.
 abbrev pub HaveSteps : Type 0
 HaveSteps = (budget : ℕ) (request : Request) (s : HostState) → IsAdmitted s → IsSome (step budget request s)

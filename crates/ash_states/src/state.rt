@@ -119,8 +119,8 @@ impl HostState {
     ///
     /// # Errors
     ///
-    /// The state is lost, and is as before any request; that comes only of a request that is not refused and changes it.
-    /// `NoMemory` where memory was refused while it changed; never `NoStep`, since each request has a step.
+    /// The state is lost, and is as before any request; that comes only of a request that is not refused and changes
+    /// it. `NoMemory` where memory was refused while it changed; never `NoStep`, since each request has a step.
     pub fn handle(
         &mut self,
         request: &Request<'_>,

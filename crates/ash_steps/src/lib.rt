@@ -10,8 +10,8 @@
 //! requests), `Premises` (what statements may take as given), `SourceViews` (what is read of sources), `Laws`, and
 //! `Examples` with those beside it.
 //!
-//! In reading order: `argument` (what a call is handed), `sources` (the trait of programs that read sources), `laws` (of
-//! steps), `examples` and `host_runs` (runs that are computed).
+//! In reading order: `argument` (what a call is handed), `sources` (the trait of programs that read sources), `laws`
+//! (of steps), `examples` and `host_runs` (runs that are computed).
 #![tactic(auto)]
 
 mod argument;

@@ -5,8 +5,8 @@ use Rattle.ash_typed.specs.Modules.{Interface, Module}
 use Rattle.ash_typed.specs.Signatures.{Host}
 use Rattle.ash_typed.specs.SoundModules.{AreInOrder, IsSound}
 
--- No interface has more classes before it than a later one, so that each class and each interface has a place of its own in
--- the source.
+-- No interface has more classes before it than a later one, so that each class and each interface has a place of its
+-- own in the source.
 abbrev pub IsInSourceOrder : Module → Type 0
 IsInSourceOrder m =
     (earlier later : ℕ) (i j : Interface)

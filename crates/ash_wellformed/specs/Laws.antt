@@ -58,8 +58,8 @@ pub data Offers (host : Host) : Type 0 where
 abbrev pub OffersNothing : Host → Type 0
 OffersNothing host = Offers host → ⊥
 
--- What is left at each end: this after a value, and some well-formed activity where a run was interrupted. There is no step
--- only where the host offers something: a host may answer nothing to a call, or find no memory.
+-- What is left at each end: this after a value, and some well-formed activity where a run was interrupted. There is no
+-- step only where the host offers something: a host may answer nothing to a call, or find no memory.
 pub data Leaves {A : Type 0} (c : Context) (Left : A → Activity → Type 0) : Progress A → Type 0 where
   done : {v : A} {b : Activity} → Left v b → Leaves c Left (Done v b)
   ended : {interrupt : Interrupt} {b : Activity} → IsSafe c b → Leaves c Left (Ended interrupt b)

@@ -37,8 +37,8 @@ impl<D: Disk> Journal<D> {
         }
     }
 
-    /// Writes the next generation to the other file, on a journal that is ready. The file that was current isn't touched,
-    /// and stays as the older generation. It takes no memory.
+    /// Writes the next generation to the other file, on a journal that is ready. The file that was current isn't
+    /// touched, and stays as the older generation. It takes no memory.
     ///
     /// After `DeviceFailed` the old generation is current or the new one, and the journal is ready no more: it is to be
     /// opened again. It is one write and a sync, twice, and once more where the other file's first gate is to be shut;
@@ -82,8 +82,8 @@ impl<D: Disk> Journal<D> {
         Ok(())
     }
 
-    /// Writes a new generation with an image and no records to the other file, on a journal that is ready. The file that
-    /// was current isn't touched, and stays as the older generation.
+    /// Writes a new generation with an image and no records to the other file, on a journal that is ready. The file
+    /// that was current isn't touched, and stays as the older generation.
     ///
     /// Refusals, the first that holds: `GenerationSpent` where the number is 2^64 - 1; `NoMemory`; both change nothing
     /// and come before any call of a device. After `DeviceFailed` the old generation is current or the new one, and the
