@@ -58,17 +58,18 @@ typing_error check_faults.NoMemory = errors.NoMemory
 
 -- how reading a source fails
 
--- Memory is taken to find each fault but that of a source which its length alone refuses.
+-- Memory may be taken to find each fault but that of a source which its length alone refuses.
 abbrev pub TakesMemoryToFind : SourceFault → Type 0
 TakesMemoryToFind (Lexical lex_faults.SourceTooLong) = ⊥
 TakesMemoryToFind fault = Unit {0}
 
--- What a source comes to takes memory to find, unless it is such a fault.
+-- Memory may be taken to find what a source comes to, unless it is such a fault.
 abbrev pub TakesMemoryFor : {A : Type 0} → Result A SourceFault → Type 0
 TakesMemoryFor (Ok found) = Unit {0}
 TakesMemoryFor (Err fault) = TakesMemoryToFind fault
 
--- The error is the fault that a source comes to, or that memory was refused, where finding what it comes to takes some.
+-- The error is the fault that a source comes to, or that memory was refused, where finding what it comes to may take
+-- some.
 abbrev pub RefusesAs : {A : Type 0} → Result A SourceFault → SourceError → Type 0
 RefusesAs outcome (errors.Fault fault) = outcome ≡ Err (fault_of fault)
 RefusesAs outcome errors.NoMemory = TakesMemoryFor outcome

@@ -22,7 +22,7 @@ pub enum SourceFault {
     #[error("{0}")]
     Cyclic(ClassNames),
     /// Its script is typed, but uses something registered, which no script that runs can do so far.
-    #[error("the script is not of the part of the language that can be run so far")]
+    #[error("the script uses something that is registered, which scripts can't do yet")]
     NotYet,
 }
 
