@@ -69,23 +69,48 @@ ReadsScript feed old script new =
     feed.reads old script new
     × ((length script ≡ max_prefix_bytes) ⊎ ((length script < max_prefix_bytes) × feed.ended new))
 
--- The script of a source was read and the verdict on it was written; or a read or a write failed, or there was no
--- memory.
-abbrev pub ChecksScript : {S K : Type 0} → Feed S → Outlet K → List Registration → S → K → Result Ending Fault → S → K
-    → Type 0
-ChecksScript feed outlet registered s k (Ok ending) s' k' =
-    (script : List ℕ) × ReadsScript feed s script s'
-    × WritesVerdict outlet k (verdict_on registered script) (Ok ending) k'
-ChecksScript feed outlet registered s k (Err (program.Run faults.Write)) s' k' =
-    (script : List ℕ) × ReadsScript feed s script s'
-    × FailsPartway outlet k (verdict_line (verdict_on registered script)) k'
-ChecksScript feed outlet registered s k (Err (program.Run faults.Read)) s' k' =
-    (script : List ℕ) × (length script < max_prefix_bytes) × Faults feed s script read_faults.Failed s' × (k' ≡ k)
-ChecksScript feed outlet registered s k (Err (program.Run faults.TooLong)) s' k' =
-    (script : List ℕ) × (length script < max_prefix_bytes) × Faults feed s script read_faults.TooLong s' × (k' ≡ k)
-ChecksScript {S} feed outlet registered s k (Err program.NoMemory) s' k' =
-    ((s' ≡ s) ⊎ ((script : List ℕ) × ReadsScript feed s script s' × TakesMemory registered script)) × (k' ≡ k)
-ChecksScript feed outlet registered s k (Err _) s' k' = ⊥
+-- how a script is read and the verdict on it is written: what the source gives, and what the sink does
+pub record ScriptStreams (S K : Type 0) : Type 1 where
+  pub feed : Feed S
+  pub outlet : Outlet K
+
+-- what a check reads from and what it writes to, at one moment
+pub record CheckState (S K : Type 0) : Type 0 where
+  pub input : S
+  pub output : K
+
+abbrev pub streams_with : {S K : Type 0} → Feed S → Outlet K → ScriptStreams S K
+streams_with feed outlet = record { feed = feed; outlet = outlet }
+
+abbrev pub check_state : {S K : Type 0} → S → K → CheckState S K
+check_state input output = record { input = input; output = output }
+
+-- The script of a source was read and the verdict on it was written; or a read or a write failed, or
+-- there was no memory.
+abbrev pub ChecksScript : {S K : Type 0} → ScriptStreams S K → List Registration → CheckState S K
+    → Result Ending Fault → CheckState S K → Type 0
+ChecksScript streams registered before (Ok ending) after =
+    (script : List ℕ) × ReadsScript streams.feed before.input script after.input
+    × WritesVerdict streams.outlet before.output (verdict_on registered script) (Ok ending)
+        after.output
+ChecksScript streams registered before (Err (program.Run faults.Write)) after =
+    (script : List ℕ) × ReadsScript streams.feed before.input script after.input
+    × FailsPartway streams.outlet before.output (verdict_line (verdict_on registered script))
+        after.output
+ChecksScript streams registered before (Err (program.Run faults.Read)) after =
+    (script : List ℕ) × (length script < max_prefix_bytes)
+    × Faults streams.feed before.input script read_faults.Failed after.input
+    × (after.output ≡ before.output)
+ChecksScript streams registered before (Err (program.Run faults.TooLong)) after =
+    (script : List ℕ) × (length script < max_prefix_bytes)
+    × Faults streams.feed before.input script read_faults.TooLong after.input
+    × (after.output ≡ before.output)
+ChecksScript streams registered before (Err program.NoMemory) after =
+    ((after.input ≡ before.input)
+    ⊎ ((script : List ℕ) × ReadsScript streams.feed before.input script after.input
+    × TakesMemory registered script))
+    × (after.output ≡ before.output)
+ChecksScript streams registered before (Err _) after = ⊥
 
 -- The script of a file, where its bytes are known, is all of them or the first 65,537.
 abbrev pub IsScriptOf : Option (List ℕ) → List ℕ → Type 0

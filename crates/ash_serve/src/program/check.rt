@@ -2,7 +2,7 @@
 
 ghost use Rattle.ash_registry.specs.Registered.{registered};
 ghost use Rattle.ash_serve.specs.CheckRun.{EndsCheck, ChecksFile, ChecksScript, ReadsScript};
-ghost use Rattle.ash_serve.specs.CheckRun.{Judges, WritesVerdict, verdict_of};
+ghost use Rattle.ash_serve.specs.CheckRun.{Judges, WritesVerdict, check_state, streams_with, verdict_of};
 
 use super::ending::{End, Ending};
 use super::fault::Fault;
@@ -69,8 +69,8 @@ pub fn check_script<S: Source, K: Sink>(
     input: &mut S,
     output: &mut K,
 ) -> Result<Ending, Fault>
-    ensures checks { ChecksScript S.feed K.outlet (registered registry.now) input.old output.old
-        result input.new output.new }
+    ensures checks { ChecksScript (streams_with S.feed K.outlet) (registered registry.now)
+        (check_state input.old output.old) result (check_state input.new output.new) }
 {
     let mut script = Vec::with_capacity(alloc, MAX_PREFIX_BYTES)?;
     match read_bytes(input, MAX_SCRIPT_BYTES, &mut script) {
