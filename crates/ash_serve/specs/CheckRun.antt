@@ -69,7 +69,8 @@ ReadsScript feed old script new =
     feed.reads old script new
     × ((length script ≡ max_prefix_bytes) ⊎ ((length script < max_prefix_bytes) × feed.ended new))
 
--- how a script is read and the verdict on it is written: what the source gives, and what the sink does
+-- how a script is read and the verdict on it is written: what the source gives, and what the sink
+-- does
 pub record ScriptStreams (S K : Type 0) : Type 1 where
   pub feed : Feed S
   pub outlet : Outlet K
@@ -92,11 +93,11 @@ abbrev pub ChecksScript : {S K : Type 0} → ScriptStreams S K → List Registra
 ChecksScript streams registered before (Ok ending) after =
     (script : List ℕ) × ReadsScript streams.feed before.input script after.input
     × WritesVerdict streams.outlet before.output (verdict_on registered script) (Ok ending)
-        after.output
+    after.output
 ChecksScript streams registered before (Err (program.Run faults.Write)) after =
     (script : List ℕ) × ReadsScript streams.feed before.input script after.input
     × FailsPartway streams.outlet before.output (verdict_line (verdict_on registered script))
-        after.output
+    after.output
 ChecksScript streams registered before (Err (program.Run faults.Read)) after =
     (script : List ℕ) × (length script < max_prefix_bytes)
     × Faults streams.feed before.input script read_faults.Failed after.input

@@ -61,9 +61,9 @@ GoOnToLast lines = (others : List Line) × (last : Line) × (lines ≡ others ++
 abbrev pub KnownState : Type 0 → Type 0
 KnownState H = RunState (Option (List ℕ)) (Option (List ℕ)) H
 
--- How a run ended, by its outcome: what the output and the host are then. What was written is the
--- text of the replies. Where a write failed it is that of all but the last, and a prefix of the last:
--- no request was handled before the replies to those before it were written.
+-- How a run ended, by its outcome, with this output and this host. What was written is the text of
+-- the replies. Where a write failed it is that of all but the last, and a prefix of the last: no
+-- request was handled before the replies to those before it were written.
 abbrev pub RunEnds : {H : Type 0} → RequestRelation H → KnownState H
     → Result (Unit {0}) RunFault → Option (List ℕ) → H → Type 0
 RunEnds handles before (Ok _) output host =

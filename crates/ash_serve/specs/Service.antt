@@ -13,8 +13,8 @@ use Rattle.ash_serve.specs.declared.fault.RunFault.{RunFault}
 use Rattle.ash_serve.specs.declared.program.fault.Fault.{Fault}
 use Rattle.ash_serve.specs.declared.program.fault.Fault.TheVariants.{Store, Run}
 
--- what serving begins with: how a host begins on the disks; the bytes that are left to read and those
--- that are written, where these are known
+-- what serving begins with: how a host begins on the disks; the bytes that are left to read and
+-- those that are written, where these are known
 pub record ServiceStart (D : Type 0) : Type 1 where
   pub begins : Result (Hosted D) (OpenRefused D) → Type 0
   pub input : Option (List ℕ)
@@ -22,7 +22,7 @@ pub record ServiceStart (D : Type 0) : Type 1 where
 
 -- what remains of serving: the disks, which are handed back, and the bytes that are written, where
 -- these are known
-pub record Remains (D : Type 0) : Type 0 where
+pub record ServiceRemains (D : Type 0) : Type 0 where
   pub a : D
   pub b : D
   pub output : Option (List ℕ)
@@ -31,14 +31,15 @@ abbrev pub service_start : {D : Type 0} → (Result (Hosted D) (OpenRefused D) �
     → Option (List ℕ) → Option (List ℕ) → ServiceStart D
 service_start begins input output = record { begins = begins; input = input; output = output }
 
-abbrev pub remains : {D : Type 0} → D → D → Option (List ℕ) → Remains D
-remains a b output = record { a = a; b = b; output = output }
+abbrev pub service_remains : {D : Type 0} → D → D → Option (List ℕ) → ServiceRemains D
+service_remains a b output = record { a = a; b = b; output = output }
 
 -- A host ran, and if its files held its state, they do so afterwards. Its replies are those of the
 -- written steps, up to the first request by which it must be reopened, and every life of its store
--- goes on with what was answered. Then it was closed: its disks are handed back as the run left them.
+-- goes on with what was answered. Then it was closed: its disks are handed back as the run left
+-- them.
 pub record HostRun {D : Type 0} (device : Device D) (budget : ℕ) (before : KnownState (Hosted D))
-    (result : Result (Unit {0}) RunFault) (after : Remains D) : Type 0 where
+    (result : Result (Unit {0}) RunFault) (after : ServiceRemains D) : Type 0 where
   pub last : Hosted D
   pub ends : RunEnds (Handles device budget) before result after.output last
   pub saved : IsSaved device before.host → IsSaved device last
@@ -53,16 +54,16 @@ pub record HostRun {D : Type 0} (device : Device D) (budget : ℕ) (before : Kno
 
 -- Serving from a host did this.
 abbrev pub ServesHost : {D : Type 0} → Device D → ℕ → KnownState (Hosted D)
-    → Result (Unit {0}) Fault → Remains D → Type 0
+    → Result (Unit {0}) Fault → ServiceRemains D → Type 0
 ServesHost device budget before (Ok done) after = HostRun device budget before (Ok done) after
 ServesHost device budget before (Err (Run fault)) after =
     HostRun device budget before (Err fault) after
 ServesHost device budget before (Err _) after = ⊥
 
--- Serving from a host that begins so did this; or there was a refusal, which is returned, and nothing
--- was written. The disks are handed back.
+-- Serving from a host that begins so did this; or there was a refusal, which is returned, and
+-- nothing was written. The disks are handed back.
 abbrev pub ServesFrom : {D : Type 0} → Device D → ℕ → ServiceStart D → Result (Unit {0}) Fault
-    → Remains D → Type 0
+    → ServiceRemains D → Type 0
 ServesFrom {D} device budget start (Err (Store fault)) after =
     (refused : OpenRefused D) × start.begins (Err refused) × (refused.fault ≡ fault)
     × (after.a ≡ refused.a) × (after.b ≡ refused.b) × (after.output ≡ start.output)

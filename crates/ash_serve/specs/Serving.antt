@@ -109,7 +109,8 @@ abbrev pub HandlesNext : {S H : Type 0} → Handling S H → RequestState S H
 HandlesNext handling before (Ok None) after =
     handling.feed.reads before.input [] after.input × handling.feed.ended after.input
     × (after.host ≡ before.host)
-HandlesNext handling before (Ok (Some reply)) after = HandlesRequest handling before (Ok reply) after
+HandlesNext handling before (Ok (Some reply)) after =
+    HandlesRequest handling before (Ok reply) after
 HandlesNext handling before (Err fault) after = HandlesRequest handling before (Err fault) after
 
 -- ---- a run
@@ -173,8 +174,10 @@ pub record InputFails {S K H : Type 0} (feed : Feed S) (fault : ReadFault)
 abbrev pub EndsByFault : {S K H : Type 0} → Serving S K H → RunState S K H → RunFault
     → RunState S K H → Type 0
 EndsByFault serving before faults.Truncated after = EndsInsideRequest serving.feed before after
-EndsByFault serving before faults.TooLong after = InputFails serving.feed read_faults.TooLong before after
-EndsByFault serving before faults.Read after = InputFails serving.feed read_faults.Failed before after
+EndsByFault serving before faults.TooLong after =
+    InputFails serving.feed read_faults.TooLong before after
+EndsByFault serving before faults.Read after =
+    InputFails serving.feed read_faults.Failed before after
 EndsByFault serving before faults.Write after =
     (line : Line) × (reply : LineReply)
     × HandlesLine (handling_of serving) (without_output before) line reply (without_output after)
@@ -204,7 +207,8 @@ pub record OngoingLog {S K H : Type 0} (serving : Serving S K H) (before after :
 pub record Quits {S K H : Type 0} (serving : Serving S K H) (before after : RunState S K H)
     : Type 0 where
   pub handled :
-      HandlesLine (handling_of serving) (without_output before) Quit QuitReply (without_output after)
+      HandlesLine (handling_of serving) (without_output before) Quit QuitReply
+      (without_output after)
   pub written : WritesAll serving.outlet before.output (reply_line QuitReply) after.output
 
 -- A run: the requests before its end, and how it ended. Without memory nothing was read, handled or

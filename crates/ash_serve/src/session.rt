@@ -72,7 +72,7 @@ impl Session {
         requires short { length self.old.line.items ≤ max_line_bytes }
         ensures handled { (start : S) → ReadsWholeLine S.feed start self.old.line.items input.old
             → HandlesRequest (handling_with S.feed (H.handles self.old.budget))
-                (request_state start host.old) result (request_state input.new host.new) }
+            (request_state start host.old) result (request_state input.new host.new) }
         ensures room { HasRoom self.new }
         ensures budget { self.new.budget ≡ self.old.budget }
     {
@@ -110,7 +110,7 @@ fn handle_load<S: Source, H: RequestHandler>(
         → length line ≤ max_line_bytes
         → parse_line line ≡ Header header.entry.name.now header.entry.length
         → HandlesRequest (handling_with S.feed (H.handles budget))
-            (request_state start host.old) result (request_state input.new host.new) }
+        (request_state start host.old) result (request_state input.new host.new) }
     ensures room { max_prefix_bytes ≤ vec_capacity prefix.new }
 {
     match read_bytes(input, header.length, prefix)? {

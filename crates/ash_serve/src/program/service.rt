@@ -3,7 +3,7 @@
 ghost use Rattle.std.specs.Prelude.{◌≡◌, Err};
 ghost use Rattle.ash_durable.specs.Store.{Creates, Opens};
 ghost use Rattle.ash_registry.specs.Registered.{registered};
-ghost use Rattle.ash_serve.specs.Service.{ServesHost, ServesFrom, remains, service_start};
+ghost use Rattle.ash_serve.specs.Service.{ServesHost, ServesFrom, service_remains, service_start};
 ghost use Rattle.ash_serve.specs.Serving.{run_state};
 ghost use Rattle.ash_serve.specs.declared.program.fault.Fault.TheVariants as faults;
 
@@ -41,8 +41,8 @@ pub fn serve_stored<D: Disk, R: Read + Drop, W: Write>(
 ) -> ServiceEnd<D>
     ensures serves { ServesFrom D.Disk service.budget
         (service_start (Opens D.Disk (registered service.registry) service.a service.b)
-            (R.remaining reader) (W.contents writer.old))
-        result.end (remains result.a result.b (W.contents writer.new)) }
+        (R.remaining reader) (W.contents writer.old))
+        result.end (service_remains result.a result.b (W.contents writer.new)) }
 {
     let Service {
         a,
@@ -65,8 +65,8 @@ pub fn serve_new<D: Disk, R: Read + Drop, W: Write>(
 ) -> ServiceEnd<D>
     ensures serves { ServesFrom D.Disk service.budget
         (service_start (Creates D.Disk (registered service.registry) service.a service.b)
-            (R.remaining reader) (W.contents writer.old))
-        result.end (remains result.a result.b (W.contents writer.new)) }
+        (R.remaining reader) (W.contents writer.old))
+        result.end (service_remains result.a result.b (W.contents writer.new)) }
 {
     let Service {
         a,
@@ -90,7 +90,7 @@ fn serve_host<D: Disk, R: Read + Drop, W: Write>(
 ) -> ServiceEnd<D>
     ensures serves { ServesHost D.Disk budget
         (run_state (R.remaining reader) (W.contents writer.old) host)
-        result.end (remains result.a result.b (W.contents writer.new)) }
+        result.end (service_remains result.a result.b (W.contents writer.new)) }
 {
     let end = match run(alloc, reader, writer, &mut host, budget) {
         Ok(()) => Ok(()),

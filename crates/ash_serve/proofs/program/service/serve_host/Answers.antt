@@ -1,5 +1,5 @@
 use Rattle.std.proofs.Common.{sym, ap, ◌∙◌}
-use Rattle.ash_serve.specs.Service.{remains}
+use Rattle.ash_serve.specs.Service.{service_remains}
 use Rattle.ash_serve.specs.Serving.{run_state}
 use Rattle.ash_serve.proofs.ServiceLemmas.{end_of, serves_host}
 use Rattle.ash_serve.proofs.program.service.serve_host.Goals.{in-Ok, in-Err}
