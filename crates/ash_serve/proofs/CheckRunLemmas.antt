@@ -10,7 +10,7 @@ use Rattle.ash_lines.specs.Reading.{max_prefix_bytes, source_prefix, ReadsBytes}
 use Rattle.ash_serve.specs.Serving.{run_fault}
 use Rattle.ash_serve.specs.CheckRun.{verdict_line, verdict_on, verdict_status, ending_of, Judges, WritesVerdict}
 use Rattle.ash_serve.specs.CheckRun.{ScriptStreams, ReadsScript, ChecksScript, IsScriptOf, ChecksFile, EndsCheck}
-use Rattle.ash_serve.specs.CheckRun.{check_state, streams_with}
+use Rattle.ash_serve.specs.CheckRun.{KnownCheck, check_state, streams_with}
 use Rattle.ash_serve.specs.Program.{ending_status, end_of}
 use Rattle.ash_lines.specs.Reader.{left_of, allowance_of, reader_feed}
 use Rattle.ash_lines.specs.Writer.{writer_outlet}
@@ -87,7 +87,7 @@ keeps-same contents k o e = subst (λ (y : Writer _). Keeps (contents k.writer.n
     keeps None = tt
     keeps (Some xs) = refl
 
-file-checked : {R W : Type 0} (remaining : R → Option (List ℕ)) (contents : W → Option (List ℕ)) (registered : List Registration) (s t : Reader R) (k o : Writer W) (file : Option (List ℕ)) (r : Result Ending Fault) → left_of remaining s ≡ file → allowance_of s ≡ 2 ^ 40 → k.buffer.items ≡ [] → ChecksScript (streams_with (reader_feed remaining) (writer_outlet contents)) registered (check_state s k) r (check_state t o) → ChecksFile registered file (contents k.writer.now) r (contents o.writer.now)
+file-checked : {R W : Type 0} (remaining : R → Option (List ℕ)) (contents : W → Option (List ℕ)) (registered : List Registration) (s t : Reader R) (k o : Writer W) (file : Option (List ℕ)) (r : Result Ending Fault) → left_of remaining s ≡ file → allowance_of s ≡ 2 ^ 40 → k.buffer.items ≡ [] → ChecksScript (streams_with (reader_feed remaining) (writer_outlet contents)) registered (check_state s k) r (check_state t o) → ChecksFile registered (check_state file (contents k.writer.now)) r (contents o.writer.now)
 file-checked remaining contents registered s t k o file (Ok ending) e a b w = (
   w.0,
   script_of file (left_of remaining t) w.0 (subst (λ (y : Option (List ℕ)). Consumes y (left_of remaining t) w.0) e w.1.0.0) w.1.1,
@@ -125,11 +125,11 @@ checked-name remaining contents registered s t k o (Err (program.Registry fault)
 checked-name remaining contents registered s t k o (Err (program.Store fault)) w = absurd w
 
 -- the script was checked, where x is what the writer ends as
-pub file_checked : {R W : Type 0} (remaining : R → Option (List ℕ)) (contents : W → Option (List ℕ)) (registered : List Registration) (s t : Reader R) (k o : Writer W) (file : Option (List ℕ)) (r : Result Ending Fault) (before x : W) → left_of remaining s ≡ file → allowance_of s ≡ 2 ^ 40 → k.buffer.items ≡ [] → k.writer.now ≡ before → (o.writer.ghost_name ≡ k.writer.ghost_name → x ≡ o.writer.now) → ChecksScript (streams_with (reader_feed remaining) (writer_outlet contents)) registered (check_state s k) r (check_state t o) → ChecksFile registered file (contents before) r (contents x)
+pub file_checked : {R W : Type 0} (remaining : R → Option (List ℕ)) (contents : W → Option (List ℕ)) (registered : List Registration) (s t : Reader R) (k o : Writer W) (file : Option (List ℕ)) (r : Result Ending Fault) (before x : W) → left_of remaining s ≡ file → allowance_of s ≡ 2 ^ 40 → k.buffer.items ≡ [] → k.writer.now ≡ before → (o.writer.ghost_name ≡ k.writer.ghost_name → x ≡ o.writer.now) → ChecksScript (streams_with (reader_feed remaining) (writer_outlet contents)) registered (check_state s k) r (check_state t o) → ChecksFile registered (check_state file (contents before)) r (contents x)
 file_checked remaining contents registered s t k o file r before x e a b n f w =
     let checked = file-checked remaining contents registered s t k o file r e a b w in
-    subst (λ (y : _). ChecksFile registered file (contents y) r (contents x)) n
-    (subst (λ (y : _). ChecksFile registered file (contents k.writer.now) r (contents y)) (sym (f (checked-name remaining contents registered s t k o r w))) checked)
+    subst (λ (y : _). ChecksFile registered (check_state file (contents y)) r (contents x)) n
+    (subst (λ (y : _). ChecksFile registered (check_state file (contents k.writer.now)) r (contents y)) (sym (f (checked-name remaining contents registered s t k o r w))) checked)
 
 -- The program ends by the verdict.
 
@@ -137,14 +137,14 @@ status-verdict : (verdict : Option SourceFault) → ending_status (ending_of ver
 status-verdict None = refl
 status-verdict (Some fault) = refl
 
-pub ends_check : (registered : List Registration) (file before after : Option (List ℕ)) (r : Result Ending Fault) → ChecksFile registered file before r after → EndsCheck registered file before (end_of r) after
-ends_check registered file before after (Ok ending) h = (h.0, h.1, ap ending_status h.2 ∙ status-verdict (verdict_on registered h.0), h.3)
-ends_check registered file before after (Err (program.Run faults.Write)) h = (h.0, h.1, refl, h.2, h.3, h.4, h.5)
-ends_check registered file before after (Err (program.Run faults.Read)) h = (refl, h)
-ends_check registered file before after (Err (program.Run faults.TooLong)) h = absurd h
-ends_check registered file before after (Err (program.Run faults.Truncated)) h = absurd h
-ends_check registered file before after (Err (program.Run faults.NoMemory)) h = absurd h
-ends_check registered file before after (Err program.Usage) h = absurd h
-ends_check registered file before after (Err program.NoMemory) h = (refl, h)
-ends_check registered file before after (Err (program.Registry fault)) h = absurd h
-ends_check registered file before after (Err (program.Store fault)) h = absurd h
+pub ends_check : (registered : List Registration) (before : KnownCheck) (output : Option (List ℕ)) (r : Result Ending Fault) → ChecksFile registered before r output → EndsCheck registered before (end_of r) output
+ends_check registered before output (Ok ending) h = (h.0, h.1, ap ending_status h.2 ∙ status-verdict (verdict_on registered h.0), h.3)
+ends_check registered before output (Err (program.Run faults.Write)) h = (h.0, h.1, refl, h.2, h.3, h.4, h.5)
+ends_check registered before output (Err (program.Run faults.Read)) h = (refl, h)
+ends_check registered before output (Err (program.Run faults.TooLong)) h = absurd h
+ends_check registered before output (Err (program.Run faults.Truncated)) h = absurd h
+ends_check registered before output (Err (program.Run faults.NoMemory)) h = absurd h
+ends_check registered before output (Err program.Usage) h = absurd h
+ends_check registered before output (Err program.NoMemory) h = (refl, h)
+ends_check registered before output (Err (program.Registry fault)) h = absurd h
+ends_check registered before output (Err (program.Store fault)) h = absurd h

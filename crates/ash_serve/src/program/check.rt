@@ -31,8 +31,9 @@ pub fn run_check<R: Read + Drop, W: Write>(
     reader: R,
     writer: &mut W,
 ) -> End
-    ensures ends { EndsCheck (registered registry.now) (R.remaining reader)
-        (W.contents writer.old) result (W.contents writer.new) }
+    ensures ends { EndsCheck (registered registry.now)
+        (check_state (R.remaining reader) (W.contents writer.old)) result
+        (W.contents writer.new) }
 {
     End::by(check_file(alloc, registry, reader, writer))
 }
@@ -48,8 +49,9 @@ pub fn check_file<R: Read + Drop, W: Write>(
     reader: R,
     writer: &mut W,
 ) -> Result<Ending, Fault>
-    ensures checks { ChecksFile (registered registry.now) (R.remaining reader)
-        (W.contents writer.old) result (W.contents writer.new) }
+    ensures checks { ChecksFile (registered registry.now)
+        (check_state (R.remaining reader) (W.contents writer.old)) result
+        (W.contents writer.new) }
 {
     let mut input = Reader::new(alloc, reader)?;
     let buffer = Vec::with_capacity(alloc, MAX_BUFFERED_BYTES)?;
