@@ -21,7 +21,7 @@ returns-in_err-reply g c =
     let last = run_state c.requests.input c.requests.output c.requests.host in
     let after = run_state c.handle_next.new.input c.requests.output c.handle_next.new.host in
     let p = err_from_is_err_and c.from_residual-in_err-reply.result c.from_residual-in_err-reply.ensures.1 in
-    record { serves = rw (p.1, p.2) (serves_fault serving before last after _ c.requests.invariant.log (fault_ends serving last after _ refl c.in_err-reply.ensures.handled)) }
+    record { serves = rw (p.1, p.2) (serves_fault serving before last after _ c.requests.invariant.log (fault_ends serving last after _ (refl {a = c.requests.output}) c.in_err-reply.ensures.handled)) }
 
 pub returns-in_default : goal.returns-in_default
 returns-in_default g c =
