@@ -80,9 +80,11 @@ pub record CheckState (S K : Type 0) : Type 0 where
   pub input : S
   pub output : K
 
+-- by these relations of a source and of a sink
 abbrev pub streams_with : {S K : Type 0} → Feed S → Outlet K → ScriptStreams S K
 streams_with feed outlet = record { feed = feed; outlet = outlet }
 
+-- this input and this output
 abbrev pub check_state : {S K : Type 0} → S → K → CheckState S K
 check_state input output = record { input = input; output = output }
 

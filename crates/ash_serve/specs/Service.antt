@@ -27,10 +27,12 @@ pub record ServiceRemains (D : Type 0) : Type 0 where
   pub b : D
   pub output : Option (List ℕ)
 
+-- a host that begins so, this input and this output
 abbrev pub service_start : {D : Type 0} → (Result (Hosted D) (OpenRefused D) → Type 0)
     → Option (List ℕ) → Option (List ℕ) → ServiceStart D
 service_start begins input output = record { begins = begins; input = input; output = output }
 
+-- these disks and this output
 abbrev pub service_remains : {D : Type 0} → D → D → Option (List ℕ) → ServiceRemains D
 service_remains a b output = record { a = a; b = b; output = output }
 

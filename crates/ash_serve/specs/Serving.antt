@@ -72,9 +72,11 @@ pub record RequestState (S H : Type 0) : Type 0 where
   pub input : S
   pub host : H
 
+-- by these relations of a source and of a host
 abbrev pub handling_with : {S H : Type 0} → Feed S → RequestRelation H → Handling S H
 handling_with feed handles = record { feed = feed; handles = handles }
 
+-- this input and this host
 abbrev pub request_state : {S H : Type 0} → S → H → RequestState S H
 request_state input host = record { input = input; host = host }
 
@@ -128,9 +130,11 @@ pub record RunState (S K H : Type 0) : Type 0 where
   pub output : K
   pub host : H
 
+-- by these relations of a source, of a sink and of a host
 abbrev pub serving_with : {S K H : Type 0} → Feed S → Outlet K → RequestRelation H → Serving S K H
 serving_with feed outlet handles = record { feed = feed; outlet = outlet; handles = handles }
 
+-- this input, this output and this host
 abbrev pub run_state : {S K H : Type 0} → S → K → H → RunState S K H
 run_state input output host = record { input = input; output = output; host = host }
 

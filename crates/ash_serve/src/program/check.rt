@@ -1,7 +1,7 @@
 //! Checking a script: its bytes are read and judged, and the verdict is written.
 
 ghost use Rattle.ash_registry.specs.Registered.{registered};
-ghost use Rattle.ash_serve.specs.CheckRun.{EndsCheck, ChecksFile, ChecksScript, ReadsScript};
+ghost use Rattle.ash_serve.specs.CheckRun.{EndsCheck, ChecksFile, ChecksScript};
 ghost use Rattle.ash_serve.specs.CheckRun.{Judges, WritesVerdict, check_state, streams_with, verdict_of};
 
 use super::ending::{End, Ending};
