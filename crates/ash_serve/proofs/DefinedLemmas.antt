@@ -16,7 +16,7 @@ use Rattle.ash_serve.specs.Serving.{RepliesToAll}
 left_alone : {D : Type 0} (device : Device D) (budget : ℕ) (old between new : Hosted D) (lines : List Line) (replies : List LineReply) → between ≡ old → HandlesAll device budget between (host_requests lines) (host_replies replies) new → HandlesAll device budget old (host_requests lines) (host_replies replies) new
 left_alone {D} device budget old between new lines replies same h = subst (λ (host : Hosted D). HandlesAll device budget host (host_requests lines) (host_replies replies) new) same h
 
-handles_all : {D : Type 0} (device : Device D) (budget : ℕ) (old : Hosted D) (lines : List Line) (replies : List LineReply) (new : Hosted D) → RepliesToAll (Handles device) budget old lines replies new → HandlesAll device budget old (host_requests lines) (host_replies replies) new
+handles_all : {D : Type 0} (device : Device D) (budget : ℕ) (old : Hosted D) (lines : List Line) (replies : List LineReply) (new : Hosted D) → RepliesToAll (Handles device budget) old lines replies new → HandlesAll device budget old (host_requests lines) (host_replies replies) new
 handles_all device budget old [] [] new h = h
 handles_all device budget old (HostRequest request ∷ lines) (HostReply reply ∷ replies) new h = (h.0, h.1, handles_all device budget h.0 lines replies new h.2)
 handles_all device budget old (Quit ∷ lines) (QuitReply ∷ replies) new h = left_alone device budget old h.0 new lines replies h.1 (handles_all device budget h.0 lines replies new h.2)
@@ -26,8 +26,8 @@ handles_all device budget old [] (answer ∷ replies) new h = absurd h
 handles_all device budget old (line ∷ lines) [] new h = absurd h
 handles_all device budget old (line ∷ lines) (answer ∷ replies) new h = absurd h.1
 
-pub replies_run : {D : Type 0} (device : Device D) (budget : ℕ) (old : Hosted D) (lines : List Line) (replies : List LineReply) (new : Hosted D) → RepliesToAll (Handles device) budget old lines replies new → RunsToFailure budget old (host_requests lines) (host_replies replies) new
+pub replies_run : {D : Type 0} (device : Device D) (budget : ℕ) (old : Hosted D) (lines : List Line) (replies : List LineReply) (new : Hosted D) → RepliesToAll (Handles device budget) old lines replies new → RunsToFailure budget old (host_requests lines) (host_replies replies) new
 replies_run device budget old lines replies new h = runs_to_failure device budget old (host_requests lines) (host_replies replies) new (handles_all device budget old lines replies new h)
 
-pub replies_live : {D : Type 0} (device : Device D) (budget : ℕ) (old : Hosted D) (lines : List Line) (replies : List LineReply) (new : Hosted D) → RepliesToAll (Handles device) budget old lines replies new → LivesOn device budget old (host_requests lines) (host_replies replies) new
+pub replies_live : {D : Type 0} (device : Device D) (budget : ℕ) (old : Hosted D) (lines : List Line) (replies : List LineReply) (new : Hosted D) → RepliesToAll (Handles device budget) old lines replies new → LivesOn device budget old (host_requests lines) (host_replies replies) new
 replies_live device budget old lines replies new h = lives_on device budget old (host_requests lines) (host_replies replies) new (handles_all device budget old lines replies new h)

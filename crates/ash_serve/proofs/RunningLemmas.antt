@@ -10,10 +10,10 @@ use Rattle.ash_sources.specs.SourceFaults.{SourceFault}
 use Rattle.ash_lines.specs.Lines.{Line, HostRequest, Quit, BadRequest, LineTooLong, ConsistsOf}
 use Rattle.ash_lines.specs.Replies.{LineReply, HostReply, QuitReply, BadRequestReply, LineTooLongReply, reply_line}
 use Rattle.ash_lines.specs.Replies.{text_of}
-use Rattle.ash_lines.specs.Sink.{WritesAll}
-use Rattle.ash_serve.specs.Serving.{RequestRelation, RepliesTo, RepliesToAll, Log, Serves, HandlesLine}
-use Rattle.ash_serve.specs.Serving.{EndsBetweenRequests}
-use Rattle.ash_serve.specs.Running.{Run, RunEnds, ReadsPrefix, ReadsProperPrefix, ReadsAll, GoOn, EndsWithQuit}
+use Rattle.ash_serve.specs.Serving.{RequestRelation, Serving, RunState, RepliesTo, RepliesToAll, Log, Serves}
+use Rattle.ash_serve.specs.Serving.{EndsBetweenRequests, Quits, run_state, serving_with}
+use Rattle.ash_serve.specs.Running.{Run, KnownState, RunEnds, ReadsPrefix, ReadsProperPrefix, ReadsAll, GoOn}
+use Rattle.ash_serve.specs.Running.{EndsWithQuit}
 use Rattle.ash_lines.specs.Reader.{left_of, allowance_of, reader_feed, reader_is_feed}
 use Rattle.ash_lines.specs.Writer.{writer_outlet, writer_is_outlet, appends-onward}
 use Rattle.ash_lines.specs.declared.reader.Reader.{Reader}
@@ -51,10 +51,14 @@ pub keeps_all : (known : Option (List ℕ)) → Keeps known known
 keeps_all None = tt
 keeps_all (Some xs) = refl
 
+-- a run over a reader and a writer
+abbrev pub serving-over : {R W H : Type 0} → (R → Option (List ℕ)) → (W → Option (List ℕ)) → RequestRelation H → Serving (Reader R) (Writer W) H
+serving-over remaining contents handles = serving_with (reader_feed remaining) (writer_outlet contents) handles
+
 -- the run so far, and bytes that were read after it
-abbrev run-of : {R W H : Type 0} (remaining : R → Option (List ℕ)) (contents : W → Option (List ℕ)) (handles : RequestRelation H) (budget : ℕ) (s m t : Reader R) (k n : Writer W) (h j : H) (rest : List ℕ) → allowance_of s ≡ 2 ^ 40 → Log (reader_feed remaining) (writer_outlet contents) handles budget s k h m n j → (reader_feed remaining).reads m rest t → Run handles budget h j
-run-of remaining contents handles budget s m t k n h j rest a log took =
-    let whole = (reader_is_feed remaining).onward s m t log.read rest log.took took in
+abbrev run-of : {R W H : Type 0} (remaining : R → Option (List ℕ)) (contents : W → Option (List ℕ)) (handles : RequestRelation H) (before last : RunState (Reader R) (Writer W) H) (t : Reader R) (rest : List ℕ) → allowance_of before.input ≡ 2 ^ 40 → Log (serving-over remaining contents handles) before last → (reader_feed remaining).reads last.input rest t → Run handles before.host last.host
+run-of remaining contents handles before last t rest a log took =
+    let whole = (reader_is_feed remaining).onward before.input last.input t log.read rest log.took took in
     record {
       read = log.read ++ rest;
       lines = log.lines;
@@ -66,8 +70,8 @@ run-of remaining contents handles budget s m t k n h j rest a log took =
     }
 
 -- the same with nothing after it
-abbrev run-nil : {R W H : Type 0} (remaining : R → Option (List ℕ)) (contents : W → Option (List ℕ)) (handles : RequestRelation H) (budget : ℕ) (s m : Reader R) (k n : Writer W) (h j : H) → allowance_of s ≡ 2 ^ 40 → Log (reader_feed remaining) (writer_outlet contents) handles budget s k h m n j → Run handles budget h j
-run-nil remaining contents handles budget s m k n h j a log = record {
+abbrev run-nil : {R W H : Type 0} (remaining : R → Option (List ℕ)) (contents : W → Option (List ℕ)) (handles : RequestRelation H) (before last : RunState (Reader R) (Writer W) H) → allowance_of before.input ≡ 2 ^ 40 → Log (serving-over remaining contents handles) before last → Run handles before.host last.host
+run-nil remaining contents handles before last a log = record {
   read = log.read;
   lines = log.lines;
   rest = [];
@@ -77,45 +81,45 @@ run-nil remaining contents handles budget s m k n h j a log = record {
   bounded = omega (arith, log.took.1, a);
 }
 
-pub run_ends : {R W H : Type 0} (remaining : R → Option (List ℕ)) (contents : W → Option (List ℕ)) (handles : RequestRelation H) (budget : ℕ) (s t : Reader R) (k o : Writer W) (h i : H) (input : Option (List ℕ)) (r : Result (Unit {0}) RunFault) → left_of remaining s ≡ input → allowance_of s ≡ 2 ^ 40 → Serves (reader_feed remaining) (writer_outlet contents) handles budget s k h r t o i → RunEnds input handles budget h (contents k.writer.now) r i (contents o.writer.now)
-run_ends {H = H} remaining contents handles budget s t k o h i input (Ok x) e a w =
-    let m = w.0 in let n = w.1 in let j = w.2 in let log = w.3.log in
+pub run_ends : {R W H : Type 0} (remaining : R → Option (List ℕ)) (contents : W → Option (List ℕ)) (handles : RequestRelation H) (before after : RunState (Reader R) (Writer W) H) (input : Option (List ℕ)) (r : Result (Unit {0}) RunFault) → left_of remaining before.input ≡ input → allowance_of before.input ≡ 2 ^ 40 → Serves (serving-over remaining contents handles) before r after → RunEnds handles (run_state input (contents before.output.writer.now) before.host) r (contents after.output.writer.now) after.host
+run_ends {H = H} remaining contents handles before after input (Ok x) e a w =
+    let last = w.0 in let log = w.1.log in
     ⊎_elim
-    (λ (over : EndsBetweenRequests (reader_feed remaining) m n j t o i).
-    let whole = (reader_is_feed remaining).onward s m t log.read [] log.took over.took in
-    let from : Consumes input (left_of remaining t) log.read = subst (λ (y : Option (List ℕ)). Consumes y (left_of remaining t) log.read) e (subst (λ (y : List ℕ). Consumes (left_of remaining s) (left_of remaining t) y) (append-nil log.read) whole.0) in
-    let run = run-nil remaining contents handles budget s m k n h j a log in
-    let all : (run : Run handles budget h j) × ReadsPrefix input run.read × Appends (contents k.writer.now) (contents n.writer.now) (text_of run.replies) × (run.rest ≡ []) × ((ReadsAll input run.read × GoOn run.lines) ⊎ EndsWithQuit run.lines)
-    = (run, reads_prefix input (left_of remaining t) log.read from, log.written.0, refl, inl (reads_all input (left_of remaining t) log.read from over.ended, w.3.on)) in
-    subst (λ (y : H). (run : Run handles budget h y) × ReadsPrefix input run.read × Appends (contents k.writer.now) (contents o.writer.now) (text_of run.replies) × (run.rest ≡ []) × ((ReadsAll input run.read × GoOn run.lines) ⊎ EndsWithQuit run.lines)) (sym over.host_same)
-    (subst (λ (y : Writer _). (run : Run handles budget h j) × ReadsPrefix input run.read × Appends (contents k.writer.now) (contents y.writer.now) (text_of run.replies) × (run.rest ≡ []) × ((ReadsAll input run.read × GoOn run.lines) ⊎ EndsWithQuit run.lines)) (sym over.output_same) all))
-    (λ (left : HandlesLine (reader_feed remaining) handles budget m j Quit QuitReply t i × WritesAll (writer_outlet contents) n (reply_line QuitReply) o).
-    let more = log-more (reader_feed remaining) (writer_outlet contents) (reader_is_feed remaining) (writer_is_outlet contents) handles budget s m t k n o h j i Quit QuitReply log left.0 left.1 in (
-      run-nil remaining contents handles budget s t k o h i a more,
-      reads_prefix input (left_of remaining t) more.read (subst (λ (y : Option (List ℕ)). Consumes y (left_of remaining t) more.read) e more.took.0),
+    (λ (over : EndsBetweenRequests (reader_feed remaining) last after).
+    let whole = (reader_is_feed remaining).onward before.input last.input after.input log.read [] log.took over.took in
+    let from : Consumes input (left_of remaining after.input) log.read = subst (λ (y : Option (List ℕ)). Consumes y (left_of remaining after.input) log.read) e (subst (λ (y : List ℕ). Consumes (left_of remaining before.input) (left_of remaining after.input) y) (append-nil log.read) whole.0) in
+    let run = run-nil remaining contents handles before last a log in
+    let all : (run : Run handles before.host last.host) × ReadsPrefix input run.read × Appends (contents before.output.writer.now) (contents last.output.writer.now) (text_of run.replies) × (run.rest ≡ []) × ((ReadsAll input run.read × GoOn run.lines) ⊎ EndsWithQuit run.lines)
+    = (run, reads_prefix input (left_of remaining after.input) log.read from, log.written.0, refl, inl (reads_all input (left_of remaining after.input) log.read from over.ended, w.1.on)) in
+    subst (λ (y : H). (run : Run handles before.host y) × ReadsPrefix input run.read × Appends (contents before.output.writer.now) (contents after.output.writer.now) (text_of run.replies) × (run.rest ≡ []) × ((ReadsAll input run.read × GoOn run.lines) ⊎ EndsWithQuit run.lines)) (sym over.host_same)
+    (subst (λ (y : Writer _). (run : Run handles before.host last.host) × ReadsPrefix input run.read × Appends (contents before.output.writer.now) (contents y.writer.now) (text_of run.replies) × (run.rest ≡ []) × ((ReadsAll input run.read × GoOn run.lines) ⊎ EndsWithQuit run.lines)) (sym over.output_same) all))
+    (λ (left : Quits (serving-over remaining contents handles) last after).
+    let more = log-more (serving-over remaining contents handles) (reader_is_feed remaining) (writer_is_outlet contents) before last after Quit QuitReply log left.handled left.written in (
+      run-nil remaining contents handles before after a more,
+      reads_prefix input (left_of remaining after.input) more.read (subst (λ (y : Option (List ℕ)). Consumes y (left_of remaining after.input) more.read) e more.took.0),
       more.written.0,
       refl,
-      inr (log.lines, refl, w.3.on),
+      inr (log.lines, refl, w.1.on),
     ))
-    w.4
-run_ends remaining contents handles budget s t k o h i input (Err faults.Truncated) e a w =
-    let m = w.0 in let n = w.1 in let j = w.2 in let log = w.3.log in let cut = w.4 in
-    let whole = (reader_is_feed remaining).onward s m t log.read cut.rest log.took cut.took in
-    let from : Consumes input (left_of remaining t) (log.read ++ cut.rest) = subst (λ (y : Option (List ℕ)). Consumes y (left_of remaining t) (log.read ++ cut.rest)) e whole.0 in
-    rw (cut.host_same, cut.output_same) (run-of remaining contents handles budget s m t k n h j cut.rest a log cut.took, reads_all input (left_of remaining t) (log.read ++ cut.rest) from cut.ended, log.written.0, cut.cut, w.3.on)
-run_ends remaining contents handles budget s t k o h i input (Err faults.TooLong) e a w =
-    let m = w.0 in let n = w.1 in let j = w.2 in let log = w.3.log in let f = w.4 in
-    let whole = (reader_is_feed remaining).onward s m t log.read f.rest log.took f.faults.0 in
-    let from : Consumes input (left_of remaining t) (log.read ++ f.rest) = subst (λ (y : Option (List ℕ)). Consumes y (left_of remaining t) (log.read ++ f.rest)) e whole.0 in
-    rw (f.host_same, f.output_same) (run-of remaining contents handles budget s m t k n h j f.rest a log f.faults.0, reads_proper_prefix input (left_of remaining t) (log.read ++ f.rest) from (has-more t.extra (reader_remaining remaining t.reader) f.faults.2), log.written.0, f.unfinished, omega (arith, whole.1, a, f.faults.1), w.3.on)
-run_ends remaining contents handles budget s t k o h i input (Err faults.Read) e a w =
-    let m = w.0 in let n = w.1 in let j = w.2 in let log = w.3.log in let f = w.4 in let last = f.faults.0 in
-    let whole = (reader_is_feed remaining).onward s m last log.read f.rest log.took f.faults.1 in
-    let from : Consumes input (left_of remaining last) (log.read ++ f.rest) = subst (λ (y : Option (List ℕ)). Consumes y (left_of remaining last) (log.read ++ f.rest)) e whole.0 in
-    rw (f.host_same, f.output_same) (run-of remaining contents handles budget s m last k n h j f.rest a log f.faults.1, reads_prefix input (left_of remaining last) (log.read ++ f.rest) from, log.written.0, f.unfinished, w.3.on)
-run_ends remaining contents handles budget s t k o h i input (Err faults.Write) e a w =
-    let m = w.0 in let n = w.1 in let j = w.2 in let log = w.3.log in let line = w.4.0 in let line_reply = w.4.1 in let served = w.4.2 in let stops = w.4.3 in
-    let whole = (reader_is_feed remaining).onward s m t log.read served.bytes log.took served.took in (
+    w.2
+run_ends remaining contents handles before after input (Err faults.Truncated) e a w =
+    let last = w.0 in let log = w.1.log in let cut = w.2 in
+    let whole = (reader_is_feed remaining).onward before.input last.input after.input log.read cut.rest log.took cut.took in
+    let from : Consumes input (left_of remaining after.input) (log.read ++ cut.rest) = subst (λ (y : Option (List ℕ)). Consumes y (left_of remaining after.input) (log.read ++ cut.rest)) e whole.0 in
+    rw (cut.host_same, cut.output_same) (run-of remaining contents handles before last after.input cut.rest a log cut.took, reads_all input (left_of remaining after.input) (log.read ++ cut.rest) from cut.ended, log.written.0, cut.cut, w.1.on)
+run_ends remaining contents handles before after input (Err faults.TooLong) e a w =
+    let last = w.0 in let log = w.1.log in let f = w.2 in
+    let whole = (reader_is_feed remaining).onward before.input last.input after.input log.read f.rest log.took f.faults.0 in
+    let from : Consumes input (left_of remaining after.input) (log.read ++ f.rest) = subst (λ (y : Option (List ℕ)). Consumes y (left_of remaining after.input) (log.read ++ f.rest)) e whole.0 in
+    rw (f.host_same, f.output_same) (run-of remaining contents handles before last after.input f.rest a log f.faults.0, reads_proper_prefix input (left_of remaining after.input) (log.read ++ f.rest) from (has-more after.input.extra (reader_remaining remaining after.input.reader) f.faults.2), log.written.0, f.unfinished, omega (arith, whole.1, a, f.faults.1), w.1.on)
+run_ends remaining contents handles before after input (Err faults.Read) e a w =
+    let last = w.0 in let log = w.1.log in let f = w.2 in let end = f.faults.0 in
+    let whole = (reader_is_feed remaining).onward before.input last.input end log.read f.rest log.took f.faults.1 in
+    let from : Consumes input (left_of remaining end) (log.read ++ f.rest) = subst (λ (y : Option (List ℕ)). Consumes y (left_of remaining end) (log.read ++ f.rest)) e whole.0 in
+    rw (f.host_same, f.output_same) (run-of remaining contents handles before last end f.rest a log f.faults.1, reads_prefix input (left_of remaining end) (log.read ++ f.rest) from, log.written.0, f.unfinished, w.1.on)
+run_ends remaining contents handles before after input (Err faults.Write) e a w =
+    let last = w.0 in let log = w.1.log in let line = w.2.0 in let line_reply = w.2.1 in let served = w.2.2 in let stops = w.2.3 in
+    let whole = (reader_is_feed remaining).onward before.input last.input after.input log.read served.bytes log.took served.took in (
       record {
         read = log.read ++ served.bytes;
         lines = log.lines ++ line ∷ [];
@@ -123,79 +127,79 @@ run_ends remaining contents handles budget s t k o h i input (Err faults.Write) 
         replies = log.replies ++ line_reply ∷ [];
         consists = subst (λ (y : List ℕ). ConsistsOf y (log.lines ++ line ∷ []) []) (sym (append_assoc log.read served.bytes []) ∙ append-nil (log.read ++ served.bytes))
             (consists-more log.lines (log.read ++ (served.bytes ++ [])) (served.bytes ++ []) [] line (log.consists (served.bytes ++ [])) (served.spells []));
-        handled = replies-more handles budget log.lines log.replies h j i line line_reply log.handled served.handled;
+        handled = replies-more handles log.lines log.replies before.host last.host after.host line line_reply log.handled served.handled;
         bounded = omega (arith, whole.1, a);
       },
-      reads_prefix input (left_of remaining t) (log.read ++ served.bytes) (subst (λ (y : Option (List ℕ)). Consumes y (left_of remaining t) (log.read ++ served.bytes)) e whole.0),
+      reads_prefix input (left_of remaining after.input) (log.read ++ served.bytes) (subst (λ (y : Option (List ℕ)). Consumes y (left_of remaining after.input) (log.read ++ served.bytes)) e whole.0),
       refl,
       log.replies,
       line_reply,
       stops.out,
       stops.lost,
       refl,
-      appends-onward (contents k.writer.now) (contents n.writer.now) (contents o.writer.now) (text_of log.replies) stops.out log.written.0 stops.broke.0,
+      appends-onward (contents before.output.writer.now) (contents last.output.writer.now) (contents after.output.writer.now) (text_of log.replies) stops.out log.written.0 stops.broke.0,
       sym (ap (λ (y : List ℕ). y ++ reply_line line_reply) log.empty) ∙ stops.whole,
-      (log.lines, line, refl, w.3.on),
+      (log.lines, line, refl, w.1.on),
     )
-run_ends remaining contents handles budget s t k o h i input (Err faults.NoMemory) e a w = (w.2, subst (λ (y : Writer _). Keeps (contents k.writer.now) (contents y.writer.now)) (sym w.1) (keeps_all (contents k.writer.now)))
+run_ends remaining contents handles before after input (Err faults.NoMemory) e a w = (w.2, subst (λ (y : Writer _). Keeps (contents before.output.writer.now) (contents y.writer.now)) (sym w.1) (keeps_all (contents before.output.writer.now)))
 
 -- a run writes to the same writer to its end
-pub serves_name : {R W H : Type 0} (remaining : R → Option (List ℕ)) (contents : W → Option (List ℕ)) (handles : RequestRelation H) (budget : ℕ) (s t : Reader R) (k o : Writer W) (h i : H) (r : Result (Unit {0}) RunFault) → Serves (reader_feed remaining) (writer_outlet contents) handles budget s k h r t o i → o.writer.ghost_name ≡ k.writer.ghost_name
-serves_name remaining contents handles budget s t k o h i (Ok x) w =
+pub serves_name : {R W H : Type 0} (remaining : R → Option (List ℕ)) (contents : W → Option (List ℕ)) (handles : RequestRelation H) (before after : RunState (Reader R) (Writer W) H) (r : Result (Unit {0}) RunFault) → Serves (serving-over remaining contents handles) before r after → after.output.writer.ghost_name ≡ before.output.writer.ghost_name
+serves_name remaining contents handles before after (Ok x) w =
     ⊎_elim
-    (λ (over : EndsBetweenRequests (reader_feed remaining) w.0 w.1 w.2 t o i). ap (λ (y : Writer _). y.writer.ghost_name) over.output_same ∙ w.3.log.written.1)
-    (λ (left : HandlesLine (reader_feed remaining) handles budget w.0 w.2 Quit QuitReply t i × WritesAll (writer_outlet contents) w.1 (reply_line QuitReply) o). left.1.written.1 ∙ w.3.log.written.1)
-    w.4
-serves_name remaining contents handles budget s t k o h i (Err faults.Truncated) w = ap (λ (y : Writer _). y.writer.ghost_name) w.4.output_same ∙ w.3.log.written.1
-serves_name remaining contents handles budget s t k o h i (Err faults.TooLong) w = ap (λ (y : Writer _). y.writer.ghost_name) w.4.output_same ∙ w.3.log.written.1
-serves_name remaining contents handles budget s t k o h i (Err faults.Read) w = ap (λ (y : Writer _). y.writer.ghost_name) w.4.output_same ∙ w.3.log.written.1
-serves_name remaining contents handles budget s t k o h i (Err faults.Write) w = w.4.3.broke.1 ∙ w.3.log.written.1
-serves_name remaining contents handles budget s t k o h i (Err faults.NoMemory) w = ap (λ (y : Writer _). y.writer.ghost_name) w.1
+    (λ (over : EndsBetweenRequests (reader_feed remaining) w.0 after). ap (λ (y : Writer _). y.writer.ghost_name) over.output_same ∙ w.1.log.written.1)
+    (λ (left : Quits (serving-over remaining contents handles) w.0 after). left.written.written.1 ∙ w.1.log.written.1)
+    w.2
+serves_name remaining contents handles before after (Err faults.Truncated) w = ap (λ (y : Writer _). y.writer.ghost_name) w.2.output_same ∙ w.1.log.written.1
+serves_name remaining contents handles before after (Err faults.TooLong) w = ap (λ (y : Writer _). y.writer.ghost_name) w.2.output_same ∙ w.1.log.written.1
+serves_name remaining contents handles before after (Err faults.Read) w = ap (λ (y : Writer _). y.writer.ghost_name) w.2.output_same ∙ w.1.log.written.1
+serves_name remaining contents handles before after (Err faults.Write) w = w.2.3.broke.1 ∙ w.1.log.written.1
+serves_name remaining contents handles before after (Err faults.NoMemory) w = ap (λ (y : Writer _). y.writer.ghost_name) w.1
 
--- the run, where x is what the writer ends as
-pub run_writes : {R W H : Type 0} (remaining : R → Option (List ℕ)) (contents : W → Option (List ℕ)) (handles : RequestRelation H) (budget : ℕ) (s t : Reader R) (k o : Writer W) (h i : H) (input : Option (List ℕ)) (r : Result (Unit {0}) RunFault) (before x : W) → left_of remaining s ≡ input → allowance_of s ≡ 2 ^ 40 → k.writer.now ≡ before → (o.writer.ghost_name ≡ k.writer.ghost_name → x ≡ o.writer.now) → Serves (reader_feed remaining) (writer_outlet contents) handles budget s k h r t o i → RunEnds input handles budget h (contents before) r i (contents x)
-run_writes remaining contents handles budget s t k o h i input r before x e a b f w =
-    let ends = run_ends remaining contents handles budget s t k o h i input r e a w in
-    subst (λ (y : _). RunEnds input handles budget h (contents y) r i (contents x)) b
-    (subst (λ (y : _). RunEnds input handles budget h (contents k.writer.now) r i (contents y)) (sym (f (serves_name remaining contents handles budget s t k o h i r w))) ends)
+-- the run, where the writer is lent as `old` and ends as `new`
+pub run_writes : {R W H : Type 0} (remaining : R → Option (List ℕ)) (contents : W → Option (List ℕ)) (handles : RequestRelation H) (before after : RunState (Reader R) (Writer W) H) (input : Option (List ℕ)) (r : Result (Unit {0}) RunFault) (old new : W) → left_of remaining before.input ≡ input → allowance_of before.input ≡ 2 ^ 40 → before.output.writer.now ≡ old → (after.output.writer.ghost_name ≡ before.output.writer.ghost_name → new ≡ after.output.writer.now) → Serves (serving-over remaining contents handles) before r after → RunEnds handles (run_state input (contents old) before.host) r (contents new) after.host
+run_writes remaining contents handles before after input r old new e a b f w =
+    let ends = run_ends remaining contents handles before after input r e a w in
+    subst (λ (y : _). RunEnds handles (run_state input (contents y) before.host) r (contents new) after.host) b
+    (subst (λ (y : _). RunEnds handles (run_state input (contents before.output.writer.now) before.host) r (contents y) after.host) (sym (f (serves_name remaining contents handles before after r w))) ends)
 
 -- what each request preserves, a run preserves
 
 -- What holds of a host before a request holds of it afterwards.
 abbrev pub Preserves : {H : Type 0} → RequestRelation H → (H → Type 0) → Type 0
 Preserves {H} handles holds =
-    (budget : ℕ) (request : Request) (old new : H) (reply : Reply SourceFault)
-    → handles budget request old reply new → holds old → holds new
+    (request : Request) (old new : H) (reply : Reply SourceFault)
+    → handles request old reply new → holds old → holds new
 
-replies-preserve : {H : Type 0} (handles : RequestRelation H) (holds : H → Type 0) → Preserves handles holds → (budget : ℕ) (line : Line) (line_reply : LineReply) (old new : H) → RepliesTo handles budget old line line_reply new → holds old → holds new
-replies-preserve handles holds is budget (HostRequest request) (HostReply reply) old new a h = is budget request old new reply a h
-replies-preserve handles holds is budget (HostRequest request) QuitReply old new a h = absurd a
-replies-preserve handles holds is budget (HostRequest request) BadRequestReply old new a h = absurd a
-replies-preserve handles holds is budget (HostRequest request) LineTooLongReply old new a h = absurd a
-replies-preserve handles holds is budget Quit QuitReply old new a h = subst holds (sym a) h
-replies-preserve handles holds is budget Quit (HostReply reply) old new a h = absurd a
-replies-preserve handles holds is budget Quit BadRequestReply old new a h = absurd a
-replies-preserve handles holds is budget Quit LineTooLongReply old new a h = absurd a
-replies-preserve handles holds is budget BadRequest BadRequestReply old new a h = subst holds (sym a) h
-replies-preserve handles holds is budget BadRequest (HostReply reply) old new a h = absurd a
-replies-preserve handles holds is budget BadRequest QuitReply old new a h = absurd a
-replies-preserve handles holds is budget BadRequest LineTooLongReply old new a h = absurd a
-replies-preserve handles holds is budget LineTooLong LineTooLongReply old new a h = subst holds (sym a) h
-replies-preserve handles holds is budget LineTooLong (HostReply reply) old new a h = absurd a
-replies-preserve handles holds is budget LineTooLong QuitReply old new a h = absurd a
-replies-preserve handles holds is budget LineTooLong BadRequestReply old new a h = absurd a
+replies-preserve : {H : Type 0} (handles : RequestRelation H) (holds : H → Type 0) → Preserves handles holds → (line : Line) (line_reply : LineReply) (old new : H) → RepliesTo handles old line line_reply new → holds old → holds new
+replies-preserve handles holds is (HostRequest request) (HostReply reply) old new a h = is request old new reply a h
+replies-preserve handles holds is (HostRequest request) QuitReply old new a h = absurd a
+replies-preserve handles holds is (HostRequest request) BadRequestReply old new a h = absurd a
+replies-preserve handles holds is (HostRequest request) LineTooLongReply old new a h = absurd a
+replies-preserve handles holds is Quit QuitReply old new a h = subst holds (sym a) h
+replies-preserve handles holds is Quit (HostReply reply) old new a h = absurd a
+replies-preserve handles holds is Quit BadRequestReply old new a h = absurd a
+replies-preserve handles holds is Quit LineTooLongReply old new a h = absurd a
+replies-preserve handles holds is BadRequest BadRequestReply old new a h = subst holds (sym a) h
+replies-preserve handles holds is BadRequest (HostReply reply) old new a h = absurd a
+replies-preserve handles holds is BadRequest QuitReply old new a h = absurd a
+replies-preserve handles holds is BadRequest LineTooLongReply old new a h = absurd a
+replies-preserve handles holds is LineTooLong LineTooLongReply old new a h = subst holds (sym a) h
+replies-preserve handles holds is LineTooLong (HostReply reply) old new a h = absurd a
+replies-preserve handles holds is LineTooLong QuitReply old new a h = absurd a
+replies-preserve handles holds is LineTooLong BadRequestReply old new a h = absurd a
 
-all-keep : {H : Type 0} (handles : RequestRelation H) (holds : H → Type 0) → Preserves handles holds → (budget : ℕ) (lines : List Line) (replies : List LineReply) (old new : H) → RepliesToAll handles budget old lines replies new → holds old → holds new
-all-keep handles holds is budget [] [] old new a h = subst holds (sym a) h
-all-keep handles holds is budget [] (line_reply ∷ replies) old new a h = absurd a
-all-keep handles holds is budget (line ∷ lines) [] old new a h = absurd a
-all-keep handles holds is budget (line ∷ lines) (line_reply ∷ replies) old new a h =
-    all-keep handles holds is budget lines replies a.0 new a.2 (replies-preserve handles holds is budget line line_reply old a.0 a.1 h)
+all-keep : {H : Type 0} (handles : RequestRelation H) (holds : H → Type 0) → Preserves handles holds → (lines : List Line) (replies : List LineReply) (old new : H) → RepliesToAll handles old lines replies new → holds old → holds new
+all-keep handles holds is [] [] old new a h = subst holds (sym a) h
+all-keep handles holds is [] (line_reply ∷ replies) old new a h = absurd a
+all-keep handles holds is (line ∷ lines) [] old new a h = absurd a
+all-keep handles holds is (line ∷ lines) (line_reply ∷ replies) old new a h =
+    all-keep handles holds is lines replies a.0 new a.2 (replies-preserve handles holds is line line_reply old a.0 a.1 h)
 
-pub run_keeps : {H : Type 0} (handles : RequestRelation H) (holds : H → Type 0) → Preserves handles holds → (input before after : Option (List ℕ)) (budget : ℕ) (old new : H) (r : Result (Unit {0}) RunFault) → RunEnds input handles budget old before r new after → holds old → holds new
-run_keeps handles holds is input before after budget old new (Ok x) w h = all-keep handles holds is budget w.0.lines w.0.replies old new w.0.handled h
-run_keeps handles holds is input before after budget old new (Err faults.Truncated) w h = all-keep handles holds is budget w.0.lines w.0.replies old new w.0.handled h
-run_keeps handles holds is input before after budget old new (Err faults.TooLong) w h = all-keep handles holds is budget w.0.lines w.0.replies old new w.0.handled h
-run_keeps handles holds is input before after budget old new (Err faults.Read) w h = all-keep handles holds is budget w.0.lines w.0.replies old new w.0.handled h
-run_keeps handles holds is input before after budget old new (Err faults.Write) w h = all-keep handles holds is budget w.0.lines w.0.replies old new w.0.handled h
-run_keeps handles holds is input before after budget old new (Err faults.NoMemory) w h = subst holds (sym w.0) h
+pub run_keeps : {H : Type 0} (handles : RequestRelation H) (holds : H → Type 0) → Preserves handles holds → (before : KnownState H) (r : Result (Unit {0}) RunFault) (output : Option (List ℕ)) (host : H) → RunEnds handles before r output host → holds before.host → holds host
+run_keeps handles holds is before (Ok x) output host w h = all-keep handles holds is w.0.lines w.0.replies before.host host w.0.handled h
+run_keeps handles holds is before (Err faults.Truncated) output host w h = all-keep handles holds is w.0.lines w.0.replies before.host host w.0.handled h
+run_keeps handles holds is before (Err faults.TooLong) output host w h = all-keep handles holds is w.0.lines w.0.replies before.host host w.0.handled h
+run_keeps handles holds is before (Err faults.Read) output host w h = all-keep handles holds is w.0.lines w.0.replies before.host host w.0.handled h
+run_keeps handles holds is before (Err faults.Write) output host w h = all-keep handles holds is w.0.lines w.0.replies before.host host w.0.handled h
+run_keeps handles holds is before (Err faults.NoMemory) output host w h = subst holds (sym w.0) h

@@ -69,61 +69,98 @@ ReadsScript feed old script new =
     feed.reads old script new
     × ((length script ≡ max_prefix_bytes) ⊎ ((length script < max_prefix_bytes) × feed.ended new))
 
--- The script of a source was read and the verdict on it was written; or a read or a write failed, or there was no
--- memory.
-abbrev pub ChecksScript : {S K : Type 0} → Feed S → Outlet K → List Registration → S → K → Result Ending Fault → S → K
-    → Type 0
-ChecksScript feed outlet registered s k (Ok ending) s' k' =
-    (script : List ℕ) × ReadsScript feed s script s'
-    × WritesVerdict outlet k (verdict_on registered script) (Ok ending) k'
-ChecksScript feed outlet registered s k (Err (program.Run faults.Write)) s' k' =
-    (script : List ℕ) × ReadsScript feed s script s'
-    × FailsPartway outlet k (verdict_line (verdict_on registered script)) k'
-ChecksScript feed outlet registered s k (Err (program.Run faults.Read)) s' k' =
-    (script : List ℕ) × (length script < max_prefix_bytes) × Faults feed s script read_faults.Failed s' × (k' ≡ k)
-ChecksScript feed outlet registered s k (Err (program.Run faults.TooLong)) s' k' =
-    (script : List ℕ) × (length script < max_prefix_bytes) × Faults feed s script read_faults.TooLong s' × (k' ≡ k)
-ChecksScript {S} feed outlet registered s k (Err program.NoMemory) s' k' =
-    ((s' ≡ s) ⊎ ((script : List ℕ) × ReadsScript feed s script s' × TakesMemory registered script)) × (k' ≡ k)
-ChecksScript feed outlet registered s k (Err _) s' k' = ⊥
+-- how a script is read and the verdict on it is written: what the source gives, and what the sink
+-- does
+pub record ScriptStreams (S K : Type 0) : Type 1 where
+  pub feed : Feed S
+  pub outlet : Outlet K
+
+-- what a check reads from and what it writes to, at one moment
+pub record CheckState (S K : Type 0) : Type 0 where
+  pub input : S
+  pub output : K
+
+-- by these relations of a source and of a sink
+abbrev pub streams_with : {S K : Type 0} → Feed S → Outlet K → ScriptStreams S K
+streams_with feed outlet = record { feed = feed; outlet = outlet }
+
+-- this input and this output
+abbrev pub check_state : {S K : Type 0} → S → K → CheckState S K
+check_state input output = record { input = input; output = output }
+
+-- The script of a source was read and the verdict on it was written; or a read or a write failed, or
+-- there was no memory.
+abbrev pub ChecksScript : {S K : Type 0} → ScriptStreams S K → List Registration → CheckState S K
+    → Result Ending Fault → CheckState S K → Type 0
+ChecksScript streams registered before (Ok ending) after =
+    (script : List ℕ) × ReadsScript streams.feed before.input script after.input
+    × WritesVerdict streams.outlet before.output (verdict_on registered script) (Ok ending)
+    after.output
+ChecksScript streams registered before (Err (program.Run faults.Write)) after =
+    (script : List ℕ) × ReadsScript streams.feed before.input script after.input
+    × FailsPartway streams.outlet before.output (verdict_line (verdict_on registered script))
+    after.output
+ChecksScript streams registered before (Err (program.Run faults.Read)) after =
+    (script : List ℕ) × (length script < max_prefix_bytes)
+    × Faults streams.feed before.input script read_faults.Failed after.input
+    × (after.output ≡ before.output)
+ChecksScript streams registered before (Err (program.Run faults.TooLong)) after =
+    (script : List ℕ) × (length script < max_prefix_bytes)
+    × Faults streams.feed before.input script read_faults.TooLong after.input
+    × (after.output ≡ before.output)
+ChecksScript streams registered before (Err program.NoMemory) after =
+    ((after.input ≡ before.input)
+    ⊎ ((script : List ℕ) × ReadsScript streams.feed before.input script after.input
+    × TakesMemory registered script))
+    × (after.output ≡ before.output)
+ChecksScript streams registered before (Err _) after = ⊥
 
 -- The script of a file, where its bytes are known, is all of them or the first 65,537.
 abbrev pub IsScriptOf : Option (List ℕ) → List ℕ → Type 0
 IsScriptOf file script = IfSome file (λ bytes. script ≡ source_prefix bytes)
 
+-- the bytes of a file and those that are written, where these are known
+abbrev pub KnownCheck : Type 0
+KnownCheck = CheckState (Option (List ℕ)) (Option (List ℕ))
+
 -- The same of a file and a writer, by their bytes alone, where these are known.
-abbrev pub ChecksFile : List Registration → Option (List ℕ) → Option (List ℕ) → Result Ending Fault → Option (List ℕ)
+abbrev pub ChecksFile : List Registration → KnownCheck → Result Ending Fault → Option (List ℕ)
     → Type 0
-ChecksFile registered file before (Ok ending) after =
-    (script : List ℕ) × IsScriptOf file script × (ending ≡ ending_of (verdict_on registered script))
-    × Appends before after (verdict_line (verdict_on registered script))
-ChecksFile registered file before (Err (program.Run faults.Write)) after =
-    (script : List ℕ) × IsScriptOf file script
-    × (out : List ℕ) × (lost : List ℕ) × Appends before after out
+ChecksFile registered before (Ok ending) output =
+    (script : List ℕ) × IsScriptOf before.input script
+    × (ending ≡ ending_of (verdict_on registered script))
+    × Appends before.output output (verdict_line (verdict_on registered script))
+ChecksFile registered before (Err (program.Run faults.Write)) output =
+    (script : List ℕ) × IsScriptOf before.input script
+    × (out : List ℕ) × (lost : List ℕ) × Appends before.output output out
     × (verdict_line (verdict_on registered script) ≡ out ++ lost)
-ChecksFile registered file before (Err (program.Run faults.Read)) after = Keeps before after
-ChecksFile registered file before (Err program.NoMemory) after = Keeps before after
-ChecksFile registered file before (Err _) after = ⊥
+ChecksFile registered before (Err (program.Run faults.Read)) output = Keeps before.output output
+ChecksFile registered before (Err program.NoMemory) output = Keeps before.output output
+ChecksFile registered before (Err _) output = ⊥
 
 -- The status that the program ends with once it has written this line: 1 for a refusal.
 abbrev pub verdict_status : Option SourceFault → ℕ
 verdict_status None = 0
 verdict_status (Some fault) = 1
 
--- What a check of a file comes to as a program, by the fault that it writes on standard error, if there is one. With
--- none, the line for the script is on standard output, and the status is that of the line. A fault has the status 1,
--- and only where it is one of writing there may be a prefix of the line.
-abbrev pub EndsBy : List Registration → Option (List ℕ) → Option (List ℕ) → ℕ → Option Fault → Option (List ℕ) → Type 0
-EndsBy registered file before status None after =
-    (script : List ℕ) × IsScriptOf file script × (status ≡ verdict_status (verdict_on registered script))
-    × Appends before after (verdict_line (verdict_on registered script))
-EndsBy registered file before status (Some (program.Run faults.Write)) after =
-    (script : List ℕ) × IsScriptOf file script × (status ≡ 1)
-    × (out : List ℕ) × (lost : List ℕ) × Appends before after out
+-- What a check of a file comes to as a program, by the fault that it writes on standard error, if
+-- there is one. With none, the line for the script is on standard output, and the status is that of
+-- the line. A fault has the status 1, and only where it is one of writing there may be a prefix of
+-- the line.
+abbrev pub EndsBy : List Registration → KnownCheck → ℕ → Option Fault → Option (List ℕ) → Type 0
+EndsBy registered before status None output =
+    (script : List ℕ) × IsScriptOf before.input script
+    × (status ≡ verdict_status (verdict_on registered script))
+    × Appends before.output output (verdict_line (verdict_on registered script))
+EndsBy registered before status (Some (program.Run faults.Write)) output =
+    (script : List ℕ) × IsScriptOf before.input script × (status ≡ 1)
+    × (out : List ℕ) × (lost : List ℕ) × Appends before.output output out
     × (verdict_line (verdict_on registered script) ≡ out ++ lost)
-EndsBy registered file before status (Some (program.Run faults.Read)) after = (status ≡ 1) × Keeps before after
-EndsBy registered file before status (Some program.NoMemory) after = (status ≡ 1) × Keeps before after
-EndsBy registered file before status (Some _) after = ⊥
+EndsBy registered before status (Some (program.Run faults.Read)) output =
+    (status ≡ 1) × Keeps before.output output
+EndsBy registered before status (Some program.NoMemory) output =
+    (status ≡ 1) × Keeps before.output output
+EndsBy registered before status (Some _) output = ⊥
 
-abbrev pub EndsCheck : List Registration → Option (List ℕ) → Option (List ℕ) → End → Option (List ℕ) → Type 0
-EndsCheck registered file before end after = EndsBy registered file before end.status end.fault after
+abbrev pub EndsCheck : List Registration → KnownCheck → End → Option (List ℕ) → Type 0
+EndsCheck registered before end output = EndsBy registered before end.status end.fault output

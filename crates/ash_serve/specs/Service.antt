@@ -7,44 +7,68 @@ use Rattle.ash_durable.specs.Running.{RunsToFailure}
 use Rattle.ash_durable.specs.declared.fault.OpenRefused.{OpenRefused}
 use Rattle.ash_lines.specs.Lines.{Line}
 use Rattle.ash_lines.specs.Replies.{LineReply}
-use Rattle.ash_serve.specs.Running.{RunEnds, host_requests, host_replies}
-use Rattle.ash_serve.specs.Serving.{RepliesToAll}
+use Rattle.ash_serve.specs.Running.{KnownState, RunEnds, host_requests, host_replies}
+use Rattle.ash_serve.specs.Serving.{RepliesToAll, run_state}
 use Rattle.ash_serve.specs.declared.fault.RunFault.{RunFault}
 use Rattle.ash_serve.specs.declared.program.fault.Fault.{Fault}
 use Rattle.ash_serve.specs.declared.program.fault.Fault.TheVariants.{Store, Run}
 
--- A host ran, and if its files held its state, they do so afterwards. Its replies are those of the written steps, up to
--- the first request by which it must be reopened, and every life of its store goes on with what was answered. Then it
--- was closed: its disks are handed back as the run left them.
-pub record HostRun {D : Type 0} (device : Device D) (host : Hosted D) (input : Option (List ℕ)) (budget : ℕ)
-    (before : Option (List ℕ)) (result : Result (Unit {0}) RunFault) (a b : D) (after : Option (List ℕ)) : Type 0 where
+-- what serving begins with: how a host begins on the disks; the bytes that are left to read and
+-- those that are written, where these are known
+pub record ServiceStart (D : Type 0) : Type 1 where
+  pub begins : Result (Hosted D) (OpenRefused D) → Type 0
+  pub input : Option (List ℕ)
+  pub output : Option (List ℕ)
+
+-- what remains of serving: the disks, which are handed back, and the bytes that are written, where
+-- these are known
+pub record ServiceRemains (D : Type 0) : Type 0 where
+  pub a : D
+  pub b : D
+  pub output : Option (List ℕ)
+
+-- a host that begins so, this input and this output
+abbrev pub service_start : {D : Type 0} → (Result (Hosted D) (OpenRefused D) → Type 0)
+    → Option (List ℕ) → Option (List ℕ) → ServiceStart D
+service_start begins input output = record { begins = begins; input = input; output = output }
+
+-- these disks and this output
+abbrev pub service_remains : {D : Type 0} → D → D → Option (List ℕ) → ServiceRemains D
+service_remains a b output = record { a = a; b = b; output = output }
+
+-- A host ran, and if its files held its state, they do so afterwards. Its replies are those of the
+-- written steps, up to the first request by which it must be reopened, and every life of its store
+-- goes on with what was answered. Then it was closed: its disks are handed back as the run left
+-- them.
+pub record HostRun {D : Type 0} (device : Device D) (budget : ℕ) (before : KnownState (Hosted D))
+    (result : Result (Unit {0}) RunFault) (after : ServiceRemains D) : Type 0 where
   pub last : Hosted D
-  pub ends : RunEnds input (Handles device) budget host before result last after
-  pub saved : IsSaved device host → IsSaved device last
+  pub ends : RunEnds (Handles device budget) before result after.output last
+  pub saved : IsSaved device before.host → IsSaved device last
   pub defined : (lines : List Line) (replies : List LineReply)
-      → RepliesToAll (Handles device) budget host lines replies last
-      → RunsToFailure budget host (host_requests lines) (host_replies replies) last
+      → RepliesToAll (Handles device budget) before.host lines replies last
+      → RunsToFailure budget before.host (host_requests lines) (host_replies replies) last
   pub lives : (lines : List Line) (replies : List LineReply)
-      → RepliesToAll (Handles device) budget host lines replies last
-      → LivesOn device budget host (host_requests lines) (host_replies replies) last
-  pub first_is : a ≡ first last
-  pub second_is : b ≡ second last
+      → RepliesToAll (Handles device budget) before.host lines replies last
+      → LivesOn device budget before.host (host_requests lines) (host_replies replies) last
+  pub first_is : after.a ≡ first last
+  pub second_is : after.b ≡ second last
 
 -- Serving from a host did this.
-abbrev pub ServesHost : {D : Type 0} → Device D → Hosted D → Option (List ℕ) → ℕ → Option (List ℕ)
-    → Result (Unit {0}) Fault → D → D → Option (List ℕ) → Type 0
-ServesHost device host input budget before (Ok done) a b after =
-    HostRun device host input budget before (Ok done) a b after
-ServesHost device host input budget before (Err (Run fault)) a b after =
-    HostRun device host input budget before (Err fault) a b after
-ServesHost device host input budget before (Err _) a b after = ⊥
+abbrev pub ServesHost : {D : Type 0} → Device D → ℕ → KnownState (Hosted D)
+    → Result (Unit {0}) Fault → ServiceRemains D → Type 0
+ServesHost device budget before (Ok done) after = HostRun device budget before (Ok done) after
+ServesHost device budget before (Err (Run fault)) after =
+    HostRun device budget before (Err fault) after
+ServesHost device budget before (Err _) after = ⊥
 
--- Serving from a host that begins so did this; or there was a refusal, which is returned, and nothing was written. The
--- disks are handed back.
-abbrev pub ServesFrom : {D : Type 0} → Device D → (Result (Hosted D) (OpenRefused D) → Type 0) → Option (List ℕ) → ℕ
-    → Option (List ℕ) → Result (Unit {0}) Fault → D → D → Option (List ℕ) → Type 0
-ServesFrom {D} device begins input budget before (Err (Store fault)) a b after =
-    (refused : OpenRefused D) × begins (Err refused) × (refused.fault ≡ fault) × (a ≡ refused.a) × (b ≡ refused.b)
-    × (after ≡ before)
-ServesFrom {D} device begins input budget before result a b after =
-    (host : Hosted D) × begins (Ok host) × ServesHost device host input budget before result a b after
+-- Serving from a host that begins so did this; or there was a refusal, which is returned, and
+-- nothing was written. The disks are handed back.
+abbrev pub ServesFrom : {D : Type 0} → Device D → ℕ → ServiceStart D → Result (Unit {0}) Fault
+    → ServiceRemains D → Type 0
+ServesFrom {D} device budget start (Err (Store fault)) after =
+    (refused : OpenRefused D) × start.begins (Err refused) × (refused.fault ≡ fault)
+    × (after.a ≡ refused.a) × (after.b ≡ refused.b) × (after.output ≡ start.output)
+ServesFrom {D} device budget start result after =
+    (host : Hosted D) × start.begins (Ok host)
+    × ServesHost device budget (run_state start.input start.output host) result after

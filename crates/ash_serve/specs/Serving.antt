@@ -21,25 +21,26 @@ abbrev pub run_fault : ReadFault → RunFault
 run_fault read_faults.TooLong = faults.TooLong
 run_fault read_faults.Failed = faults.Read
 
--- What a host of one type may do with a request: by a budget in ticks and the request, from the host before it, to
--- the reply and the host after it.
+-- What a host of one type may do with a request, within a budget: by the request, from the host
+-- before it, to the reply and the host after it.
 abbrev pub RequestRelation : Type 0 → Type 1
-RequestRelation H = ℕ → Request → H → Reply SourceFault → H → Type 0
+RequestRelation H = Request → H → Reply SourceFault → H → Type 0
 
--- A source that is too long is so whatever its bytes are: what may be replied to its prefix may be replied to all of
--- it.
+-- A source that is too long is so whatever its bytes are: what may be replied to its prefix may be
+-- replied to all of it.
 abbrev pub DependsOnPrefix : {H : Type 0} → RequestRelation H → Type 0
 DependsOnPrefix {H} handles =
-    (budget : ℕ) (name source : List ℕ) (old new : H) (reply : Reply SourceFault)
-    → handles budget (Load name (source_prefix source)) old reply new → handles budget (Load name source) old reply new
+    (name source : List ℕ) (old new : H) (reply : Reply SourceFault)
+    → handles (Load name (source_prefix source)) old reply new
+    → handles (Load name source) old reply new
 
 -- The reply to a line: what the host replies to its request, or one that leaves the host as it is.
-abbrev pub RepliesTo : {H : Type 0} → RequestRelation H → ℕ → H → Line → LineReply → H → Type 0
-RepliesTo handles budget old (HostRequest request) (HostReply reply) new = handles budget request old reply new
-RepliesTo handles budget old Quit QuitReply new = new ≡ old
-RepliesTo handles budget old BadRequest BadRequestReply new = new ≡ old
-RepliesTo handles budget old LineTooLong LineTooLongReply new = new ≡ old
-RepliesTo handles budget old _ _ new = ⊥
+abbrev pub RepliesTo : {H : Type 0} → RequestRelation H → H → Line → LineReply → H → Type 0
+RepliesTo handles old (HostRequest request) (HostReply reply) new = handles request old reply new
+RepliesTo handles old Quit QuitReply new = new ≡ old
+RepliesTo handles old BadRequest BadRequestReply new = new ≡ old
+RepliesTo handles old LineTooLong LineTooLongReply new = new ≡ old
+RepliesTo handles old _ _ new = ⊥
 
 -- whether the run ends with this reply: with that to `quit`
 abbrev pub ends_run : LineReply → Bool
@@ -47,112 +48,182 @@ ends_run QuitReply = true
 ends_run _ = false
 
 -- The replies to lines, each from the host that the one before it left.
-abbrev pub RepliesToAll : {H : Type 0} → RequestRelation H → ℕ → H → List Line → List LineReply → H → Type 0
-RepliesToAll handles budget old [] [] new = new ≡ old
-RepliesToAll {H} handles budget old (line ∷ lines) (reply ∷ replies) new =
-    (between : H) × RepliesTo handles budget old line reply between
-    × RepliesToAll handles budget between lines replies new
-RepliesToAll handles budget old _ _ new = ⊥
+abbrev pub RepliesToAll : {H : Type 0} → RequestRelation H → H → List Line → List LineReply → H
+    → Type 0
+RepliesToAll handles old [] [] new = new ≡ old
+RepliesToAll {H} handles old (line ∷ lines) (reply ∷ replies) new =
+    (between : H) × RepliesTo handles old line reply between
+    × RepliesToAll handles between lines replies new
+RepliesToAll handles old _ _ new = ⊥
 
 -- The input begins with this request, however it goes on after these bytes.
 abbrev pub Spells : List ℕ → Line → Type 0
 Spells bytes line = (more : List ℕ) → next (bytes ++ more) ≡ Whole line more
 
+-- ---- one request
+
+-- how requests are read and handled: what the source gives, and what the host may do with each
+pub record Handling (S H : Type 0) : Type 1 where
+  pub feed : Feed S
+  pub handles : RequestRelation H
+
+-- what requests are read from and the host that handles them, at one moment
+pub record RequestState (S H : Type 0) : Type 0 where
+  pub input : S
+  pub host : H
+
+-- by these relations of a source and of a host
+abbrev pub handling_with : {S H : Type 0} → Feed S → RequestRelation H → Handling S H
+handling_with feed handles = record { feed = feed; handles = handles }
+
+-- this input and this host
+abbrev pub request_state : {S H : Type 0} → S → H → RequestState S H
+request_state input host = record { input = input; host = host }
+
 -- One request was read and handled, and this is the reply to it.
-pub record HandlesLine {S H : Type 0} (feed : Feed S) (handles : RequestRelation H) (budget : ℕ) (input : S) (host : H)
-    (line : Line) (reply : LineReply) (input' : S) (host' : H) : Type 0 where
+pub record HandlesLine {S H : Type 0} (handling : Handling S H) (before : RequestState S H)
+    (line : Line) (reply : LineReply) (after : RequestState S H) : Type 0 where
   pub bytes : List ℕ
   pub spells : Spells bytes line
-  pub took : feed.reads input bytes input'
-  pub handled : RepliesTo handles budget host line reply host'
-
--- The input ended, and no request began.
-pub record EndsBetweenRequests {S K H : Type 0} (feed : Feed S) (input : S) (output : K) (host : H) (input' : S)
-    (output' : K) (host' : H) : Type 0 where
-  pub took : feed.reads input [] input'
-  pub ended : feed.ended input'
-  pub output_same : output' ≡ output
-  pub host_same : host' ≡ host
-
--- The input ended inside a request.
-pub record EndsInsideRequest {S K H : Type 0} (feed : Feed S) (input : S) (output : K) (host : H) (input' : S)
-    (output' : K) (host' : H) : Type 0 where
-  pub rest : List ℕ
-  pub cut : next rest ≡ Cut
-  pub took : feed.reads input rest input'
-  pub ended : feed.ended input'
-  pub output_same : output' ≡ output
-  pub host_same : host' ≡ host
-
--- The source failed inside a request, or before it.
-pub record InputFails {S K H : Type 0} (feed : Feed S) (fault : ReadFault) (input : S) (output : K) (host : H)
-    (input' : S) (output' : K) (host' : H) : Type 0 where
-  pub rest : List ℕ
-  pub unfinished : is_unfinished (next rest) ≡ true
-  pub faults : Faults feed input rest fault input'
-  pub output_same : output' ≡ output
-  pub host_same : host' ≡ host
+  pub took : handling.feed.reads before.input bytes after.input
+  pub handled : RepliesTo handling.handles before.host line reply after.host
 
 -- What reading a request and handling it did, by its outcome: the reply to it, or a fault.
-abbrev pub HandlesRequest : {S H : Type 0} → Feed S → RequestRelation H → ℕ → S → H → Result code.LineReply RunFault → S
-    → H → Type 0
-HandlesRequest feed handles budget s h (Ok reply) s' h' =
-    (line : Line) × HandlesLine feed handles budget s h line (line_reply_of reply) s' h'
-HandlesRequest feed handles budget s h (Err faults.Truncated) s' h' =
-    (rest : List ℕ) × feed.reads s rest s' × feed.ended s' × (next rest ≡ Cut) × (h' ≡ h)
-HandlesRequest feed handles budget s h (Err faults.TooLong) s' h' =
-    (rest : List ℕ) × Faults feed s rest read_faults.TooLong s' × (is_unfinished (next rest) ≡ true) × (h' ≡ h)
-HandlesRequest feed handles budget s h (Err faults.Read) s' h' =
-    (rest : List ℕ) × Faults feed s rest read_faults.Failed s' × (is_unfinished (next rest) ≡ true) × (h' ≡ h)
-HandlesRequest feed handles budget s h (Err faults.Write) s' h' = ⊥
-HandlesRequest feed handles budget s h (Err faults.NoMemory) s' h' = ⊥
+abbrev pub HandlesRequest : {S H : Type 0} → Handling S H → RequestState S H
+    → Result code.LineReply RunFault → RequestState S H → Type 0
+HandlesRequest handling before (Ok reply) after =
+    (line : Line) × HandlesLine handling before line (line_reply_of reply) after
+HandlesRequest handling before (Err faults.Truncated) after =
+    (rest : List ℕ) × handling.feed.reads before.input rest after.input
+    × handling.feed.ended after.input × (next rest ≡ Cut) × (after.host ≡ before.host)
+HandlesRequest handling before (Err faults.TooLong) after =
+    (rest : List ℕ) × Faults handling.feed before.input rest read_faults.TooLong after.input
+    × (is_unfinished (next rest) ≡ true) × (after.host ≡ before.host)
+HandlesRequest handling before (Err faults.Read) after =
+    (rest : List ℕ) × Faults handling.feed before.input rest read_faults.Failed after.input
+    × (is_unfinished (next rest) ≡ true) × (after.host ≡ before.host)
+HandlesRequest handling before (Err faults.Write) after = ⊥
+HandlesRequest handling before (Err faults.NoMemory) after = ⊥
 
 -- The same, where the input may end before the request.
-abbrev pub HandlesNext : {S H : Type 0} → Feed S → RequestRelation H → ℕ → S → H
-    → Result (Option code.LineReply) RunFault → S → H → Type 0
-HandlesNext feed handles budget s h (Ok None) s' h' = feed.reads s [] s' × feed.ended s' × (h' ≡ h)
-HandlesNext feed handles budget s h (Ok (Some reply)) s' h' = HandlesRequest feed handles budget s h (Ok reply) s' h'
-HandlesNext feed handles budget s h (Err fault) s' h' = HandlesRequest feed handles budget s h (Err fault) s' h'
+abbrev pub HandlesNext : {S H : Type 0} → Handling S H → RequestState S H
+    → Result (Option code.LineReply) RunFault → RequestState S H → Type 0
+HandlesNext handling before (Ok None) after =
+    handling.feed.reads before.input [] after.input × handling.feed.ended after.input
+    × (after.host ≡ before.host)
+HandlesNext handling before (Ok (Some reply)) after =
+    HandlesRequest handling before (Ok reply) after
+HandlesNext handling before (Err fault) after = HandlesRequest handling before (Err fault) after
 
--- How a fault ended a run: the input ended inside a request or failed, or the reply could not be written.
-abbrev pub EndsByFault : {S K H : Type 0} → Feed S → Outlet K → RequestRelation H → ℕ → S → K → H → RunFault → S → K → H
-    → Type 0
-EndsByFault feed outlet handles budget s k h faults.Truncated s' k' h' = EndsInsideRequest feed s k h s' k' h'
-EndsByFault feed outlet handles budget s k h faults.TooLong s' k' h' =
-    InputFails feed read_faults.TooLong s k h s' k' h'
-EndsByFault feed outlet handles budget s k h faults.Read s' k' h' = InputFails feed read_faults.Failed s k h s' k' h'
-EndsByFault feed outlet handles budget s k h faults.Write s' k' h' =
-    (line : Line) × (reply : LineReply) × HandlesLine feed handles budget s h line reply s' h'
-    × FailsPartway outlet k (reply_line reply) k'
-EndsByFault feed outlet handles budget s k h faults.NoMemory s' k' h' = ⊥
+-- ---- a run
 
--- A run so far: the bytes that were read, the requests of which they consist, and the replies to these, which went out.
-pub record Log {S K H : Type 0} (feed : Feed S) (outlet : Outlet K) (handles : RequestRelation H) (budget : ℕ)
-    (input : S) (output : K) (host : H) (input' : S) (output' : K) (host' : H) : Type 0 where
+-- how a run is served: what the source gives, what the sink does with what is written, and what the
+-- host may do with each request
+pub record Serving (S K H : Type 0) : Type 1 where
+  pub feed : Feed S
+  pub outlet : Outlet K
+  pub handles : RequestRelation H
+
+-- what a run reads from, what it writes to and the host that handles its requests, at one moment
+pub record RunState (S K H : Type 0) : Type 0 where
+  pub input : S
+  pub output : K
+  pub host : H
+
+-- by these relations of a source, of a sink and of a host
+abbrev pub serving_with : {S K H : Type 0} → Feed S → Outlet K → RequestRelation H → Serving S K H
+serving_with feed outlet handles = record { feed = feed; outlet = outlet; handles = handles }
+
+-- this input, this output and this host
+abbrev pub run_state : {S K H : Type 0} → S → K → H → RunState S K H
+run_state input output host = record { input = input; output = output; host = host }
+
+-- how a run reads and handles its requests
+abbrev pub handling_of : {S K H : Type 0} → Serving S K H → Handling S H
+handling_of serving = handling_with serving.feed serving.handles
+
+-- a moment of a run but for what it writes to
+abbrev pub without_output : {S K H : Type 0} → RunState S K H → RequestState S H
+without_output state = request_state state.input state.host
+
+-- The input ended, and no request began.
+pub record EndsBetweenRequests {S K H : Type 0} (feed : Feed S) (before after : RunState S K H)
+    : Type 0 where
+  pub took : feed.reads before.input [] after.input
+  pub ended : feed.ended after.input
+  pub output_same : after.output ≡ before.output
+  pub host_same : after.host ≡ before.host
+
+-- The input ended inside a request.
+pub record EndsInsideRequest {S K H : Type 0} (feed : Feed S) (before after : RunState S K H)
+    : Type 0 where
+  pub rest : List ℕ
+  pub cut : next rest ≡ Cut
+  pub took : feed.reads before.input rest after.input
+  pub ended : feed.ended after.input
+  pub output_same : after.output ≡ before.output
+  pub host_same : after.host ≡ before.host
+
+-- The source failed inside a request, or before it.
+pub record InputFails {S K H : Type 0} (feed : Feed S) (fault : ReadFault)
+    (before after : RunState S K H) : Type 0 where
+  pub rest : List ℕ
+  pub unfinished : is_unfinished (next rest) ≡ true
+  pub faults : Faults feed before.input rest fault after.input
+  pub output_same : after.output ≡ before.output
+  pub host_same : after.host ≡ before.host
+
+-- How a fault ended a run: the input ended inside a request or failed, or the reply could not be
+-- written.
+abbrev pub EndsByFault : {S K H : Type 0} → Serving S K H → RunState S K H → RunFault
+    → RunState S K H → Type 0
+EndsByFault serving before faults.Truncated after = EndsInsideRequest serving.feed before after
+EndsByFault serving before faults.TooLong after =
+    InputFails serving.feed read_faults.TooLong before after
+EndsByFault serving before faults.Read after =
+    InputFails serving.feed read_faults.Failed before after
+EndsByFault serving before faults.Write after =
+    (line : Line) × (reply : LineReply)
+    × HandlesLine (handling_of serving) (without_output before) line reply (without_output after)
+    × FailsPartway serving.outlet before.output (reply_line reply) after.output
+EndsByFault serving before faults.NoMemory after = ⊥
+
+-- A run so far: the bytes that were read, the requests of which they consist, and the replies to
+-- these, which went out.
+pub record Log {S K H : Type 0} (serving : Serving S K H) (before after : RunState S K H)
+    : Type 0 where
   pub read : List ℕ
   pub lines : List Line
   pub replies : List LineReply
-  pub took : feed.reads input read input'
+  pub took : serving.feed.reads before.input read after.input
   pub consists : (more : List ℕ) → ConsistsOf (read ++ more) lines more
-  pub handled : RepliesToAll handles budget host lines replies host'
-  pub written : outlet.writes output (text_of replies) output'
-  pub empty : outlet.buffered output' ≡ []
+  pub handled : RepliesToAll serving.handles before.host lines replies after.host
+  pub written : serving.outlet.writes before.output (text_of replies) after.output
+  pub empty : serving.outlet.buffered after.output ≡ []
 
 -- A run so far in which no request was `quit`.
-pub record OngoingLog {S K H : Type 0} (feed : Feed S) (outlet : Outlet K) (handles : RequestRelation H) (budget : ℕ)
-    (input : S) (output : K) (host : H) (input' : S) (output' : K) (host' : H) : Type 0 where
-  pub log : Log feed outlet handles budget input output host input' output' host'
+pub record OngoingLog {S K H : Type 0} (serving : Serving S K H) (before after : RunState S K H)
+    : Type 0 where
+  pub log : Log serving before after
   pub on : AllByRecursion GoesOn log.lines
 
--- A run: the requests before its end, and how it ended. Without memory nothing was read, handled or written.
-abbrev pub Serves : {S K H : Type 0} → Feed S → Outlet K → RequestRelation H → ℕ → S → K → H
-    → Result (Unit {0}) RunFault → S → K → H → Type 0
-Serves {S} {K} {H} feed outlet handles budget s k h (Ok _) s' k' h' =
-    (input : S) × (output : K) × (host : H) × OngoingLog feed outlet handles budget s k h input output host
-    × (EndsBetweenRequests feed input output host s' k' h'
-    ⊎ (HandlesLine feed handles budget input host Quit QuitReply s' h'
-    × WritesAll outlet output (reply_line QuitReply) k'))
-Serves feed outlet handles budget s k h (Err faults.NoMemory) s' k' h' = (s' ≡ s) × (k' ≡ k) × (h' ≡ h)
-Serves {S} {K} {H} feed outlet handles budget s k h (Err fault) s' k' h' =
-    (input : S) × (output : K) × (host : H) × OngoingLog feed outlet handles budget s k h input output host
-    × EndsByFault feed outlet handles budget input output host fault s' k' h'
+-- `quit` was read, and the reply to it was written.
+pub record Quits {S K H : Type 0} (serving : Serving S K H) (before after : RunState S K H)
+    : Type 0 where
+  pub handled :
+      HandlesLine (handling_of serving) (without_output before) Quit QuitReply
+      (without_output after)
+  pub written : WritesAll serving.outlet before.output (reply_line QuitReply) after.output
+
+-- A run: the requests before its end, and how it ended. Without memory nothing was read, handled or
+-- written.
+abbrev pub Serves : {S K H : Type 0} → Serving S K H → RunState S K H
+    → Result (Unit {0}) RunFault → RunState S K H → Type 0
+Serves {S} {K} {H} serving before (Ok _) after =
+    (last : RunState S K H) × OngoingLog serving before last
+    × (EndsBetweenRequests serving.feed last after ⊎ Quits serving last after)
+Serves serving before (Err faults.NoMemory) after =
+    (after.input ≡ before.input) × (after.output ≡ before.output) × (after.host ≡ before.host)
+Serves {S} {K} {H} serving before (Err fault) after =
+    (last : RunState S K H) × OngoingLog serving before last
+    × EndsByFault serving last fault after

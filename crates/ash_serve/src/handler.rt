@@ -1,5 +1,6 @@
 //! What handles requests.
 
+ghost use Rattle.std.specs.Prelude.{ℕ};
 ghost use Rattle.ash_durable.specs.Hosting.{Handles};
 ghost use Rattle.ash_plain_steps.specs.RequestViews.{request_seen, reply_seen};
 ghost use Rattle.ash_sources.specs.SourceFaults.{fault_of};
@@ -13,8 +14,8 @@ use ash_sources::fault::SourceFault;
 
 /// A host, as the loop uses it.
 pub trait RequestHandler {
-    /// What the reply to a request may be, and the host after it.
-    ghost handles: { RequestRelation Self };
+    /// What the reply to a request may be, by a budget in ticks, and the host after it.
+    ghost handles: { ℕ → RequestRelation Self };
 
     /// Handles one request, with a budget in ticks.
     fn handle(&mut self, request: &Request, budget: u64) -> Reply<SourceFault>
@@ -22,7 +23,7 @@ pub trait RequestHandler {
             (reply_seen fault_of result) self.new };
 
     /// A source that is too long is refused whatever bytes come after its prefix.
-    ghost depends_on_prefix: { DependsOnPrefix handles };
+    ghost depends_on_prefix: { (budget : ℕ) → DependsOnPrefix (handles budget) };
 }
 
 impl<D: Disk> RequestHandler for Host<D> {

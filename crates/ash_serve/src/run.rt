@@ -7,7 +7,7 @@ ghost use Rattle.ash_durable.specs.Running.{RunsToFailure};
 ghost use Rattle.ash_lines.specs.Lines.{Line};
 ghost use Rattle.ash_lines.specs.Replies.{LineReply};
 ghost use Rattle.ash_serve.specs.Running.{RunEnds, host_requests, host_replies};
-ghost use Rattle.ash_serve.specs.Serving.{RepliesToAll};
+ghost use Rattle.ash_serve.specs.Serving.{RepliesToAll, run_state};
 
 use crate::fault::RunFault;
 use crate::serve::serve;
@@ -36,16 +36,17 @@ pub fn run<D: Disk, R: Read + Drop, W: Write>(
     host: &mut Host<D>,
     budget: u64,
 ) -> Result<(), RunFault>
-    ensures ends { RunEnds (R.remaining reader) (Handles D.Disk)
-        budget host.old (W.contents writer.old) result host.new (W.contents writer.new) }
+    ensures ends { RunEnds (Handles D.Disk budget)
+        (run_state (R.remaining reader) (W.contents writer.old) host.old) result
+        (W.contents writer.new) host.new }
     // The requests that the host answered are a run of the written steps, up to the first by which it must be reopened.
     ensures defined { (lines : List Line) (replies : List LineReply)
-        → RepliesToAll (Handles D.Disk) budget host.old lines replies host.new
+        → RepliesToAll (Handles D.Disk budget) host.old lines replies host.new
         → RunsToFailure budget host.old (host_requests lines) (host_replies replies) host.new }
     // Every life of the store goes on with the requests that were answered, however the run ends: each of them, written
     // or not, is acknowledged in it.
     ensures lives { (lines : List Line) (replies : List LineReply)
-        → RepliesToAll (Handles D.Disk) budget host.old lines replies host.new
+        → RepliesToAll (Handles D.Disk budget) host.old lines replies host.new
         → LivesOn D.Disk budget host.old (host_requests lines) (host_replies replies) host.new }
     ensures saved { IsSaved D.Disk host.old → IsSaved D.Disk host.new }
 {

@@ -2,7 +2,7 @@
 
 ghost use Rattle.std.specs.Prelude.{◌≡◌, []};
 ghost use Rattle.ash_lines.specs.Replies.{line_reply_of};
-ghost use Rattle.ash_serve.specs.Serving.{Serves, ends_run};
+ghost use Rattle.ash_serve.specs.Serving.{Serves, ends_run, run_state, serving_with};
 
 use crate::fault::RunFault;
 use crate::handler::RequestHandler;
@@ -22,8 +22,9 @@ pub fn serve<S: Source, K: Sink, H: RequestHandler>(
     budget: u64,
 ) -> Result<(), RunFault>
     requires nothing_buffered { K.outlet.buffered output.old ≡ [] }
-    ensures serves { Serves S.feed K.outlet H.handles budget input.old output.old host.old result
-        input.new output.new host.new }
+    ensures serves { Serves (serving_with S.feed K.outlet (H.handles budget))
+        (run_state input.old output.old host.old) result
+        (run_state input.new output.new host.new) }
 {
     let mut session = Session::new(alloc, budget)?;
     'requests: loop {

@@ -4,7 +4,7 @@ ghost use Rattle.std.specs.Prelude.{◌≡◌, ◌≤◌, ℕ, List, length, vec
 ghost use Rattle.ash_lines.specs.Lines.{LoadHeader as Header, max_line_bytes, parse_line};
 ghost use Rattle.ash_lines.specs.Reading.{ReadsWholeLine, max_prefix_bytes};
 ghost use Rattle.ash_serve.specs.Session.{HasRoom};
-ghost use Rattle.ash_serve.specs.Serving.{HandlesNext, HandlesRequest};
+ghost use Rattle.ash_serve.specs.Serving.{HandlesNext, HandlesRequest, handling_with, request_state};
 
 use crate::fault::RunFault;
 use crate::handler::RequestHandler;
@@ -49,8 +49,8 @@ impl Session {
         host: &mut H,
     ) -> Result<Option<LineReply>, RunFault>
         requires room { HasRoom self.old }
-        ensures handled { HandlesNext S.feed H.handles self.old.budget input.old host.old result
-            input.new host.new }
+        ensures handled { HandlesNext (handling_with S.feed (H.handles self.old.budget))
+            (request_state input.old host.old) result (request_state input.new host.new) }
         ensures room { HasRoom self.new }
         ensures budget { self.new.budget ≡ self.old.budget }
     {
@@ -71,8 +71,8 @@ impl Session {
         requires room { HasRoom self.old }
         requires short { length self.old.line.items ≤ max_line_bytes }
         ensures handled { (start : S) → ReadsWholeLine S.feed start self.old.line.items input.old
-            → HandlesRequest S.feed H.handles self.old.budget start host.old result
-            input.new host.new }
+            → HandlesRequest (handling_with S.feed (H.handles self.old.budget))
+            (request_state start host.old) result (request_state input.new host.new) }
         ensures room { HasRoom self.new }
         ensures budget { self.new.budget ≡ self.old.budget }
     {
@@ -109,7 +109,8 @@ fn handle_load<S: Source, H: RequestHandler>(
     ensures handled { (start : S) (line : List ℕ) → ReadsWholeLine S.feed start line input.old
         → length line ≤ max_line_bytes
         → parse_line line ≡ Header header.entry.name.now header.entry.length
-        → HandlesRequest S.feed H.handles budget start host.old result input.new host.new }
+        → HandlesRequest (handling_with S.feed (H.handles budget))
+        (request_state start host.old) result (request_state input.new host.new) }
     ensures room { max_prefix_bytes ≤ vec_capacity prefix.new }
 {
     match read_bytes(input, header.length, prefix)? {

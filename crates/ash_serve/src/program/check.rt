@@ -1,8 +1,8 @@
 //! Checking a script: its bytes are read and judged, and the verdict is written.
 
 ghost use Rattle.ash_registry.specs.Registered.{registered};
-ghost use Rattle.ash_serve.specs.CheckRun.{EndsCheck, ChecksFile, ChecksScript, ReadsScript};
-ghost use Rattle.ash_serve.specs.CheckRun.{Judges, WritesVerdict, verdict_of};
+ghost use Rattle.ash_serve.specs.CheckRun.{EndsCheck, ChecksFile, ChecksScript};
+ghost use Rattle.ash_serve.specs.CheckRun.{Judges, WritesVerdict, check_state, streams_with, verdict_of};
 
 use super::ending::{End, Ending};
 use super::fault::Fault;
@@ -31,8 +31,9 @@ pub fn run_check<R: Read + Drop, W: Write>(
     reader: R,
     writer: &mut W,
 ) -> End
-    ensures ends { EndsCheck (registered registry.now) (R.remaining reader)
-        (W.contents writer.old) result (W.contents writer.new) }
+    ensures ends { EndsCheck (registered registry.now)
+        (check_state (R.remaining reader) (W.contents writer.old)) result
+        (W.contents writer.new) }
 {
     End::by(check_file(alloc, registry, reader, writer))
 }
@@ -48,8 +49,9 @@ pub fn check_file<R: Read + Drop, W: Write>(
     reader: R,
     writer: &mut W,
 ) -> Result<Ending, Fault>
-    ensures checks { ChecksFile (registered registry.now) (R.remaining reader)
-        (W.contents writer.old) result (W.contents writer.new) }
+    ensures checks { ChecksFile (registered registry.now)
+        (check_state (R.remaining reader) (W.contents writer.old)) result
+        (W.contents writer.new) }
 {
     let mut input = Reader::new(alloc, reader)?;
     let buffer = Vec::with_capacity(alloc, MAX_BUFFERED_BYTES)?;
@@ -69,8 +71,8 @@ pub fn check_script<S: Source, K: Sink>(
     input: &mut S,
     output: &mut K,
 ) -> Result<Ending, Fault>
-    ensures checks { ChecksScript S.feed K.outlet (registered registry.now) input.old output.old
-        result input.new output.new }
+    ensures checks { ChecksScript (streams_with S.feed K.outlet) (registered registry.now)
+        (check_state input.old output.old) result (check_state input.new output.new) }
 {
     let mut script = Vec::with_capacity(alloc, MAX_PREFIX_BYTES)?;
     match read_bytes(input, MAX_SCRIPT_BYTES, &mut script) {

@@ -3,7 +3,8 @@
 ghost use Rattle.std.specs.Prelude.{◌≡◌, Err};
 ghost use Rattle.ash_durable.specs.Store.{Creates, Opens};
 ghost use Rattle.ash_registry.specs.Registered.{registered};
-ghost use Rattle.ash_serve.specs.Service.{ServesHost, ServesFrom};
+ghost use Rattle.ash_serve.specs.Service.{ServesHost, ServesFrom, service_remains, service_start};
+ghost use Rattle.ash_serve.specs.Serving.{run_state};
 ghost use Rattle.ash_serve.specs.declared.program.fault.Fault.TheVariants as faults;
 
 use super::fault::Fault;
@@ -38,10 +39,10 @@ pub fn serve_stored<D: Disk, R: Read + Drop, W: Write>(
     reader: R,
     writer: &mut W,
 ) -> ServiceEnd<D>
-    ensures serves { ServesFrom D.Disk
-        (Opens D.Disk (registered service.registry) service.a service.b)
-        (R.remaining reader) service.budget (W.contents writer.old)
-        result.end result.a result.b (W.contents writer.new) }
+    ensures serves { ServesFrom D.Disk service.budget
+        (service_start (Opens D.Disk (registered service.registry) service.a service.b)
+        (R.remaining reader) (W.contents writer.old))
+        result.end (service_remains result.a result.b (W.contents writer.new)) }
 {
     let Service {
         a,
@@ -62,10 +63,10 @@ pub fn serve_new<D: Disk, R: Read + Drop, W: Write>(
     reader: R,
     writer: &mut W,
 ) -> ServiceEnd<D>
-    ensures serves { ServesFrom D.Disk
-        (Creates D.Disk (registered service.registry) service.a service.b)
-        (R.remaining reader) service.budget (W.contents writer.old)
-        result.end result.a result.b (W.contents writer.new) }
+    ensures serves { ServesFrom D.Disk service.budget
+        (service_start (Creates D.Disk (registered service.registry) service.a service.b)
+        (R.remaining reader) (W.contents writer.old))
+        result.end (service_remains result.a result.b (W.contents writer.new)) }
 {
     let Service {
         a,
@@ -87,8 +88,9 @@ fn serve_host<D: Disk, R: Read + Drop, W: Write>(
     writer: &mut W,
     budget: u64,
 ) -> ServiceEnd<D>
-    ensures serves { ServesHost D.Disk host (R.remaining reader) budget (W.contents writer.old)
-        result.end result.a result.b (W.contents writer.new) }
+    ensures serves { ServesHost D.Disk budget
+        (run_state (R.remaining reader) (W.contents writer.old) host)
+        result.end (service_remains result.a result.b (W.contents writer.new)) }
 {
     let end = match run(alloc, reader, writer, &mut host, budget) {
         Ok(()) => Ok(()),
