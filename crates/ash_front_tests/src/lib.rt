@@ -1,5 +1,5 @@
-//! Tests of all that reads scripts: tokens, trees, registrations, the check, and sources as a whole. They are in a crate
-//! of their own, so that the crates with the code are proved once.
+//! Tests of all that reads scripts: tokens, trees, registrations, the check, and sources as a whole. They are in a
+//! crate of their own, so that the crates with the code are proved once.
 //!
 //! In reading order: `compare`, with the comparisons; `tokens`, `signs` and `words`, of `ash_lex`; `declarations`,
 //! `trees` with `expression_trees`, `statement_trees` and `item_trees`, and `largest`, of `ash_parse`;
