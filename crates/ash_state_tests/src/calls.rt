@@ -98,8 +98,10 @@ fn invoked_alone(alloc: Global, method: u16) -> HostCall {
 /// The call that a step is.
 fn call_of(alloc: Global, step: HostStep) -> Result<HostCall, AllocError> {
     match step {
-        HostStep::Start(_, value) | HostStep::StartOdd(_, value) => started(alloc, value),
-        HostStep::Add(_, value) | HostStep::Tally(value) => invoked(alloc, 1, value),
+        HostStep::Start(_, value) => started(alloc, value),
+        HostStep::StartOdd(_, value) => started(alloc, value),
+        HostStep::Add(_, value) => invoked(alloc, 1, value),
+        HostStep::Tally(value) => invoked(alloc, 1, value),
         HostStep::Fail(_, code) => invoked(alloc, 2, code),
         HostStep::Read(_) => Ok(HostCall::Get { property: 1 }),
         HostStep::Write(_, value) => {
