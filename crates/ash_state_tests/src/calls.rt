@@ -95,6 +95,24 @@ fn invoked_alone(alloc: Global, method: u16) -> HostCall {
     }
 }
 
+/// The call that a step is.
+fn call_of(alloc: Global, step: HostStep) -> Result<HostCall, AllocError> {
+    match step {
+        HostStep::Start(_, value) => started(alloc, value),
+        HostStep::StartOdd(_, value) => started(alloc, value),
+        HostStep::Add(_, value) => invoked(alloc, 1, value),
+        HostStep::Tally(value) => invoked(alloc, 1, value),
+        HostStep::Fail(_, code) => invoked(alloc, 2, code),
+        HostStep::Read(_) => Ok(HostCall::Get { property: 1 }),
+        HostStep::Write(_, value) => {
+            let value = Word::Int(value);
+            Ok(HostCall::Set { property: 1, value })
+        }
+        HostStep::Total => Ok(invoked_alone(alloc, 2)),
+        HostStep::Bad(_) => Ok(invoked_alone(alloc, 1)),
+    }
+}
+
 /// What a call of an object of the kind 9 comes to. Its state is empty.
 fn odd_record(alloc: Global, number: u64, call: HostCall, answer: HostAnswer) -> HostRecord {
     HostRecord {
@@ -116,9 +134,8 @@ impl Answerers {
     }
 
     /// What a new counter makes of its start.
-    fn start(&mut self, alloc: Global, number: u64, value: i32) -> Result<HostRecord, Fail> {
+    fn start(&mut self, alloc: Global, number: u64, call: HostCall) -> Result<HostRecord, Fail> {
         let mut counter = Counter::new();
-        let call = started(alloc, value)?;
         let record = record_of(alloc, &mut counter, Target::Object(number), call)?;
         self.numbers.push(number)?;
         self.counters.push(counter)?;
@@ -145,25 +162,21 @@ impl Answerers {
         record_of(alloc, &mut self.tally, Target::Service(0), call)
     }
 
-    fn answer(&mut self, alloc: Global, call: HostStep) -> Result<Option<HostRecord>, Fail> {
-        match call {
-            HostStep::Start(number, value) => Ok(Some(self.start(alloc, number, value)?)),
-            HostStep::Add(number, value) => self.ask(alloc, number, invoked(alloc, 1, value)?),
-            HostStep::Fail(number, code) => self.ask(alloc, number, invoked(alloc, 2, code)?),
-            HostStep::Read(number) => self.ask(alloc, number, HostCall::Get { property: 1 }),
-            HostStep::Write(number, value) => {
-                let value = Word::Int(value);
-                self.ask(alloc, number, HostCall::Set { property: 1, value })
-            }
-            HostStep::Tally(value) => Ok(Some(self.ask_service(alloc, invoked(alloc, 1, value)?)?)),
-            HostStep::Total => Ok(Some(self.ask_service(alloc, invoked_alone(alloc, 2))?)),
-            HostStep::StartOdd(number, value) => {
-                let call = started(alloc, value)?;
+    /// What is answered to a step. The object of the kind 9 answers `true` to its method.
+    fn answer(&mut self, alloc: Global, step: HostStep) -> Result<Option<HostRecord>, Fail> {
+        let call = call_of(alloc, step)?;
+        match step {
+            HostStep::Start(number, _) => Ok(Some(self.start(alloc, number, call)?)),
+            HostStep::Add(number, _)
+            | HostStep::Fail(number, _)
+            | HostStep::Read(number)
+            | HostStep::Write(number, _) => self.ask(alloc, number, call),
+            HostStep::Tally(_) | HostStep::Total => Ok(Some(self.ask_service(alloc, call)?)),
+            HostStep::StartOdd(number, _) => {
                 Ok(Some(odd_record(alloc, number, call, HostAnswer::Nothing)))
             }
             HostStep::Bad(number) => {
                 let answer = HostAnswer::Value(Word::Bool(true));
-                let call = invoked_alone(alloc, 1);
                 Ok(Some(odd_record(alloc, number, call, answer)))
             }
         }

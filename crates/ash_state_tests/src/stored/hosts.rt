@@ -3,7 +3,7 @@
 use crate::stored::compare::check_bytes;
 use crate::stored::images::{
     AFTER_THREE, CONSTRUCTED, LOADED, MODULE_A, MODULE_B, NOTHING, OF_TWO_MODULES, ONE_SERVICE,
-    TWO, image, modules, with_tag,
+    Parts, TWO, image, modules, with_tag,
 };
 use ash_plain_steps::request::{Reply, Request};
 use ash_registry::Registry;
@@ -23,9 +23,13 @@ fn handle(state: &mut HostState, request: &Request) -> Result<(), Fail> {
     }
 }
 
-/// Loads a source as a module.
-fn load(state: &mut HostState, module: &str, source: &[u8]) -> Result<(), Fail> {
-    handle(state, &Request::Load { module, source })
+/// The state of a host with nothing registered after these requests, each of which is answered.
+fn after(alloc: Global, requests: &[Request<'_>]) -> Result<HostState, Fail> {
+    let mut state = HostState::new(alloc, Registry::new(alloc));
+    for request in requests {
+        handle(&mut state, request)?;
+    }
+    Ok(state)
 }
 
 /// Compares the image of a state, and the body of a record that has it.
@@ -54,60 +58,104 @@ fn before_any_request(rt: HostRuntime) -> Result<(), Fail> {
     check_written(&rt, rt.alloc(), &state, &wanted, "a registration")
 }
 
+/// What requests lead to: what they are called, each of them, and what follows the version in the image.
+type Row = (&'static str, &'static [Request<'static>], Parts);
+
+fn check_row(rt: &impl Abort, alloc: Global, row: &Row) -> Result<(), Fail> {
+    let (what, requests, rest) = *row;
+    let state = after(alloc, requests)?;
+    let wanted = image(alloc, TWO, rest)?;
+    check_written(rt, alloc, &state, &wanted, what)
+}
+
+const A_LOAD: Row = (
+    "a load",
+    &[Request::Load {
+        module: "m",
+        source: b"",
+    }],
+    LOADED,
+);
+
 #[test]
 fn after_a_load(rt: HostRuntime) -> Result<(), Fail> {
-    let mut state = HostState::new(rt.alloc(), Registry::new(rt.alloc()));
-    load(&mut state, "m", b"")?;
-    let wanted = image(rt.alloc(), TWO, LOADED)?;
-    check_written(&rt, rt.alloc(), &state, &wanted, "a load")
+    check_row(&rt, rt.alloc(), &A_LOAD)
 }
+
+const THREE_REQUESTS: Row = (
+    "three requests",
+    &[
+        Request::Load {
+            module: "k",
+            source: b"",
+        },
+        Request::Discard { module: "k" },
+        Request::Load {
+            module: "m",
+            source: b"int n = -2;",
+        },
+    ],
+    AFTER_THREE,
+);
 
 #[test]
 fn after_three_requests(rt: HostRuntime) -> Result<(), Fail> {
-    let mut state = HostState::new(rt.alloc(), Registry::new(rt.alloc()));
-    load(&mut state, "k", b"")?;
-    handle(&mut state, &Request::Discard { module: "k" })?;
-    load(&mut state, "m", b"int n = -2;")?;
-    let wanted = image(rt.alloc(), TWO, AFTER_THREE)?;
-    check_written(&rt, rt.alloc(), &state, &wanted, "three requests")
+    check_row(&rt, rt.alloc(), &THREE_REQUESTS)
 }
+
+const TWO_MODULES: [Request<'static>; 4] = [
+    Request::Load {
+        module: "a",
+        source: b"int x = -1; int z = 256;",
+    },
+    Request::Load {
+        module: "k",
+        source: b"",
+    },
+    Request::Load {
+        module: "B",
+        source: b"int y = 7;",
+    },
+    Request::Discard { module: "k" },
+];
 
 #[test]
 fn two_modules_by_name(rt: HostRuntime) -> Result<(), Fail> {
-    let mut state = HostState::new(rt.alloc(), Registry::new(rt.alloc()));
-    load(&mut state, "a", b"int x = -1; int z = 256;")?;
-    load(&mut state, "k", b"")?;
-    load(&mut state, "B", b"int y = 7;")?;
-    handle(&mut state, &Request::Discard { module: "k" })?;
+    let state = after(rt.alloc(), &TWO_MODULES)?;
     let wanted = modules(rt.alloc(), MODULE_B, MODULE_A)?;
     check_written(&rt, rt.alloc(), &state, &wanted, "two modules")
 }
 
+const AN_OBJECT_AND_AN_ARRAY: Row = (
+    "an object and an array",
+    &[Request::Load {
+        module: "m",
+        source: b"class A { int v = 7; } A@ a = A(); array<int> l(2);",
+    }],
+    CONSTRUCTED,
+);
+
 #[test]
 fn an_object_and_an_array(rt: HostRuntime) -> Result<(), Fail> {
-    let mut state = HostState::new(rt.alloc(), Registry::new(rt.alloc()));
-    load(
-        &mut state,
-        "m",
-        b"class A { int v = 7; } A@ a = A(); array<int> l(2);",
-    )?;
-    let wanted = image(rt.alloc(), TWO, CONSTRUCTED)?;
-    check_written(&rt, rt.alloc(), &state, &wanted, "an object and an array")
+    check_row(&rt, rt.alloc(), &AN_OBJECT_AND_AN_ARRAY)
 }
+
+const OBJECTS_OF_TWO_MODULES: Row = (
+    "objects of two modules",
+    &[
+        Request::Load {
+            module: "a",
+            source: b"class A { int v = 7; } A@ a = A(); array<A@> l(1);",
+        },
+        Request::Load {
+            module: "B",
+            source: b"class C { } class D { } D@ d = D(); array<D@> l;",
+        },
+    ],
+    OF_TWO_MODULES,
+);
 
 #[test]
 fn objects_of_two_modules(rt: HostRuntime) -> Result<(), Fail> {
-    let mut state = HostState::new(rt.alloc(), Registry::new(rt.alloc()));
-    load(
-        &mut state,
-        "a",
-        b"class A { int v = 7; } A@ a = A(); array<A@> l(1);",
-    )?;
-    load(
-        &mut state,
-        "B",
-        b"class C { } class D { } D@ d = D(); array<D@> l;",
-    )?;
-    let wanted = image(rt.alloc(), TWO, OF_TWO_MODULES)?;
-    check_written(&rt, rt.alloc(), &state, &wanted, "objects of two modules")
+    check_row(&rt, rt.alloc(), &OBJECTS_OF_TWO_MODULES)
 }

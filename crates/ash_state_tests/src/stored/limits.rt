@@ -224,15 +224,43 @@ fn services(alloc: Global, count: u8) -> Result<Vec<u8>, AllocError> {
     Ok(image)
 }
 
+/// Objects in an array: what they are called, how many there are, and whether they are in an image.
+type Objects = (&'static str, u16, bool);
+
+const OBJECTS: [Objects; 2] = [
+    ("4,096 objects", 4096, true),
+    ("4,097 objects", 4097, false),
+];
+
+fn check_objects(rt: &impl Abort, alloc: Global, row: Objects) -> Result<(), Fail> {
+    let (what, count, is_one) = row;
+    let image = objects_in_an_array(alloc, count)?;
+    check_is_image(rt, alloc, &image, is_one, what)
+}
+
+/// Services: what they are called, how many there are, and whether they are in an image.
+type Services = (&'static str, u8, bool);
+
+const SERVICES: [Services; 2] = [("16 services", 16, true), ("17 services", 17, false)];
+
+fn check_services(rt: &impl Abort, alloc: Global, row: Services) -> Result<(), Fail> {
+    let (what, count, is_one) = row;
+    let image = services(alloc, count)?;
+    check_is_image(rt, alloc, &image, is_one, what)
+}
+
 #[test]
-fn objects_and_services_at_their_limits(rt: HostRuntime) -> Result<(), Fail> {
-    let alloc = rt.alloc();
-    let image = objects_in_an_array(alloc, 4096)?;
-    check_is_image(&rt, alloc, &image, true, "4,096 objects")?;
-    let image = objects_in_an_array(alloc, 4097)?;
-    check_is_image(&rt, alloc, &image, false, "4,097 objects")?;
-    let image = services(alloc, 16)?;
-    check_is_image(&rt, alloc, &image, true, "16 services")?;
-    let image = services(alloc, 17)?;
-    check_is_image(&rt, alloc, &image, false, "17 services")
+fn objects_at_their_limit(rt: HostRuntime) -> Result<(), Fail> {
+    for row in &OBJECTS {
+        check_objects(&rt, rt.alloc(), *row)?;
+    }
+    Ok(())
+}
+
+#[test]
+fn services_at_their_limit(rt: HostRuntime) -> Result<(), Fail> {
+    for row in &SERVICES {
+        check_services(&rt, rt.alloc(), *row)?;
+    }
+    Ok(())
 }
