@@ -11,9 +11,9 @@ use Rattle.ash_registrations.specs.Registrations.{Registration}
 use Rattle.ash_tree.specs.Tree.{Class, Item}
 use Rattle.ash_typed.specs.Modules.{Module}
 use Rattle.ash_typing.specs.Items.{check_module}
-use Rattle.ash_expressions.specs.declared.error.CheckError.{CheckError}
-use Rattle.ash_expressions.specs.declared.error.CheckError.TheVariants as errors
-use Rattle.ash_expressions.specs.Agreement.{FailsWith}
+use Rattle.ash_environment.specs.declared.error.CheckError.{CheckError}
+use Rattle.ash_environment.specs.declared.error.CheckError.TheVariants as errors
+use Rattle.ash_environment.specs.Agreement.{FailsWith}
 use Rattle.ash_classes.specs.Paths.{IsPath}
 use Rattle.ash_classes.specs.References.{Refers, classes_of}
 use Rattle.ash_classes.specs.ReportedCycle.{reported_cycle}

@@ -25,11 +25,11 @@ use Rattle.ash_typed.specs.StatementTree.{Initialization, Stmt, Block, Stmts, no
 use Rattle.ash_typed.specs.StatementTree.{Cases, no_case, next_case, cases}
 use Rattle.ash_typing.specs.Environment.{Declared}
 use Rattle.ash_typing.specs.Statements.{check_stmt, check_stmts, check_cases}
-use Rattle.ash_expressions.specs.declared.signatures.Binding as code_binding
-use Rattle.ash_expressions.specs.declared.error.CheckError.{CheckError}
-use Rattle.ash_expressions.specs.declared.error.CheckError.TheVariants as errors
-use Rattle.ash_expressions.specs.Agreement.{FailsWith}
-use Rattle.ash_expressions.specs.Views.{binding_of}
+use Rattle.ash_environment.specs.declared.signatures.Binding as code_binding
+use Rattle.ash_environment.specs.declared.error.CheckError.{CheckError}
+use Rattle.ash_environment.specs.declared.error.CheckError.TheVariants as errors
+use Rattle.ash_environment.specs.Agreement.{FailsWith}
+use Rattle.ash_environment.specs.Views.{binding_of}
 use Rattle.ash_check.proofs.ReturnLaws.{case_is, begins_at}
 use Rattle.ash_typing.specs.Scopes.{Scope, block_of, after}
 use Rattle.ash_typing.specs.Labels.{is_last}

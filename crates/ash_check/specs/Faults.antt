@@ -1,8 +1,8 @@
 -- The faults of the check: what ends it, and the codes by which they are reported.
 use Rattle.std.specs.Prelude.{ℕ, List, codes}
 use Rattle.ash_typing.specs.RuleCodes as typing
-use Rattle.ash_expressions.specs.declared.error.CheckError.{CheckError}
-use Rattle.ash_expressions.specs.declared.error.CheckError.TheVariants as errors
+use Rattle.ash_environment.specs.declared.error.CheckError.{CheckError}
+use Rattle.ash_environment.specs.declared.error.CheckError.TheVariants as errors
 use Rattle.ash_check.specs.declared.faults.CheckFault.{CheckFault}
 use Rattle.ash_check.specs.declared.faults.CheckFault.TheVariants as faults
 

@@ -11,9 +11,10 @@ use Rattle.ash_typed.specs.BodyViews.{value_of, case_of, body_of}
 use Rattle.ash_typing.specs.Environment.{Declared}
 use Rattle.ash_typing.specs.Expressions.{TypedExpr}
 use Rattle.ash_typing.specs.Scopes.{Scope}
-use Rattle.ash_expressions.specs.declared.signatures.Binding as binding
+use Rattle.ash_environment.specs.declared.signatures.Binding as binding
 use Rattle.ash_expressions.specs.declared.typed_expr.TypedExpr as typed_expr
-use Rattle.ash_expressions.specs.Views.{binding_of, signatures_of, typed_of}
+use Rattle.ash_environment.specs.Views.{binding_of, signatures_of}
+use Rattle.ash_expressions.specs.Views.{typed_of}
 use Rattle.ash_check.specs.declared.scopes.Scope as scope
 
 abbrev pub locals_of : Vec binding.Binding Global → List Declared

@@ -20,7 +20,7 @@ use Rattle.ash_typed.specs.Modules.{module_of}
 use Rattle.ash_typed.specs.declared.tree.items.Variables as variables
 use Rattle.ash_typed.specs.declared.tree.items.Class as class
 use Rattle.ash_typed.specs.declared.tree.items.Module as script
-use Rattle.ash_expressions.specs.NameIndex.{texts}
+use Rattle.ash_environment.specs.NameIndex.{texts}
 use Rattle.ash_check.specs.declared.names.Names as names
 use Rattle.ash_check.specs.declared.routines.Routine as routine
 use Rattle.ash_check.specs.declared.interfaces.InterfaceParts as interface_parts

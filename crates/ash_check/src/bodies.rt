@@ -6,13 +6,13 @@ ghost use Rattle.ash_typing.specs.Environment.{with_locals};
 ghost use Rattle.ash_typing.specs.Returning as returning;
 ghost use Rattle.ash_typing.specs.Statements as definition;
 ghost use Rattle.ash_typed.specs.BodyViews.{body_of};
-ghost use Rattle.ash_expressions.specs.Agreement.{Agrees};
-ghost use Rattle.ash_expressions.specs.Views.{binding_of, environment_of};
+ghost use Rattle.ash_environment.specs.Agreement.{Agrees};
+ghost use Rattle.ash_environment.specs.Views.{binding_of, environment_of};
 
 use crate::returning::any_returns;
 use crate::scopes::Scope;
 use crate::statements::check_block;
-use ash_expressions::{Binding, CheckResult, Environment};
+use ash_environment::{Binding, CheckResult, Environment};
 use ash_tree::Stmt;
 use ash_typing::Ty;
 

@@ -5,10 +5,11 @@ ghost use Rattle.ash_typed.specs.Views.{expr_of};
 ghost use Rattle.ash_typed.specs.StatementTree.{If, no_branch, branch};
 ghost use Rattle.ash_typed.specs.BodyViews.{stmt_of};
 ghost use Rattle.ash_typing.specs.Statements as definition;
-ghost use Rattle.ash_expressions.specs.Agreement.{Agrees};
+ghost use Rattle.ash_environment.specs.Agreement.{Agrees};
 ghost use Rattle.ash_expressions.specs.Views.{typed_of};
 
-use ash_expressions::{CheckResult, TypedExpr, check_bool};
+use ash_environment::CheckResult;
+use ash_expressions::{TypedExpr, check_bool};
 use ash_typed::{Expr as Tree, Stmt, StmtKind};
 use std::alloc::{AllocError, Global};
 

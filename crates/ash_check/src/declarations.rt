@@ -9,15 +9,16 @@ ghost use Rattle.ash_typing.specs.Environment as environment;
 ghost use Rattle.ash_typing.specs.ModuleDeclarations as type_names;
 ghost use Rattle.ash_typing.specs.Expressions as typing;
 ghost use Rattle.ash_typing.specs.Declarations as definition;
-ghost use Rattle.ash_expressions.specs.Agreement.{Agrees};
-ghost use Rattle.ash_expressions.specs.Views.{class_signature_of, classes_of, typed_of};
-ghost use Rattle.ash_expressions.specs.Views.{callee_of, environment_of};
+ghost use Rattle.ash_environment.specs.Agreement.{Agrees};
+ghost use Rattle.ash_environment.specs.Views.{class_signature_of, classes_of, callee_of};
+ghost use Rattle.ash_environment.specs.Views.{environment_of};
+ghost use Rattle.ash_expressions.specs.Views.{typed_of};
 ghost use Rattle.ash_check.specs.WalkViews.{optional_expr};
 
+use ash_environment::{Callee, CheckResult, Environment, Parameters, fault_at, ty_named, var_type};
 use ash_expressions::{
-    Arguments, AssignmentSide, Callee, CheckResult, Environment, Parameters, TypedExpr,
-    array_callee, build_call, check_expr, check_exprs, coerce_for_assignment, fault_at, ty_named,
-    var_type,
+    Arguments, AssignmentSide, TypedExpr, array_callee, build_call, check_expr, check_exprs,
+    coerce_for_assignment,
 };
 use ash_tree::{Decl, Element, Initializer, Place, Type, TypeKind};
 use ash_typed::{Expr, Initialization, ObjectType, Target};

@@ -5,13 +5,13 @@ ghost use Rattle.ash_tree.specs.Views.{type_name_of};
 ghost use Rattle.ash_typing.specs.Implementations as implementing;
 ghost use Rattle.ash_typing.specs.Items as definition;
 ghost use Rattle.ash_typed.specs.Modules.{implementation_of};
-ghost use Rattle.ash_expressions.specs.Agreement.{Agrees};
-ghost use Rattle.ash_expressions.specs.Views.{function_signature_of, environment_of};
-ghost use Rattle.ash_expressions.specs.Views.{placed_function};
+ghost use Rattle.ash_environment.specs.Agreement.{Agrees};
+ghost use Rattle.ash_environment.specs.Views.{function_signature_of, environment_of};
+ghost use Rattle.ash_environment.specs.Views.{placed_function};
 ghost use Rattle.ash_check.specs.WalkViews.{optional_places, listed_interfaces_of};
 
 use crate::names::Names;
-use ash_expressions::{
+use ash_environment::{
     CheckResult, Environment, FunctionSignature, fault_at, first_function, is_same, object_named,
 };
 use ash_tree::TypeName;

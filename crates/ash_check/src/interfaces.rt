@@ -3,14 +3,14 @@
 ghost use Rattle.ash_tree.specs.Views.{interface_method_of, interface_of as written_interface};
 ghost use Rattle.ash_typing.specs.Items as definition;
 ghost use Rattle.ash_typed.specs.Modules.{interface_of};
-ghost use Rattle.ash_expressions.specs.Agreement.{Agrees};
-ghost use Rattle.ash_expressions.specs.Views.{environment_of};
+ghost use Rattle.ash_environment.specs.Agreement.{Agrees};
+ghost use Rattle.ash_environment.specs.Views.{environment_of};
 ghost use Rattle.ash_check.specs.WalkViews.{interface_parts_of};
 
 use crate::limits::MAX_CLASS_MEMBERS;
 use crate::names::Names;
 use crate::routines::{check_parameters, check_result_type, types_of};
-use ash_expressions::{CheckResult, Environment, result_type};
+use ash_environment::{CheckResult, Environment, result_type};
 use ash_tree::InterfaceMethod;
 use ash_typed::{Interface, Signature};
 use indexmap::IndexSet;

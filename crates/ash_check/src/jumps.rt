@@ -5,15 +5,14 @@ ghost use Rattle.ash_tree.specs.Views as written;
 ghost use Rattle.ash_typed.specs.Views.{expr_of};
 ghost use Rattle.ash_typed.specs.BodyViews.{stmt_of};
 ghost use Rattle.ash_typing.specs.Statements as definition;
-ghost use Rattle.ash_expressions.specs.Agreement.{Agrees};
-ghost use Rattle.ash_expressions.specs.Views.{classes_of, binding_of, typed_of};
+ghost use Rattle.ash_environment.specs.Agreement.{Agrees};
+ghost use Rattle.ash_environment.specs.Views.{classes_of, binding_of};
+ghost use Rattle.ash_expressions.specs.Views.{typed_of};
 ghost use Rattle.ash_check.specs.StatementViews.{scope_of};
 
 use crate::scopes::Scope;
-use ash_expressions::{
-    AssignmentSide, Binding, CheckResult, Environment, TypedExpr, check_expr,
-    coerce_for_assignment, fault_at, is_void,
-};
+use ash_environment::{Binding, CheckResult, Environment, fault_at, is_void};
+use ash_expressions::{AssignmentSide, TypedExpr, check_expr, coerce_for_assignment};
 use ash_tree::{Expr, Place};
 use ash_typed::{Expr as Tree, Stmt as TypedStmt, StmtKind as TypedKind};
 use ash_typing::{Rule, Ty};

@@ -5,7 +5,7 @@
 //! of the text. Where no rule is broken, classes must not reach themselves by what their fields hold: `ash_classes` has
 //! their ranks, or the cycle that is reported. `checked` of `specs/Checks.antt` defines all this as one function, and
 //! `check` returns what it defines, unless memory runs out; `check_is_exact` says what that is by the rules of typing
-//! alone. Expressions are checked by `ash_expressions`.
+//! alone. Expressions are checked by `ash_expressions`, in environments of `ash_environment`.
 //!
 //! What is returned is a `CheckedScript`. Of each value of that type it is known, by the typed tree alone, that its
 //! module is sound and that its ranks fall along what its classes hold: `IsChecked` of `specs/CheckedModules.antt`.

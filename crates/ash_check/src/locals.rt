@@ -5,12 +5,12 @@ ghost use Rattle.ash_tree.specs.Views.{decl_of, vars_of};
 ghost use Rattle.ash_typing.specs.ModuleDeclarations.{declared};
 ghost use Rattle.ash_typing.specs.Scopes as scopes;
 ghost use Rattle.ash_typing.specs.Statements as definition;
-ghost use Rattle.ash_expressions.specs.Agreement.{Agrees};
+ghost use Rattle.ash_environment.specs.Agreement.{Agrees};
 ghost use Rattle.ash_check.specs.StatementViews.{locals_of, scope_of, values_of};
 
 use crate::declarations::{WrittenType, check_decl, check_variable_type, place_of, ty_in};
 use crate::scopes::Scope;
-use ash_expressions::{Binding, CheckResult};
+use ash_environment::{Binding, CheckResult};
 use ash_tree::{Decl, Vars};
 use ash_typed::Initialization;
 

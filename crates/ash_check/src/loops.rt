@@ -6,16 +6,16 @@ ghost use Rattle.ash_typed.specs.Views.{expr_of};
 ghost use Rattle.ash_typed.specs.BodyViews.{stmt_of, head_of};
 ghost use Rattle.ash_typing.specs.Scopes as scopes;
 ghost use Rattle.ash_typing.specs.Statements as definition;
-ghost use Rattle.ash_expressions.specs.Agreement.{Agrees};
-ghost use Rattle.ash_expressions.specs.Views.{environment_of, typed_of, all_typed_of};
+ghost use Rattle.ash_environment.specs.Agreement.{Agrees};
+ghost use Rattle.ash_environment.specs.Views.{environment_of};
+ghost use Rattle.ash_expressions.specs.Views.{typed_of, all_typed_of};
 ghost use Rattle.ash_check.specs.StatementViews.{locals_of, scope_of, optional_typed_of};
 ghost use Rattle.ash_check.specs.WalkViews.{optional_expr};
 
 use crate::locals::check_local_vars;
 use crate::scopes::Scope;
-use ash_expressions::{
-    AssignmentSide, Binding, CheckResult, Environment, TypedExpr, check_bool, check_expr, fault_at,
-};
+use ash_environment::{Binding, CheckResult, Environment, fault_at};
+use ash_expressions::{AssignmentSide, TypedExpr, check_bool, check_expr};
 use ash_tree::{Expr, Place, Stmt as Source, StmtKind};
 use ash_typed::{Expr as Tree, Head, Stmt, Test, nodes};
 use ash_typing::Rule;

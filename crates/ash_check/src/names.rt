@@ -5,11 +5,11 @@ ghost use Rattle.std.specs.List.{list_any};
 ghost use Rattle.std.specs.Str.{bytes_eq};
 ghost use Rattle.ash_typing.specs.Environment.{named_in};
 ghost use Rattle.ash_typing.specs.Items as definition;
-ghost use Rattle.ash_expressions.specs.Agreement.{Agrees};
-ghost use Rattle.ash_expressions.specs.NameIndex.{texts};
+ghost use Rattle.ash_environment.specs.Agreement.{Agrees};
+ghost use Rattle.ash_environment.specs.NameIndex.{texts};
 ghost use Rattle.ash_check.specs.WalkViews.{names_of};
 
-use ash_expressions::{CheckResult, fault_at};
+use ash_environment::{CheckResult, fault_at};
 use ash_registrations::Registrations;
 use ash_typing::Rule;
 use indexmap::IndexSet;

@@ -6,14 +6,14 @@ ghost use Rattle.ash_tree.specs.Items as items;
 ghost use Rattle.ash_typing.specs.Environment.{type_declared};
 ghost use Rattle.ash_typing.specs.Items as definition;
 ghost use Rattle.ash_typed.specs.Modules.{function_of};
-ghost use Rattle.ash_expressions.specs.Agreement.{Agrees};
-ghost use Rattle.ash_expressions.specs.Views.{binding_of, environment_of};
+ghost use Rattle.ash_environment.specs.Agreement.{Agrees};
+ghost use Rattle.ash_environment.specs.Views.{binding_of, environment_of};
 ghost use Rattle.ash_check.specs.WalkViews.{routine_of};
 
 use crate::bodies::{body_returns, check_body};
 use crate::declarations::{place_of, ty_in, type_name_offset};
 use crate::scopes::any_declares;
-use ash_expressions::{
+use ash_environment::{
     Binding, CheckResult, Environment, fault_at, is_void, result_type, var_type,
 };
 use ash_tree::{Parameter, Place, Stmt, Type};

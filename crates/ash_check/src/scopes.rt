@@ -7,11 +7,11 @@ ghost use Rattle.ash_typing.specs.Environment.{declares};
 ghost use Rattle.ash_typing.specs.ModuleDeclarations.{declared};
 ghost use Rattle.ash_typing.specs.Scopes as scopes;
 ghost use Rattle.ash_typing.specs.Statements as definition;
-ghost use Rattle.ash_expressions.specs.Agreement.{Agrees};
-ghost use Rattle.ash_expressions.specs.Views.{binding_of, environment_of};
+ghost use Rattle.ash_environment.specs.Agreement.{Agrees};
+ghost use Rattle.ash_environment.specs.Views.{binding_of, environment_of};
 ghost use Rattle.ash_check.specs.StatementViews.{scope_of};
 
-use ash_expressions::{Binding, CheckResult, Environment, Signatures, fault_at};
+use ash_environment::{Binding, CheckResult, Environment, Signatures, fault_at};
 use ash_registrations::Registrations;
 use ash_tree::Decl;
 use ash_typing::{Rule, Ty};

@@ -9,12 +9,12 @@ ghost use Rattle.ash_tree.specs.Views.{interface_of as written_interface};
 ghost use Rattle.ash_tree.specs.Views.{class_of as written_class, item_of, module_of};
 ghost use Rattle.ash_tree.specs.Items as by_kind;
 ghost use Rattle.ash_typing.specs.ModuleDeclarations as definition;
-ghost use Rattle.ash_expressions.specs.Views.{binding_of, function_signature_of};
-ghost use Rattle.ash_expressions.specs.Views.{interface_signature_of};
-ghost use Rattle.ash_expressions.specs.Views.{class_signature_of, signatures_of};
+ghost use Rattle.ash_environment.specs.Views.{binding_of, function_signature_of};
+ghost use Rattle.ash_environment.specs.Views.{interface_signature_of, class_signature_of};
+ghost use Rattle.ash_environment.specs.Views.{signatures_of};
 
 use crate::type_names::type_names;
-use ash_expressions::{
+use ash_environment::{
     Binding, ClassSignature, FunctionSignature, InterfaceSignature, Signatures, object_named,
     result_named, ty_named,
 };

@@ -7,9 +7,9 @@ ghost use Rattle.ash_tree.specs.Views as written;
 ghost use Rattle.ash_typed.specs.BodyViews.{stmt_of};
 ghost use Rattle.ash_typing.specs.Scopes as scopes;
 ghost use Rattle.ash_typing.specs.Statements as definition;
-ghost use Rattle.ash_expressions.specs.Agreement.{Agrees};
+ghost use Rattle.ash_environment.specs.Agreement.{Agrees};
 ghost use Rattle.ash_check.specs.StatementViews.{locals_of, scope_of, stmts_in, cases_in};
-ghost use Rattle.ash_expressions.specs.Views.{binding_of};
+ghost use Rattle.ash_environment.specs.Views.{binding_of};
 
 use crate::conditions::{boxed_stmt, build_if, build_if_else};
 use crate::jumps::{check_break, check_continue, check_return};
@@ -20,9 +20,8 @@ use crate::loops::{
 };
 use crate::scopes::Scope;
 use crate::switches::{LabelContext, check_label, integer_type_in, is_last};
-use ash_expressions::{
-    AssignmentSide, Binding, CheckResult, check_expr, check_exprs, integer_type,
-};
+use ash_environment::{Binding, CheckResult};
+use ash_expressions::{AssignmentSide, check_expr, check_exprs, integer_type};
 use ash_tree::{Case, Expr, Place, Stmt, StmtKind, Vars};
 use ash_typed::{Case as TypedCase, IntType, Stmt as TypedStmt, StmtKind as TypedKind, nodes};
 

@@ -6,9 +6,9 @@ ghost use Rattle.ash_tree.specs.Tree.{cases};
 ghost use Rattle.ash_tree.specs.Views.{case_of};
 ghost use Rattle.ash_typing.specs.Labels as constants;
 ghost use Rattle.ash_typing.specs.Switches as definition;
-ghost use Rattle.ash_expressions.specs.Agreement.{Agrees};
+ghost use Rattle.ash_environment.specs.Agreement.{Agrees};
 
-use ash_expressions::{CheckResult, fault_at, holds};
+use ash_environment::{CheckResult, fault_at, holds};
 use ash_tree::{Case, Label};
 use ash_typed::IntType;
 use ash_typing::{Rule, Ty};

@@ -4,10 +4,10 @@ ghost use Rattle.std.specs.Prelude.{◌≡◌, map, IfOk};
 ghost use Rattle.ash_tree.specs.Views.{item_of};
 ghost use Rattle.ash_tree.specs.Items as by_kind;
 ghost use Rattle.ash_typing.specs.ModuleDeclarations as definition;
-ghost use Rattle.ash_expressions.specs.Views.{interface_signature_of, class_signature_of};
-ghost use Rattle.ash_expressions.specs.Views.{signatures_of};
+ghost use Rattle.ash_environment.specs.Views.{interface_signature_of, class_signature_of};
+ghost use Rattle.ash_environment.specs.Views.{signatures_of};
 
-use ash_expressions::{ClassSignature, InterfaceSignature, Signatures};
+use ash_environment::{ClassSignature, InterfaceSignature, Signatures};
 use ash_tree::Item;
 use std::alloc::{AllocError, Global};
 

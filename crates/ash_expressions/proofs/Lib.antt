@@ -1,4 +1,2 @@
-pub mod Locals
 pub mod Loops
 pub mod Nodes
-pub mod IndexLaws

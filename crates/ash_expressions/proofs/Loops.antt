@@ -10,10 +10,10 @@ use Rattle.ash_typed.specs.Tree.{Expr, Exprs, no_expr, expr, exprs}
 use Rattle.ash_typed.specs.Views.{expr_of}
 use Rattle.ash_typing.specs.Environment.{Environment, Class}
 use Rattle.ash_typing.specs.Expressions.{TypedExpr, coerced_for_assignment, all_coerced, check_expr, check_exprs}
-use Rattle.ash_expressions.specs.declared.error.CheckError.{CheckError}
-use Rattle.ash_expressions.specs.declared.error.CheckError.TheVariants as errors
-use Rattle.ash_expressions.specs.Agreement.{FailsWith}
-use Rattle.ash_expressions.specs.Views.{first_and_rest}
+use Rattle.ash_environment.specs.declared.error.CheckError.{CheckError}
+use Rattle.ash_environment.specs.declared.error.CheckError.TheVariants as errors
+use Rattle.ash_environment.specs.Agreement.{FailsWith}
+use Rattle.ash_environment.specs.Views.{first_and_rest}
 
 -- arguments that are converted to the types of their parameters
 

@@ -18,8 +18,8 @@ use Rattle.ash_typing.specs.Environment.{Environment}
 use Rattle.ash_typing.specs.Expressions.{check_expr, check_exprs, check_call, check_array, check_invocation, check_links}
 use Rattle.ash_typing.specs.Expressions.{check_suffixes, check_suffix}
 use Rattle.ash_expressions.specs.declared.typed_expr.TypedExpr as code_typed_expr
-use Rattle.ash_expressions.specs.declared.error.CheckError.{CheckError}
-use Rattle.ash_expressions.specs.Agreement.{Agrees}
+use Rattle.ash_environment.specs.declared.error.CheckError.{CheckError}
+use Rattle.ash_environment.specs.Agreement.{Agrees}
 use Rattle.ash_expressions.specs.Views.{typed_of}
 
 pub typed_call : (env : Environment) (left : Bool) (source : code_expr.Expr) (name : String Global) (es : Vec code_expr.Expr Global) (text : List ℕ) (items : List code_expr.Expr) (outcome : Result code_typed_expr.TypedExpr CheckError) → source.kind ≡ kinds.Call name es → text ≡ string_bytes name → items ≡ es.items → Agrees typed_of outcome (check_call env source.place.at text (check_exprs env (written.exprs (map expr_of items)))) → Agrees typed_of outcome (check_expr env left (expr_of source))

@@ -1,20 +1,17 @@
-//! Arrays: their construction, what is at an index, and their methods.
+//! Arrays: their construction, and what is at an index.
 
-ghost use Rattle.std.specs.Prelude.{◌≡◌, [], ◌∷◌, find, option_map};
+ghost use Rattle.std.specs.Prelude.{◌≡◌};
 ghost use Rattle.ash_typed.specs.Views.{expr_of};
-ghost use Rattle.ash_typed.specs.declared.tree.operations.ArrayMethod.TheVariants as arrays;
 ghost use Rattle.ash_typing.specs.Environment as environment;
 ghost use Rattle.ash_typing.specs.Terms as terms;
 ghost use Rattle.ash_typing.specs.Expressions as typing;
-ghost use Rattle.ash_expressions.specs.Agreement.{Agrees};
-ghost use Rattle.ash_expressions.specs.Views.{typed_of, callee_of, method_callee_of, parameters_of};
+ghost use Rattle.ash_environment.specs.Agreement.{Agrees};
+ghost use Rattle.ash_environment.specs.Views.{callee_of, parameters_of};
+ghost use Rattle.ash_expressions.specs.Views.{typed_of};
 
-use crate::callees::{Callee, MethodCallee};
-use crate::error::{CheckResult, fault_at};
-use crate::parameters::Parameters;
 use crate::typed_expr::{TypedExpr, coerce, integer_type};
-use crate::types::ty_of_element;
-use ash_typed::{ArrayMethod, Element, Expr, IntType, Method, ObjectType, Target, nodes};
+use ash_environment::{Callee, CheckResult, Parameters, fault_at, ty_of_element};
+use ash_typed::{Element, Expr, IntType, ObjectType, Target, nodes};
 use ash_typing::{Callable, Rule, Ty};
 use std::alloc::Global;
 
@@ -102,52 +99,4 @@ pub(crate) fn build_index(
         Ty::Unknown => build_element(alloc, array, index, Ty::Unknown, Element::Bool),
         _ => Err(fault_at(Rule::TypeMismatch, array.at)),
     }
-}
-
-/// The method of arrays that has this name.
-fn array_method(name: &str) -> Option<ArrayMethod>
-    ensures { result
-        ≡ find (environment.is_array_method name.now)
-        (arrays.Length ∷ arrays.Resize ∷ arrays.InsertLast ∷ arrays.RemoveLast ∷ arrays.IsEmpty
-        ∷ []) }
-{
-    if name == "length" {
-        Some(ArrayMethod::Length)
-    } else if name == "resize" {
-        Some(ArrayMethod::Resize)
-    } else if name == "insertLast" {
-        Some(ArrayMethod::InsertLast)
-    } else if name == "removeLast" {
-        Some(ArrayMethod::RemoveLast)
-    } else if name == "isEmpty" {
-        Some(ArrayMethod::IsEmpty)
-    } else {
-        None
-    }
-}
-
-/// A method of arrays whose elements are of a type, as it is called.
-fn array_method_callee<'a>(of: Element, method: ArrayMethod) -> MethodCallee<'a>
-    ensures { method_callee_of result ≡ environment.array_method_of of method }
-{
-    let (result, parameters) = match method {
-        ArrayMethod::Length => (Ty::Integer(IntType::Uint), Parameters::Nothing),
-        ArrayMethod::Resize => (Ty::Void, Parameters::One(Ty::Integer(IntType::Uint))),
-        ArrayMethod::InsertLast => (Ty::Void, Parameters::One(ty_of_element(of))),
-        ArrayMethod::RemoveLast => (Ty::Void, Parameters::Nothing),
-        ArrayMethod::IsEmpty => (Ty::Bool, Parameters::Nothing),
-    };
-    MethodCallee {
-        method: Method::Array(method),
-        result,
-        parameters,
-    }
-}
-
-/// A method of an array, as it is called.
-#[tactic(auto, unfolding(ash_typing::specs::Environment::method_of_array))]
-pub(crate) fn array_method_named<'a>(of: Element, name: &str) -> Option<MethodCallee<'a>>
-    ensures { option_map method_callee_of result ≡ environment.method_of_array of name.now }
-{
-    Some(array_method_callee(of, array_method(name)?))
 }

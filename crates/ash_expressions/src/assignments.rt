@@ -3,15 +3,15 @@
 ghost use Rattle.std.specs.Prelude.{None};
 ghost use Rattle.ash_typed.specs.Views.{place_of};
 ghost use Rattle.ash_typing.specs.Expressions as typing;
-ghost use Rattle.ash_expressions.specs.Agreement.{Agrees};
-ghost use Rattle.ash_expressions.specs.Views.{typed_of, classes_of};
+ghost use Rattle.ash_environment.specs.Agreement.{Agrees};
+ghost use Rattle.ash_environment.specs.Views.{classes_of};
+ghost use Rattle.ash_expressions.specs.Views.{typed_of};
 
-use crate::environment::Environment;
-use crate::error::{CheckResult, fault_at};
 use crate::forms::{assignable_place, is_assignable_form};
 use crate::operator_types::{assign_calculator, calculator_operator, operand_integer_type};
 use crate::operators::unify_operands;
 use crate::typed_expr::{TypedExpr, coerce_for_assignment, integer_type};
+use ash_environment::{CheckResult, Environment, fault_at};
 use ash_tree::AssignOp;
 use ash_typed::{Calculation, Calculator, Expr, Place, nodes};
 use ash_typing::{Rule, Ty};

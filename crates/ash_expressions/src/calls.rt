@@ -5,18 +5,15 @@ ghost use Rattle.ash_typed.specs.Views.{expr_of};
 ghost use Rattle.ash_typing.specs.Environment as environment;
 ghost use Rattle.ash_typing.specs.Terms as terms;
 ghost use Rattle.ash_typing.specs.Expressions as typing;
-ghost use Rattle.ash_expressions.specs.Agreement.{Agrees};
-ghost use Rattle.ash_expressions.specs.Views.{typed_of, parameters_of, callee_of};
-ghost use Rattle.ash_expressions.specs.Views.{environment_of, classes_of};
-ghost use Rattle.ash_expressions.specs.Views.{arguments_of, optional_method_callee};
+ghost use Rattle.ash_environment.specs.Agreement.{Agrees};
+ghost use Rattle.ash_environment.specs.Views.{parameters_of, callee_of, environment_of, classes_of};
+ghost use Rattle.ash_expressions.specs.Views.{typed_of, arguments_of, optional_method_callee};
 
-use crate::callees::{Callee, MethodCallee};
-use crate::environment::Environment;
-use crate::error::{CheckResult, fault_at};
 use crate::forms::bracketed_form;
-use crate::parameters::Parameters;
 use crate::typed_expr::{TypedExpr, coerce_for_assignment};
-use crate::types::var_type;
+use ash_environment::{
+    Callee, CheckResult, Environment, MethodCallee, Parameters, fault_at, var_type,
+};
 use ash_typed::{Expr, Member, Method, ObjectType, VarType, nodes};
 use ash_typing::{Callable, Rule, Ty};
 use std::alloc::{AllocError, Global};

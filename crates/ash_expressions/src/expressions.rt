@@ -6,9 +6,9 @@ ghost use Rattle.ash_tree.specs.Views as written;
 ghost use Rattle.ash_typing.specs.TypingResult.{◌>>=◌ as ◌and_then◌};
 ghost use Rattle.ash_typing.specs.ModuleDeclarations.{object_named};
 ghost use Rattle.ash_typing.specs.Expressions as typing;
-ghost use Rattle.ash_expressions.specs.Agreement.{Agrees};
-ghost use Rattle.ash_expressions.specs.Views.{typed_of, all_typed_of, environment_of};
-ghost use Rattle.ash_expressions.specs.Views.{classes_of, is_target};
+ghost use Rattle.ash_environment.specs.Agreement.{Agrees};
+ghost use Rattle.ash_environment.specs.Views.{environment_of, classes_of};
+ghost use Rattle.ash_expressions.specs.Views.{typed_of, all_typed_of, is_target};
 
 use crate::arrays::{array_callee, build_index, check_element_type};
 use crate::assignments::build_assignment;
@@ -16,15 +16,13 @@ use crate::calls::{
     Arguments, Name, build_brackets, build_call, build_field, build_method_call, callee_named,
     check_name, check_this, find_method,
 };
-use crate::environment::Environment;
-use crate::error::CheckResult;
 use crate::forms::{AssignmentSide, target_side};
 use crate::operators::{
     Prefix, build_binary, build_cast, build_conditional, build_conversion, build_step, build_unary,
     cast_target,
 };
-use crate::type_names::{element_named, object_named};
 use crate::typed_expr::TypedExpr;
+use ash_environment::{CheckResult, Environment, element_named, object_named};
 use ash_tree::{AssignOp, Element, Expr, ExprKind, Link, Primitive, Suffix, TypeName};
 use ash_typed::{Expr as Tree, IncrementOp};
 use ash_typing::Ty;

@@ -4,7 +4,7 @@ ghost use Rattle.std.specs.Prelude.{◌≡◌};
 ghost use Rattle.ash_typing.specs.Types as types;
 ghost use Rattle.ash_typing.specs.Terms as terms;
 
-use crate::types::{common_integer_type, is_same_object};
+use ash_environment::{common_integer_type, is_same_object};
 use ash_tree::{AssignOp, BinaryOp};
 use ash_typed::{Calculator, Comparator, IntType, Lazy, ObjectType, Operands};
 use ash_typing::{Operator, OperatorClass, Ty};

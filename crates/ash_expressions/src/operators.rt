@@ -5,17 +5,18 @@ ghost use Rattle.ash_typed.specs.Tree.{Alter, Operate, Lazily};
 ghost use Rattle.ash_typed.specs.Views.{expr_of};
 ghost use Rattle.ash_typing.specs.Terms as terms;
 ghost use Rattle.ash_typing.specs.Expressions as typing;
-ghost use Rattle.ash_expressions.specs.Agreement.{Agrees};
+ghost use Rattle.ash_environment.specs.Agreement.{Agrees};
 ghost use Rattle.ash_expressions.specs.Views.{typed_of, unified_of, is_target};
 
-use crate::error::{CheckResult, fault_at};
 use crate::forms::{AssignmentSide, assignable_place, handle_form};
 use crate::operator_types::{
     accepts, assumed_type, common_operands, operand_integer_type, operand_type, operator_class,
     operator_result, typed_operator,
 };
 use crate::typed_expr::{TypedExpr, adapt_operand, check_bool, coerce, handle_type, integer_type};
-use crate::types::{common_type, conversion, is_void, signed_type, ty_of};
+use ash_environment::{
+    CheckResult, common_type, conversion, fault_at, is_void, signed_type, ty_of,
+};
 use ash_tree::{BinaryOp, Primitive, UnaryOp};
 use ash_typed::{
     Calculation, Change, Expr, IncrementOp, IntType, Lazy, ObjectType, Operand, Operands,

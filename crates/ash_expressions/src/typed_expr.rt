@@ -5,13 +5,11 @@ ghost use Rattle.ash_typed.specs.Tree.{converted};
 ghost use Rattle.ash_typed.specs.Views.{expr_of};
 ghost use Rattle.ash_typing.specs.Terms as terms;
 ghost use Rattle.ash_typing.specs.Expressions as typing;
-ghost use Rattle.ash_expressions.specs.Agreement.{Agrees};
-ghost use Rattle.ash_expressions.specs.Views.{typed_of, classes_of};
+ghost use Rattle.ash_environment.specs.Agreement.{Agrees};
+ghost use Rattle.ash_environment.specs.Views.{classes_of};
+ghost use Rattle.ash_expressions.specs.Views.{typed_of};
 
-use crate::coercions::fits;
-use crate::environment::Environment;
-use crate::error::{CheckResult, fault_at};
-use crate::types::{conversion, holds, number_type};
+use ash_environment::{CheckResult, Environment, conversion, fault_at, fits, holds, number_type};
 use ash_typed::{Expr, IntType, nodes};
 use ash_typing::{Form, OperatorClass, Rule, Ty};
 use std::alloc::{AllocError, Global};

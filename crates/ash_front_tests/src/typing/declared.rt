@@ -1,6 +1,6 @@
 //! What is declared where expressions are checked by themselves.
 
-use ash_expressions::{Binding, ClassSignature, FunctionSignature, InterfaceSignature, Signatures};
+use ash_environment::{Binding, ClassSignature, FunctionSignature, InterfaceSignature, Signatures};
 use ash_typed::{Element, IntType, ObjectType};
 use ash_typing::Ty;
 use std::alloc::{AllocError, Global};

@@ -4,7 +4,8 @@
 use crate::typing::declared::module_signatures;
 use crate::typing::sources::{Question, check_rows, coded, printed, tree_of};
 use ash_check::CheckFault;
-use ash_expressions::{AssignmentSide, Environment, TypedExpr, check_expr};
+use ash_environment::Environment;
+use ash_expressions::{AssignmentSide, TypedExpr, check_expr};
 use ash_registrations::Registrations;
 use ash_tree as written;
 use ash_tree::{Initializer, Item, Module};

@@ -2,9 +2,9 @@ use Rattle.std.proofs.Common.{◌≡◌, Ok, Err, ap, Result, Bool}
 use Rattle.ash_typing.specs.TypingResult.{TypingResult, ◌>>=◌}
 use Rattle.ash_typed.specs.StatementTree.{Stmt}
 use Rattle.ash_typing.specs.Statements as definition
-use Rattle.ash_expressions.specs.declared.error.CheckError.{CheckError}
-use Rattle.ash_expressions.specs.declared.error.CheckError.TheVariants as errors
-use Rattle.ash_expressions.specs.Agreement.{FailsWith}
+use Rattle.ash_environment.specs.declared.error.CheckError.{CheckError}
+use Rattle.ash_environment.specs.declared.error.CheckError.TheVariants as errors
+use Rattle.ash_environment.specs.Agreement.{FailsWith}
 use Rattle.ash_check.proofs.loops.build_for.Goals as goal
 
 fails_first : (error : CheckError) (first : TypingResult Bool) (rest : Bool → TypingResult Stmt) → FailsWith error first → FailsWith error (first >>= rest)

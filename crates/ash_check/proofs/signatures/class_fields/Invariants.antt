@@ -3,7 +3,7 @@ use Rattle.ash_registrations.specs.Registered.{registered}
 use Rattle.ash_tree.specs.Views.{member_of}
 use Rattle.ash_typing.specs.ModuleDeclarations.{all_variables}
 use Rattle.ash_tree.specs.Items.{fields_of}
-use Rattle.ash_expressions.specs.Views.{binding_of, signatures_of}
+use Rattle.ash_environment.specs.Views.{binding_of, signatures_of}
 use Rattle.ash_check.proofs.signatures.class_fields.Given as goal
 
 abbrev pub invariant-loop-member : goal.invariant-loop-member

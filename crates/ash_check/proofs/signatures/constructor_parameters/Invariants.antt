@@ -3,7 +3,7 @@ use Rattle.ash_registrations.specs.Registered.{registered}
 use Rattle.ash_tree.specs.Views.{member_of}
 use Rattle.ash_typing.specs.ModuleDeclarations.{constructed_by}
 use Rattle.ash_tree.specs.Items.{constructors_of}
-use Rattle.ash_expressions.specs.Views.{signatures_of}
+use Rattle.ash_environment.specs.Views.{signatures_of}
 use Rattle.ash_check.proofs.signatures.constructor_parameters.Given as goal
 
 abbrev pub invariant-loop-member : goal.invariant-loop-member

@@ -9,8 +9,8 @@ use Rattle.ash_typing.specs.Labels.{is_last}
 use Rattle.ash_typing.specs.Statements as definition
 use Rattle.ash_typing.specs.Statements.{check_stmts}
 use Rattle.ash_typing.specs.Switches.{check_label}
-use Rattle.ash_expressions.specs.Agreement.{Agrees, FailsWith}
-use Rattle.ash_expressions.specs.Views.{binding_of}
+use Rattle.ash_environment.specs.Agreement.{Agrees, FailsWith}
+use Rattle.ash_environment.specs.Views.{binding_of}
 use Rattle.ash_check.specs.StatementViews.{locals_of, scope_of}
 use Rattle.ash_check.proofs.StatementLaws.{Extends, at_first, extends_itself, extends_next, locals_go, block_step}
 use Rattle.ash_check.proofs.StatementLaws.{block_end, block_of_source, switch_of_source, for_of_source, block_checked}

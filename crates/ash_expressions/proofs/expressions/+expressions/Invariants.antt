@@ -7,7 +7,8 @@ use Rattle.ash_tree.specs.Tree as written
 use Rattle.ash_tree.specs.Views as views
 use Rattle.ash_typing.specs.TypingResult.{◌>>=◌}
 use Rattle.ash_typing.specs.Expressions.{check_expr, check_exprs, check_links, check_suffixes}
-use Rattle.ash_expressions.specs.Views.{typed_of, environment_of}
+use Rattle.ash_environment.specs.Views.{environment_of}
+use Rattle.ash_expressions.specs.Views.{typed_of}
 use Rattle.ash_expressions.proofs.Loops.{typed_after}
 use Rattle.ash_expressions.proofs.expressions.+expressions.Given as goal
 

@@ -1,0 +1,291 @@
+//! The environment of an expression, and what its names mean in it.
+
+ghost use Rattle.std.specs.Prelude.{◌≡◌, map, option_map, IfOk};
+ghost use Rattle.std.specs.Option.{option_copied};
+ghost use Rattle.ash_registrations.specs.Registered.{registered};
+ghost use Rattle.ash_registrations.specs.Registrations.{registration_of};
+ghost use Rattle.ash_typing.specs.Environment as environment;
+ghost use Rattle.ash_environment.specs.Views.{binding_of, interface_signature_of};
+ghost use Rattle.ash_environment.specs.Views.{class_signature_of};
+ghost use Rattle.ash_environment.specs.Views.{environment_of, placed_class, known_of, callee_of};
+ghost use Rattle.ash_environment.specs.Views.{parameters_of, method_callee_of};
+
+use crate::array_methods::array_method_named;
+use crate::callees::{
+    Callee, MethodCallee, class_callee, class_method_callee, factory_parameters, function_callee,
+    host_method_callee, interface_method_callee, service_callee,
+};
+use crate::lookup::{first_binding, first_function, last_binding};
+use crate::parameters::Parameters;
+use crate::signatures::{Binding, ClassSignature, Signatures};
+use crate::types::{result_type, ty_of, var_type};
+use ash_registrations::{Registration, Registrations};
+use ash_typed::{Expr, Member, ObjectType, Target, Variable, nodes};
+use ash_typing::{Callable, Ty};
+use std::alloc::{AllocError, Global};
+
+/// What an expression can refer to. The names are those of the script.
+#[derive(Clone, Copy)]
+pub struct Environment<'a, 'n> {
+    pub alloc: Global,
+    pub signatures: &'a Signatures<'n>,
+    pub registry: &'a Registrations,
+    /// The class whose object runs.
+    pub this: Option<usize>,
+    pub locals: &'a [Binding<'n>],
+}
+
+/// A field of the class of this place, with its type.
+fn class_field(class: usize, of: &ClassSignature, name: &str) -> Option<(Member, Ty)>
+    ensures { result ≡ environment.field_in class (class_signature_of of.now) name.now }
+{
+    let (place, ty) = first_binding(&of.fields, name)?;
+    let member = Member::Field {
+        class,
+        place,
+        of: var_type(ty),
+    };
+    Some((member, ty))
+}
+
+/// A local, with its type.
+fn local_named(locals: &[Binding], name: &str) -> Option<(Expr, Ty)>
+    ensures { option_map known_of result
+        ≡ environment.local_in (map binding_of locals.now) name.now }
+{
+    let (slot, of) = last_binding(locals, name)?;
+    let local = Variable::Local {
+        slot,
+        of: var_type(of),
+    };
+    Some((Expr::Variable(local), of))
+}
+
+/// A global, with its type.
+fn global_named(signatures: &Signatures, name: &str) -> Option<(Expr, Ty)>
+    ensures { option_map known_of result
+        ≡ environment.global_in (map binding_of signatures.now.globals.items) name.now }
+{
+    let (place, of) = signatures.global(name)?;
+    let global = Variable::Global {
+        place,
+        of: var_type(of),
+    };
+    Some((Expr::Variable(global), of))
+}
+
+/// A property of a registered type, with its type.
+fn host_property(call: &Registration) -> Option<(Member, Ty)>
+    ensures { result ≡ environment.property (registration_of call.now) }
+{
+    match call {
+        Registration::Property { id, value, .. } => {
+            let of = ty_of(*value);
+            let property = Member::Property {
+                id: *id,
+                of: var_type(of),
+            };
+            Some((property, of))
+        }
+        _ => None,
+    }
+}
+
+impl<'a, 'n> Environment<'a, 'n> {
+    /// The class whose object runs, with its place.
+    fn this_class(&self) -> Option<(usize, &'a ClassSignature<'n>)>
+        ensures { option_map placed_class result
+            ≡ environment.this_class (environment_of self.now) }
+    {
+        let place = self.this?;
+        let class = self.signatures.classes.get(place)?;
+        Some((place, class))
+    }
+
+    /// A field of the object that runs, with its type.
+    fn own_field(&self, name: &str) -> Result<Option<(Expr, Ty)>, AllocError>
+        ensures { IfOk result
+            (λ found. option_map known_of found
+            ≡ environment.own_field_in (environment_of self.now) name.now) }
+    {
+        let Some((place, class)) = self.this_class() else {
+            return Ok(None);
+        };
+        let Some((member, of)) = class_field(place, class, name) else {
+            return Ok(None);
+        };
+        Ok(Some((nodes::member(self.alloc, Expr::This(place), member)?, of)))
+    }
+
+    /// A name alone: a local, else a field of the object that runs, else a global.
+    #[tactic(auto, unfolding(ash_typing::specs::Environment::variable_in))]
+    pub fn variable(&self, name: &str) -> Result<Option<(Expr, Ty)>, AllocError>
+        ensures variable_found { IfOk result
+            (λ found. option_map known_of found
+            ≡ environment.variable_in (environment_of self.now) name.now) }
+    {
+        if let Some(local) = local_named(self.locals, name) {
+            return Ok(Some(local));
+        }
+        if let Some(field) = self.own_field(name)? {
+            return Ok(Some(field));
+        }
+        Ok(global_named(self.signatures, name))
+    }
+
+    /// A method of the object that runs, as it is called.
+    fn own_method_callee(&self, name: &str) -> Option<Callee<'a>>
+        ensures { option_map callee_of result
+            ≡ environment.own_method_in (environment_of self.now) name.now }
+    {
+        let (class, of) = self.this_class()?;
+        let (method, function) = first_function(&of.methods, name)?;
+        let result = function.result;
+        Some(Callee {
+            target: Callable::OwnMethod {
+                class,
+                method,
+                result: result_type(result),
+            },
+            result,
+            parameters: Some(Parameters::Script(&function.parameters)),
+        })
+    }
+
+    /// A registered type, as it is constructed.
+    pub fn host_type_callee(&self, call: &Registration) -> Option<Callee<'a>>
+        ensures constructs_host_object { option_map callee_of result
+            ≡ environment.host_type (registered self.now.registry.now) (registration_of call.now) }
+    {
+        match call {
+            Registration::Type { name, kind } => Some(Callee {
+                target: Callable::Target(Target::Host(*kind)),
+                result: Ty::Handle(ObjectType::Host(*kind)),
+                parameters: self.factory_parameters(name.as_str()),
+            }),
+            _ => None,
+        }
+    }
+
+    /// The parameters of the factory of a registered type.
+    #[tactic(auto, unfolding(ash_typing::specs::Environment::factory_in))]
+    fn factory_parameters(&self, of: &str) -> Option<Parameters<'a>>
+        ensures { option_map parameters_of result
+            ≡ environment.factory_in (registered self.now.registry.now) of.now }
+    {
+        factory_parameters(self.registry.factory_of(of)?)
+    }
+
+    /// The callee of a name before brackets: a method of the object that runs, a function of the module, a registered
+    /// function, a class, or a registered type.
+    #[tactic(auto, unfolding(ash_typing::specs::Environment::callee_in))]
+    pub fn callee(&self, name: &str) -> Option<Callee<'a>>
+        ensures callee_found { option_map callee_of result
+            ≡ environment.callee_in (environment_of self.now) name.now }
+    {
+        if let Some(method) = self.own_method_callee(name) {
+            return Some(method);
+        }
+        if let Some(function) = function_callee(self.signatures, name) {
+            return Some(function);
+        }
+        self.service_or_type_callee(name)
+    }
+
+    /// A registered function, a class or a registered type, as it is called.
+    fn service_or_type_callee(&self, name: &str) -> Option<Callee<'a>>
+        ensures { option_map callee_of result
+            ≡ environment.callee_beside (environment_of self.now) name.now }
+    {
+        let registered = self.registry.named(name);
+        if let Some(call) = registered
+            && let Some(function) = service_callee(call)
+        {
+            return Some(function);
+        }
+        if let Some(class) = class_callee(self.signatures, name) {
+            return Some(class);
+        }
+        self.host_type_callee(registered?)
+    }
+
+    /// The name of a registered type, by its kind.
+    #[tactic(auto, unfolding(ash_typing::specs::Environment::name_of_kind))]
+    fn type_name(&self, kind: u16) -> &'a str
+        ensures { result.now ≡ environment.name_of_kind (registered self.now.registry.now) kind }
+    {
+        match self.registry.of_kind(kind) {
+            Some(Registration::Type { name, .. }) => name.as_str(),
+            _ => "",
+        }
+    }
+
+    /// A method or a property of a registered type.
+    #[tactic(auto, unfolding(ash_typing::specs::Environment::host_member_in))]
+    fn host_member(&self, kind: u16, name: &str) -> Option<&'a Registration>
+        ensures { option_map registration_of (option_copied result)
+            ≡ environment.host_member_in (registered self.now.registry.now) kind name.now }
+    {
+        self.registry.member(self.type_name(kind), name)
+    }
+
+    /// A field or a property of an object, with its type.
+    #[tactic(auto, unfolding(ash_typing::specs::Environment::member_in))]
+    pub fn member(&self, of: ObjectType, name: &str) -> Option<(Member, Ty)>
+        ensures member_found { result ≡ environment.member_in (environment_of self.now) of name.now }
+    {
+        match of {
+            ObjectType::Class(place) => class_field(
+                place,
+                self.signatures.classes.get(place)?,
+                name,
+            ),
+            ObjectType::Host(kind) => host_property(self.host_member(kind, name)?),
+            ObjectType::Interface(_) | ObjectType::Array(_) => None,
+        }
+    }
+
+    #[tactic(auto, unfolding(ash_typing::specs::Environment::method_of_class))]
+    fn class_method(&self, class: usize, name: &str) -> Option<MethodCallee<'a>>
+        ensures { option_map method_callee_of result
+            ≡ environment.method_of_class
+            (map class_signature_of self.now.signatures.now.classes.items) class name.now }
+    {
+        let of = self.signatures.classes.get(class)?;
+        class_method_callee(class, of, name)
+    }
+
+    #[tactic(auto, unfolding(ash_typing::specs::Environment::method_of_interface))]
+    fn interface_method(&self, interface: usize, name: &str) -> Option<MethodCallee<'a>>
+        ensures { option_map method_callee_of result
+            ≡ environment.method_of_interface
+            (map interface_signature_of self.now.signatures.now.interfaces.items) interface
+            name.now }
+    {
+        let of = self.signatures.interfaces.get(interface)?;
+        interface_method_callee(interface, of, name)
+    }
+
+    #[tactic(auto, unfolding(ash_typing::specs::Environment::method_of_kind))]
+    fn host_method(&self, kind: u16, name: &str) -> Option<MethodCallee<'a>>
+        ensures { option_map method_callee_of result
+            ≡ environment.method_of_kind (registered self.now.registry.now) kind name.now }
+    {
+        let call = self.host_member(kind, name)?;
+        host_method_callee(call)
+    }
+
+    /// A method of an object.
+    #[tactic(auto, unfolding(ash_typing::specs::Environment::method_in))]
+    pub fn method(&self, of: ObjectType, name: &str) -> Option<MethodCallee<'a>>
+        ensures method_found { option_map method_callee_of result
+            ≡ environment.method_in (environment_of self.now) of name.now }
+    {
+        match of {
+            ObjectType::Class(class) => self.class_method(class, name),
+            ObjectType::Interface(interface) => self.interface_method(interface, name),
+            ObjectType::Host(kind) => self.host_method(kind, name),
+            ObjectType::Array(of) => array_method_named(of, name),
+        }
+    }
+}
