@@ -1,7 +1,5 @@
-pub mod ReturnLaws
 pub mod CheckLaws
-pub mod StatementLaws
-pub mod NodeLaws
+pub mod FieldLaws
 pub mod ExactLaws
 pub mod MethodLaws
 pub mod CheckedLaws

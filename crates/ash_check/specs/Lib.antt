@@ -1,5 +1,4 @@
 pub mod Faults
 pub mod WalkViews
-pub mod StatementViews
 pub mod Checks
 pub mod CheckedModules

@@ -7,9 +7,6 @@ use Rattle.ash_registrations.specs.declared.registrations.Registrations.{Registr
 use Rattle.ash_registrations.specs.Registered.{registered}
 use Rattle.ash_registrations.specs.Registrations as host
 use Rattle.ash_tree.specs.Views.{parameter_of, stmt_of}
-use Rattle.ash_typed.specs.Tree.{Expr}
-use Rattle.ash_typed.specs.Views.{expr_of}
-use Rattle.ash_typed.specs.declared.tree.expressions.Expr as typed_expr
 use Rattle.ash_tree.specs.Tree as written
 use Rattle.ash_typing.specs.TypingResult.{TypingResult, ◌>>=◌}
 use Rattle.ash_typing.specs.Environment.{Environment, inside}
@@ -64,10 +61,6 @@ members_of names c = record { names = names; class = class_of c }
 
 abbrev pub walked_of : Names → script.Module → Walked
 walked_of names m = record { names = names; typed = module_of m }
-
--- the initial value of a variable, where it has one
-abbrev pub optional_expr : Option typed_expr.Expr → Option Expr
-optional_expr value = option_map expr_of value
 
 -- the class of this place, with the interfaces that it lists
 abbrev pub class_with : Environment → ℕ → written.Class → List Implementation → TypingResult Class

@@ -12,7 +12,6 @@ ghost use Rattle.ash_environment.specs.Views.{environment_of, signatures_of};
 ghost use Rattle.ash_check.specs.WalkViews.{names_of, routine_of, row_of, members_of};
 ghost use Rattle.ash_check.specs.WalkViews.{walked_of, class_with};
 
-use crate::declarations::{WrittenType, check_decl, check_variable_type, place_of, ty_in};
 use crate::implementations::check_listed_interfaces;
 use crate::interfaces::check_interface;
 use crate::limits::{MAX_CLASS_MEMBERS, MAX_GLOBALS, MAX_MODULE_TYPES};
@@ -21,6 +20,7 @@ use crate::routines::{Routine, as_routine, check_result_type, check_routine};
 use crate::signatures::module_signatures;
 use ash_environment::{CheckResult, Environment, Signatures, fault_at};
 use ash_registrations::Registrations;
+use ash_statements::{WrittenType, check_decl, check_variable_type, place_of, ty_in};
 use ash_tree::{Constructor, Item, Member, Vars};
 use ash_typed::{Class, Implementation, Module, Variables};
 use ash_typing::{Rule, Ty};
@@ -76,7 +76,7 @@ fn check_constructor_name<'a>(
 }
 
 /// Checks a member of a class, after those so far.
-#[tactic(auto, using(crate::proofs::NodeLaws::values_append), unfolding(ash_typing::specs::Items::check_member))]
+#[tactic(auto, using(crate::proofs::FieldLaws::values_append), unfolding(ash_typing::specs::Items::check_member))]
 fn check_member<'a>(
     env: &Environment<'_, 'a>,
     names: &mut Names<'a>,

@@ -5,7 +5,7 @@
 //! of the text. Where no rule is broken, classes must not reach themselves by what their fields hold: `ash_classes` has
 //! their ranks, or the cycle that is reported. `checked` of `specs/Checks.antt` defines all this as one function, and
 //! `check` returns what it defines, unless memory runs out; `check_is_exact` says what that is by the rules of typing
-//! alone. Expressions are checked by `ash_expressions`, in environments of `ash_environment`.
+//! alone. Bodies and variables are checked by `ash_statements`, in environments of `ash_environment`.
 //!
 //! What is returned is a `CheckedScript`. Of each value of that type it is known, by the typed tree alone, that its
 //! module is sound and that its ranks fall along what its classes hold: `IsChecked` of `specs/CheckedModules.antt`.
@@ -14,31 +14,20 @@
 //! typed phrase that they are the parts of, or its fault.
 //!
 //! In reading order: `checked`, what is returned; `checks`, the whole; `faults`, what is reported; `items`, the walk
-//! over a module, with `limits`, `names`, `interfaces`, `implementations`, `routines`, `declarations` and `bodies`;
-//! `signatures`, what a module declares; `statements`, the walk over a body, with `scopes`, what a statement can refer
-//! to, `locals`, `conditions`, `loops`, `switches` and `jumps`. Beside them `returning`, which statements return.
+//! over a module, with `limits`, `names`, `interfaces`, `implementations` and `routines`; `signatures` and
+//! `type_names`, what a module declares.
 #![tactic(auto)]
 
-mod bodies;
 mod checked;
 mod checks;
-mod conditions;
-mod declarations;
 mod faults;
 mod implementations;
 mod interfaces;
 mod items;
-mod jumps;
 mod limits;
-mod locals;
-mod loops;
 mod names;
-mod returning;
 mod routines;
-mod scopes;
 mod signatures;
-mod statements;
-mod switches;
 mod type_names;
 
 pub use ash_classes::search_is_exact;

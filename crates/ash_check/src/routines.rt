@@ -10,12 +10,10 @@ ghost use Rattle.ash_environment.specs.Agreement.{Agrees};
 ghost use Rattle.ash_environment.specs.Views.{binding_of, environment_of};
 ghost use Rattle.ash_check.specs.WalkViews.{routine_of};
 
-use crate::bodies::{body_returns, check_body};
-use crate::declarations::{place_of, ty_in, type_name_offset};
-use crate::scopes::any_declares;
 use ash_environment::{
     Binding, CheckResult, Environment, fault_at, is_void, result_type, var_type,
 };
+use ash_statements::{any_declares, body_returns, check_body, place_of, ty_in, type_name_offset};
 use ash_tree::{Parameter, Place, Stmt, Type};
 use ash_typed::{Function, VarType};
 use ash_typing::{Rule, Ty};

@@ -1,0 +1,3 @@
+pub mod ReturnLaws
+pub mod StatementLaws
+pub mod NodeLaws

@@ -1,0 +1,51 @@
+//! Bodies of functions.
+
+ghost use Rattle.std.specs.Prelude.{◌≡◌, map};
+ghost use Rattle.ash_tree.specs.Views.{stmt_of};
+ghost use Rattle.ash_typing.specs.Environment.{with_locals};
+ghost use Rattle.ash_typing.specs.Returning as returning;
+ghost use Rattle.ash_typing.specs.Statements as definition;
+ghost use Rattle.ash_typed.specs.BodyViews.{body_of};
+ghost use Rattle.ash_environment.specs.Agreement.{Agrees};
+ghost use Rattle.ash_environment.specs.Views.{binding_of, environment_of};
+
+use crate::returning::any_returns;
+use crate::scopes::Scope;
+use crate::statements::check_block;
+use ash_environment::{Binding, CheckResult, Environment};
+use ash_tree::Stmt;
+use ash_typing::Ty;
+
+/// Checks the body of a function that returns this type, whose parameters are the locals.
+#[tactic(auto, unfolding(ash_typing::specs::Statements::check_body))]
+pub fn check_body<'a>(
+    env: &Environment<'_, 'a>,
+    mut locals: Vec<Binding<'a>>,
+    of: Ty,
+    body: &'a [Stmt],
+) -> CheckResult<Vec<ash_typed::Stmt>>
+    ensures typed { Agrees (λ b. body_of b.items) result
+        (definition.check_body
+        (with_locals (environment_of env.now) (map binding_of locals.entry.items)) of
+        (map stmt_of body.now)) }
+{
+    let scope = Scope {
+        alloc: env.alloc,
+        signatures: env.signatures,
+        registry: env.registry,
+        this: env.this,
+        block_start: 0,
+        result: of,
+        in_loop: false,
+        in_switch: false,
+    };
+    check_block(&scope, &mut locals, body)
+}
+
+/// Whether a body returns, however its conditions turn out.
+#[tactic(auto, unfolding(ash_typing::specs::Returning::returns_in))]
+pub fn body_returns(body: &[Stmt]) -> bool
+    ensures always_returns { result ≡ returning.returns_in (map stmt_of body.now) }
+{
+    any_returns(body)
+}

@@ -1,0 +1,96 @@
+//! Statements that leave: `break`, `continue` and `return`.
+
+ghost use Rattle.std.specs.Prelude.{◌≡◌, ◌||◌, map, option_map};
+ghost use Rattle.ash_tree.specs.Views as written;
+ghost use Rattle.ash_typed.specs.Views.{expr_of};
+ghost use Rattle.ash_typed.specs.BodyViews.{stmt_of};
+ghost use Rattle.ash_typing.specs.Statements as definition;
+ghost use Rattle.ash_environment.specs.Agreement.{Agrees};
+ghost use Rattle.ash_environment.specs.Views.{classes_of, binding_of};
+ghost use Rattle.ash_expressions.specs.Views.{typed_of};
+ghost use Rattle.ash_statements.specs.StatementViews.{scope_of};
+
+use crate::scopes::Scope;
+use ash_environment::{Binding, CheckResult, Environment, fault_at, is_void};
+use ash_expressions::{AssignmentSide, TypedExpr, check_expr, coerce_for_assignment};
+use ash_tree::{Expr, Place};
+use ash_typed::{Expr as Tree, Stmt as TypedStmt, StmtKind as TypedKind};
+use ash_typing::{Rule, Ty};
+
+/// `break`, which has to leave a loop or a `switch`.
+#[tactic(auto, unfolding(ash_typing::specs::Statements::check_break))]
+pub(crate) fn check_break(scope: &Scope, place: Place) -> CheckResult<TypedStmt>
+    ensures { Agrees stmt_of result
+        (definition.check_break (scope.now.in_loop || scope.now.in_switch) place) }
+{
+    let leaves = scope.in_loop || scope.in_switch;
+    if !leaves {
+        return Err(fault_at(Rule::Misplaced, place.at));
+    }
+    Ok(TypedStmt {
+        line: place.line,
+        kind: TypedKind::Break,
+    })
+}
+
+/// `continue`, which has to be in a loop.
+#[tactic(auto, unfolding(ash_typing::specs::Statements::check_continue))]
+pub(crate) fn check_continue(scope: &Scope, place: Place) -> CheckResult<TypedStmt>
+    ensures { Agrees stmt_of result (definition.check_continue scope.now.in_loop place) }
+{
+    if !scope.in_loop {
+        return Err(fault_at(Rule::Misplaced, place.at));
+    }
+    Ok(TypedStmt {
+        line: place.line,
+        kind: TypedKind::Continue,
+    })
+}
+
+/// Whether a function of this type returns without a value.
+fn returns_nothing(of: Ty) -> bool
+    ensures { result ≡ definition.gives_nothing of }
+{
+    matches!(of, Ty::Void | Ty::Unknown)
+}
+
+/// A value that is returned at this offset.
+#[tactic(auto, unfolding(ash_typing::specs::Statements::returned))]
+fn build_return_value(env: &Environment, of: Ty, at: usize, value: TypedExpr) -> CheckResult<Tree>
+    ensures { Agrees expr_of result
+        (definition.returned (classes_of env.now) of at (typed_of value)) }
+{
+    if is_void(of) {
+        return Err(fault_at(Rule::TypeMismatch, at));
+    }
+    coerce_for_assignment(env, of, value)
+}
+
+/// `return`, with a value where its function returns one.
+#[tactic(auto, unfolding(ash_typing::specs::Statements::check_return))]
+pub(crate) fn check_return(
+    scope: &Scope,
+    locals: &[Binding],
+    place: Place,
+    value: &Option<Expr>,
+) -> CheckResult<TypedStmt>
+    ensures { Agrees stmt_of result
+        (definition.check_return (scope_of scope.now (map binding_of locals.now)) place
+        (option_map written.expr_of value.now)) }
+{
+    let value = match value {
+        None if !returns_nothing(scope.result) => {
+            return Err(fault_at(Rule::TypeMismatch, place.at));
+        }
+        None => None,
+        Some(value) => {
+            let env = (&*scope).environment(locals);
+            let value = check_expr(&env, AssignmentSide::Value, value)?;
+            Some(build_return_value(&env, scope.result, place.at, value)?)
+        }
+    };
+    Ok(TypedStmt {
+        line: place.line,
+        kind: TypedKind::Return(value),
+    })
+}
