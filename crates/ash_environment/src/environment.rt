@@ -232,7 +232,8 @@ impl<'a, 'n> Environment<'a, 'n> {
     /// A field or a property of an object, with its type.
     #[tactic(auto, unfolding(ash_typing::specs::Environment::member_in))]
     pub fn member(&self, of: ObjectType, name: &str) -> Option<(Member, Ty)>
-        ensures member_found { result ≡ environment.member_in (environment_of self.now) of name.now }
+        ensures member_found { result
+            ≡ environment.member_in (environment_of self.now) of name.now }
     {
         match of {
             ObjectType::Class(place) => class_field(

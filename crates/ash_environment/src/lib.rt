@@ -1,14 +1,14 @@
 //! What names and types mean where a phrase of a script is.
 //!
 //! A phrase is in an environment, which has what a module declares, what is registered, the class whose object runs,
-//! and the locals. `ash_typing/specs/Environment.antt` defines what a name is in one: a variable, what a call calls, a
-//! member or a method of an object. `ModuleDeclarations.antt` beside it defines what the name of a type is, `Types.antt`
-//! what two types have in common, and `Coercions.antt` what may be stored in which variable. Each function returns what
-//! its definition gives, unless memory runs out. The crate uses `ash_tree`, which has the types as they are written,
-//! `ash_registrations`, `ash_typed`, which has what names become, and the rules of `ash_typing`.
+//! and the locals. Each function returns what a definition of `ash_typing` gives, unless memory runs out. In its
+//! `specs/`, `Environment` has what a name means in an environment: a variable, what a call calls, a member or a method
+//! of an object; `ModuleDeclarations`, which type a name is; `Types`, what two types have in common; and `Coercions`,
+//! what may be stored in which variable. The crate uses `ash_tree`, which has types as they are written,
+//! `ash_registrations`, `ash_typed`, which has what names become in a typed tree, and the rules of `ash_typing`.
 //!
-//! It has the error that ends checking, too. Nothing is checked here: `Agrees` of `specs/Agreement.antt` says of each
-//! function of the crates above that may fail that it returns what the rules of typing define.
+//! Nothing is checked here. But the crate has the error that ends checking, and `Agrees` of `specs/Agreement.antt`,
+//! which says of each function of the crates above that may fail that it returns what the rules define.
 //!
 //! In reading order: `environment`, what names mean, with `lookup`; `callees`, `array_methods` and `parameters`, what
 //! can be called and what it takes; `signatures` and `name_index`, what a module declares, found by its name;

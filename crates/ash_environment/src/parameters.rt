@@ -34,7 +34,8 @@ impl<'a> Parameters<'a> {
 
     /// The first, and the others.
     pub fn split_first(self) -> Option<(Ty, Parameters<'a>)>
-        ensures first_and_others { option_map split_of result ≡ first_and_rest (parameters_of self.entry) }
+        ensures first_and_others { option_map split_of result
+            ≡ first_and_rest (parameters_of self.entry) }
     {
         match self {
             Parameters::Nothing => None,
