@@ -18,6 +18,24 @@ use std::test::Fail;
 
 const ALREADY_THERE: StoreFault = StoreFault::Create(CreateFault::AlreadyThere);
 
+const SENTENCES: &str =
+    "a file is open already, neither file is open: nothing was ever stored in them, the file is damaged at byte 50, \
+    the store was made with another registration, \
+    the store is of version 1, and no generation is left for one of version 2";
+
+#[test]
+fn faults_are_sentences(rt: HostRuntime) -> Result<(), Fail> {
+    let text = format!(in rt.alloc();
+        "{ALREADY_THERE}, {}, {}, {}, {}",
+        StoreFault::Open(OpenFault::NoGeneration),
+        StoreFault::Open(OpenFault::Damaged(50)),
+        StoreFault::OtherInterface,
+        StoreFault::GenerationSpent
+    )?;
+    check_text(&rt, text.as_str(), SENTENCES, "the faults of a store");
+    Ok(())
+}
+
 /// Why no store is made over the disks of a used one, and these disks.
 fn made_again(alloc: Global) -> Result<(StoreFault, MemoryDisk, MemoryDisk), Fail> {
     let (first, second) = closed(used(alloc)?);
