@@ -26,7 +26,8 @@ const SENTENCES: &str =
 #[test]
 fn faults_are_sentences(rt: HostRuntime) -> Result<(), Fail> {
     let text = format!(in rt.alloc();
-        "{ALREADY_THERE}, {}, {}, {}, {}",
+        "{}, {}, {}, {}, {}",
+        ALREADY_THERE,
         StoreFault::Open(OpenFault::NoGeneration),
         StoreFault::Open(OpenFault::Damaged(50)),
         StoreFault::OtherInterface,
