@@ -17,6 +17,7 @@ pub mod Making
 pub mod Mishaps
 pub mod Moving
 pub mod Opened
+pub mod OpenedJournals
 pub mod Outcomes
 pub mod Prefixes
 pub mod Reading

@@ -2,6 +2,7 @@
 use Rattle.std.proofs.Common.{◌≡◌, inl, inr, ℕ, List, [], ◌∷◌, ◌++◌, Result, Ok, Err, refl, sym, ◌∙◌, ap, subst, arith}
 use Rattle.std.specs.Bool.{IsTrue}
 use Rattle.ash_disk.specs.Device.{Device}
+use Rattle.ash_journal.specs.declared.error.CreateFault.TheVariants as creating
 use Rattle.ash_journal.specs.declared.journal.Journal.{Journal}
 use Rattle.ash_journal.specs.Current.{Contents, IsContents, HoldsOneOf, Represent}
 use Rattle.ash_journal.specs.Journal.{first_disk, second_disk}
@@ -11,17 +12,17 @@ use Rattle.ash_state_image.specs.declared.version.Version.TheVariants.{One, Two}
 use Rattle.ash_states.specs.States.{HostState, empty}
 use Rattle.ash_states.specs.Images.{IsImageIn}
 use Rattle.ash_registry.specs.Registrations.{Registration}
+use Rattle.ash_durable.specs.Faults.{MayRefuse}
 use Rattle.ash_durable.specs.Hosting.{Hosted, first, second}
+use Rattle.ash_durable.specs.OpenedStore.{WasOpened, WasFound, WasLeft, WasRefused, Opens, Keeps, InstallsOrNot}
+use Rattle.ash_durable.specs.OpenedStore.{first_found, second_found, NotFound, LeftThere}
 use Rattle.ash_durable.specs.States.{AreHonest, SettleSince, SettleNow, IsOne, IsEither, IsStateOf, HaveState}
-use Rattle.ash_durable.specs.Store.{WereOnlyRead, AreClosed, IsClosedOrHasState, NotMadeFor}
-use Rattle.ash_durable.specs.Store.{WasNotMade, Creates, WasOpened, WasFound, WasLeft, WasRefused, Opens, Keeps}
-use Rattle.ash_durable.specs.Store.{IsFailed, InstallsOrNot, MayRefuse, first_found, second_found}
-use Rattle.ash_durable.specs.Store.{NotFound, LeftThere}
+use Rattle.ash_durable.specs.Store.{WereOnlyRead, AreClosed, IsClosedOrHasState, NotMadeFor, WasNotMade, Creates}
 use Rattle.ash_durable.specs.Lives as lives
 use Rattle.ash_durable.specs.Lives.{Event, Found, LeadTo, LeadBy}
 use Rattle.ash_durable.specs.Lives.{Crashed, AreFresh, first_of, second_of, Place, UnderHost}
 use Rattle.ash_durable.specs.Lives.{OnDisks, first_at, second_at, Life, Outlives}
-use Rattle.ash_durable.specs.declared.fault.OpenRefused.{OpenRefused}
+use Rattle.ash_durable.specs.declared.fault.HostRefused.{HostRefused}
 use Rattle.ash_durable.specs.declared.fault.StoreFault.{StoreFault}
 use Rattle.ash_durable.specs.declared.fault.StoreFault.TheVariants as faults
 use Rattle.ash_durable.proofs.Faultless.{represent_open}
@@ -57,15 +58,15 @@ module _ {D : Type 0} (device : Device D) (stays : (disk : D) → IsTrue (device
   -- where a store is, a creation that is refused has only read
   only_read : (fault : StoreFault) (a b a' b' : D) → NotMadeFor device a b fault a' b' → AreHonest device a b
       → (AreClosed device a b → ⊥) → WereOnlyRead device a b a' b'
-  only_read faults.DeviceFailed a b a' b' cause honest not_closed = elim (cause honest) [
+  only_read (faults.Create creating.DeviceFailed) a b a' b' cause honest not_closed = elim (cause honest) [
     | inl closed ↦ absurd (not_closed closed)
     | inr read ↦ read
   ]
-  only_read faults.AlreadyThere a b a' b' cause honest not_closed = (cause honest).0
-  only_read faults.NoMemory a b a' b' cause honest not_closed = (cause honest).0
+  only_read (faults.Create creating.AlreadyThere) a b a' b' cause honest not_closed = (cause honest).0
+  only_read (faults.Create creating.NoMemory) a b a' b' cause honest not_closed = (cause honest).0
   only_read _ a b a' b' cause honest not_closed = absurd cause
 
-  not_created : (events : List Event) (others : List Registration) (a b : D) (r : OpenRefused D)
+  not_created : (events : List Event) (others : List Registration) (a b : D) (r : HostRefused D)
       → Rested device registered events a b → WasNotMade device (empty others) a b r
       → Rested device registered events r.a r.b
   not_created events others a b r before was =
@@ -74,7 +75,7 @@ module _ {D : Type 0} (device : Device D) (stays : (disk : D) → IsTrue (device
       (never_closed a b (IsEither before.whole.s before.whole.t) before.honest before.whole.settled))
 
   still_there : (others : List Registration) (a b : D) (P : HostState → Type 0)
-      (result : Result (Hosted D) (OpenRefused D))
+      (result : Result (Hosted D) (HostRefused D))
       → AreHonest device a b → SettleNow device a b P → Creates device others a b result
       → SettleSince device (device.clock a) (device.clock b) (first_of result) (second_of result) P
   still_there others a b P (Ok host) honest run was = absurd (never_closed a b P honest run (was.made.closed honest))
@@ -83,7 +84,7 @@ module _ {D : Type 0} (device : Device D) (stays : (disk : D) → IsTrue (device
       (never_closed a b P honest run)) run
 
   crashed_not_creating : (events : List Event) (others : List Registration) (a b : D)
-      (result : Result (Hosted D) (OpenRefused D)) (a' b' : D) → Rested device registered events a b
+      (result : Result (Hosted D) (HostRefused D)) (a' b' : D) → Rested device registered events a b
       → Creates device others a b result → Crashed device (device.clock a) (device.clock b) (first_of result)
       (second_of result) a' b' → Rested device registered events a' b'
   crashed_not_creating events others a b result a' b' before creates crash =
@@ -105,7 +106,7 @@ module _ {D : Type 0} (device : Device D) (stays : (disk : D) → IsTrue (device
       state_of_one state (empty registered) contents with_it is_state
       (subst (λ (s : HostState). IsStateOf s contents) one.1.1 other)
 
-  opened_creating : (a b : D) (result : Result (Hosted D) (OpenRefused D)) (a' b' : D) (host : Hosted D)
+  opened_creating : (a b : D) (result : Result (Hosted D) (HostRefused D)) (a' b' : D) (host : Hosted D)
       → AreFresh device a b → Creates device registered a b result
       → Crashed device (device.clock a) (device.clock b) (first_of result) (second_of result) a' b'
       → (was : WasOpened device registered a' b' host)
@@ -164,7 +165,7 @@ module _ {D : Type 0} (device : Device D) (stays : (disk : D) → IsTrue (device
       (settle_now device (device.clock a) (device.clock b) x y P
       (settle_still device (device.clock a) (device.clock b) a b x y P (found.moments honest) settle))
 
-  left_on : (others : List Registration) (a b : D) (P : HostState → Type 0) (r : OpenRefused D)
+  left_on : (others : List Registration) (a b : D) (P : HostState → Type 0) (r : HostRefused D)
       → AreHonest device a b → SettleNow device a b P → (left : WasLeft device others a b r)
       → SettleSince device (device.clock (first_disk left.old)) (device.clock (second_disk left.old)) r.a r.b P
   left_on others a b P r honest settle left =
@@ -175,7 +176,7 @@ module _ {D : Type 0} (device : Device D) (stays : (disk : D) → IsTrue (device
       (moved_on others a b P left.state left.old left.left.new left.left.image honest settle left.found
       left.left.is_image left.left.moments))
 
-  refused : (events : List Event) (others : List Registration) (a b : D) (r : OpenRefused D)
+  refused : (events : List Event) (others : List Registration) (a b : D) (r : HostRefused D)
       → Rested device registered events a b → WasRefused device others a b r → Rested device registered events r.a r.b
   refused events others a b r before (NotFound none) = not_found device registered events others a b r before none
   refused events others a b r before (LeftThere left) =
@@ -189,7 +190,7 @@ module _ {D : Type 0} (device : Device D) (stays : (disk : D) → IsTrue (device
       (left_on others a b (IsEither before.whole.s before.whole.t) r before.honest before.whole.settled left)))
 
   moving_settles : (others : List Registration) (a b : D) (P : HostState → Type 0)
-      (result : Result (Hosted D) (OpenRefused D)) → AreHonest device a b → SettleNow device a b P
+      (result : Result (Hosted D) (HostRefused D)) → AreHonest device a b → SettleNow device a b P
       → (opens : Opens device others a b result)
       → SettleSince device (device.clock (first_found device others a b result opens))
       (device.clock (second_found device others a b result opens)) (first_of result) (second_of result) P
@@ -202,7 +203,7 @@ module _ {D : Type 0} (device : Device D) (stays : (disk : D) → IsTrue (device
   moving_settles others a b P (Err r) honest settle (LeftThere left) = left_on others a b P r honest settle left
 
   crashed_moving : (events : List Event) (others : List Registration) (a b : D)
-      (result : Result (Hosted D) (OpenRefused D)) (a' b' : D) → Rested device registered events a b
+      (result : Result (Hosted D) (HostRefused D)) (a' b' : D) → Rested device registered events a b
       → (opens : Opens device others a b result)
       → Crashed device (device.clock (first_found device others a b result opens))
       (device.clock (second_found device others a b result opens)) (first_of result) (second_of result) a' b'
@@ -271,12 +272,8 @@ module _ {D : Type 0} (device : Device D) (stays : (disk : D) → IsTrue (device
             (subst (LeadTo (later ++ event ∷ earlier) (empty registered)) (sym t_is) whole.t_led)
       ])
 
-  failed_may : (fault : StoreFault) → IsFailed fault → MayRefuse fault
-  failed_may faults.DeviceFailed failed = tt
-  failed_may _ failed = absurd failed
-
   -- no opening of a store is refused but because memory ran out, a disk failed or its version 1 has no more generations
-  pub opens : (events : List Event) (a b : D) (r : OpenRefused D) → Life device registered events (OnDisks a b)
+  pub opens : (events : List Event) (a b : D) (r : HostRefused D) → Life device registered events (OnDisks a b)
       → WasRefused device registered a b r → MayRefuse r.fault
   opens events a b r life (NotFound was) =
       let before = outlives events (OnDisks a b) life in
@@ -287,4 +284,4 @@ module _ {D : Type 0} (device : Device D) (stays : (disk : D) → IsTrue (device
       ] in
       only_mishaps registered one.1.0 one.0 r.fault (device.seen a) (device.seen b) with_it one.2 one.1.2
       (was.cause before.honest)
-  opens events a b r life (LeftThere left) = failed_may r.fault left.left.is_failed
+  opens events a b r life (LeftThere left) = subst MayRefuse (sym left.left.fault_is) tt

@@ -17,15 +17,15 @@ use Rattle.ash_journal.specs.Writes.{AreUnused, WasUnused}
 use Rattle.ash_journal.proofs.LayoutLaws.{open_closed}
 use Rattle.ash_journal.proofs.ReadLaws.{rested_read}
 use Rattle.ash_journal.proofs.SettleLaws.{settle_more}
-use Rattle.ash_states.specs.States.{HostState}
-use Rattle.ash_durable.specs.Faults.{creating_fault}
 use Rattle.ash_state_image.specs.declared.version.Version.TheVariants.{Two}
+use Rattle.ash_states.specs.States.{HostState}
 use Rattle.ash_states.specs.Images.{IsImageIn}
+use Rattle.ash_durable.specs.Faults.{IsFailed}
 use Rattle.ash_durable.specs.States.{AreHonest, IsOne, IsStateOf, HaveState}
-use Rattle.ash_durable.specs.Store.{IsFailed, HandsBack, WereOnlyRead, AreClosed, MakesOrNot, WasMade, NotMadeFor}
-use Rattle.ash_durable.specs.Store.{WasNotMade}
+use Rattle.ash_durable.specs.Store.{HandsBack, WereOnlyRead, AreClosed, MakesOrNot, WasMade, NotMadeFor, WasNotMade}
 use Rattle.ash_durable.specs.declared.fault.StoreFault.{StoreFault}
-use Rattle.ash_durable.proofs.Finding.{handed_on}
+use Rattle.ash_durable.specs.declared.fault.StoreFault.TheVariants as faults
+use Rattle.ash_durable.proofs.OpenedJournals.{handed_on}
 use Rattle.ash_durable.proofs.ContentsStates.{alone_in, state_of_alone}
 
 -- ---- files that are closed
@@ -60,7 +60,7 @@ idle_closed images (inr shut) image left = shut_closed image (shut image left)
 -- ---- what is counted and reported
 
 creating_counts : (fault : CreateFault) (f s f' s' : ℕ) → CountsFailures (fault ≡ creating.DeviceFailed) f s f' s'
-    → CountsFailures (IsFailed (creating_fault fault)) f s f' s'
+    → CountsFailures (IsFailed (faults.Create fault)) f s f' s'
 creating_counts creating.DeviceFailed f s f' s' counts = record {
   first_never_falls = counts.first_never_falls;
   second_never_falls = counts.second_never_falls;
@@ -148,7 +148,7 @@ module _ {D : Type 0} (device : Device D) where
     cause : (fault : CreateFault) (a' b' : D)
         → (IsTrue (device.honest one) → IsTrue (device.honest two)
         → CreateFaultIs fault (device.seen one) (device.seen two) (IsOnlyRead device one a' × IsOnlyRead device two b'))
-        → NotMadeFor device a b (creating_fault fault) a' b'
+        → NotMadeFor device a b (faults.Create fault) a' b'
     cause creating.DeviceFailed a' b' is = λ honest. inl (closed honest)
     cause creating.AlreadyThere a' b' is = λ honest.
         let still = honest_read a b one two read honest in
@@ -174,7 +174,7 @@ module _ {D : Type 0} (device : Device D) where
           closed honest,
         )
 
-    pub not_made : (fault : CreateFault) (reported : StoreFault) (a' b' : D) → reported ≡ creating_fault fault
+    pub not_made : (fault : CreateFault) (reported : StoreFault) (a' b' : D) → reported ≡ faults.Create fault
         → (IsTrue (device.honest one) → IsTrue (device.honest two)
         → CreateFaultIs fault (device.seen one) (device.seen two) (IsOnlyRead device one a' × IsOnlyRead device two b'))
         → ((p q : ℕ) → IsTrue (device.honest one) → IsTrue (device.honest two) → WasUnused device p one
@@ -188,7 +188,7 @@ module _ {D : Type 0} (device : Device D) where
         (record {
           cause = cause fault a' b' why;
           moments = creates a' b' moments;
-          disks = handed_on device (IsFailed (creating_fault fault)) a b one two a' b' back (record {
+          disks = handed_on device (IsFailed (faults.Create fault)) a b one two a' b' back (record {
             failures = creating_counts fault (device.failures one) (device.failures two) (device.failures a')
                 (device.failures b') counts;
             honesty_first = honesty_first;

@@ -1,14 +1,16 @@
 -- Files that represent contents of a state are refused because memory ran out, a device failed or their version 1 has
 -- no further generation, and for nothing else.
 use Rattle.std.proofs.Common.{◌≡◌, inl, inr, ℕ, List, Err, subst}
+use Rattle.ash_journal.specs.declared.error.OpenFault.TheVariants as opening
 use Rattle.ash_journal.specs.Current.{Contents, Represent}
 use Rattle.ash_journal.proofs.SettleLaws.{represent_once}
 use Rattle.ash_state_image.specs.declared.version.Version.TheVariants.{One, Two}
 use Rattle.ash_states.specs.States.{HostState}
 use Rattle.ash_registry.specs.Registrations.{Registration}
 use Rattle.ash_durable.specs.Contents.{ReadsAs}
+use Rattle.ash_durable.specs.Faults.{IsMishap, MayRefuse}
+use Rattle.ash_durable.specs.OpenedStore.{StoreFaultIs, IsSpent}
 use Rattle.ash_durable.specs.States.{AreIn, IsStateOf}
-use Rattle.ash_durable.specs.Store.{StoreFaultIs, IsSpent, IsMishap, MayRefuse}
 use Rattle.ash_durable.proofs.ContentsStates.{version_once}
 use Rattle.ash_durable.specs.declared.fault.StoreFault.{StoreFault}
 use Rattle.ash_durable.specs.declared.fault.StoreFault.TheVariants as faults
@@ -19,7 +21,7 @@ use Rattle.ash_durable.proofs.Reading.{only_memory}
 misread : (registered : List Registration) (state : HostState) (contents other : Contents) (fault : StoreFault)
     (x y : List ℕ)
     → state.registered ≡ registered → Represent contents x y → IsStateOf state contents → Represent other x y
-    → ReadsAs registered other (Err fault) → fault ≡ faults.NoMemory
+    → ReadsAs registered other (Err fault) → fault ≡ faults.Open opening.NoMemory
 misread registered state contents other fault x y with_it is is_state other_is reads =
     only_memory registered contents state fault with_it is_state
     (subst (λ (c : Contents). ReadsAs registered c (Err fault)) (represent_once other contents x y other_is is) reads)
@@ -28,25 +30,25 @@ pub only_mishaps : (registered : List Registration) (state : HostState) (content
     (x y : List ℕ)
     → state.registered ≡ registered → Represent contents x y → IsStateOf state contents
     → StoreFaultIs registered fault x y → MayRefuse fault
-only_mishaps registered state contents faults.NoMemory x y with_it is is_state cause = tt
-only_mishaps registered state contents faults.DeviceFailed x y with_it is is_state cause = tt
+only_mishaps registered state contents (faults.Open opening.NoMemory) x y with_it is is_state cause = tt
+only_mishaps registered state contents (faults.Open opening.DeviceFailed) x y with_it is is_state cause = tt
 only_mishaps registered state contents faults.GenerationSpent x y with_it is is_state cause = tt
-only_mishaps registered state contents faults.NoGeneration x y with_it is is_state cause =
+only_mishaps registered state contents (faults.Open opening.NoGeneration) x y with_it is is_state cause =
     absurd (represent_open contents x y is cause)
-only_mishaps registered state contents (faults.Damaged at) x y with_it is is_state (inl unsound) =
+only_mishaps registered state contents (faults.Open (opening.Damaged at)) x y with_it is is_state (inl (inl unsound)) =
     absurd (represent_sound contents x y is unsound.0)
-only_mishaps registered state contents (faults.Damaged at) x y with_it is is_state (inr (inl cut)) =
+only_mishaps registered state contents (faults.Open (opening.Damaged at)) x y with_it is is_state (inl (inr cut)) =
     absurd (represent_whole contents x y at is cut)
-only_mishaps registered state contents (faults.Damaged at) x y with_it is is_state
-    (inr (inr (other, other_is, wrong))) =
-    let same : faults.Damaged at ≡ faults.NoMemory =
-    misread registered state contents other (faults.Damaged at) x y with_it is is_state other_is wrong in
+only_mishaps registered state contents (faults.Open (opening.Damaged at)) x y with_it is is_state
+    (inr (other, other_is, wrong)) =
+    let same : faults.Open (opening.Damaged at) ≡ faults.Open opening.NoMemory =
+    misread registered state contents other (faults.Open (opening.Damaged at)) x y with_it is is_state other_is wrong in
     absurd (cc)
 only_mishaps registered state contents faults.OtherInterface x y with_it is is_state (other, other_is, others) =
-    let same : faults.OtherInterface ≡ faults.NoMemory =
+    let same : faults.OtherInterface ≡ faults.Open opening.NoMemory =
     misread registered state contents other faults.OtherInterface x y with_it is is_state other_is others in
     absurd (cc)
-only_mishaps registered state contents faults.AlreadyThere x y with_it is is_state cause = absurd cause
+only_mishaps registered state contents (faults.Create fault) x y with_it is is_state cause = absurd cause
 
 -- what is in version 2 is not in version 1
 two_one : (contents other : Contents) → other ≡ contents → AreIn Two contents → AreIn One other → ⊥
@@ -66,6 +68,6 @@ pub mishap : (registered : List Registration) (fault : StoreFault) (contents : C
     → Represent contents x y → AreIn Two contents → StoreFaultIs registered fault x y → MayRefuse fault → IsMishap fault
 mishap registered faults.GenerationSpent contents x y is two cause may =
     absurd (never_spent registered contents x y is two cause)
-mishap registered faults.NoMemory contents x y is two cause may = may
-mishap registered faults.DeviceFailed contents x y is two cause may = may
+mishap registered (faults.Open opening.NoMemory) contents x y is two cause may = may
+mishap registered (faults.Open opening.DeviceFailed) contents x y is two cause may = may
 mishap registered _ contents x y is two cause may = absurd may

@@ -1,6 +1,7 @@
 -- What moving a state to a generation of version 2 comes to.
 use Rattle.std.proofs.Common.{◌≡◌, ℕ, ◌+◌, List, [], Err, sym, subst}
 use Rattle.ash_disk.specs.Device.{Device}
+use Rattle.ash_journal.specs.declared.error.OpenFault.TheVariants as opening
 use Rattle.ash_journal.specs.declared.journal.Journal.{Journal}
 use Rattle.ash_journal.specs.declared.journal.NextGeneration.{NextGeneration}
 use Rattle.ash_journal.specs.Current.{IsContents, HoldsOneOf}
@@ -11,11 +12,12 @@ use Rattle.ash_journal.specs.Runs.{HoldsSince}
 use Rattle.ash_state_image.specs.declared.version.Version.TheVariants.{Two}
 use Rattle.ash_states.specs.States.{HostState}
 use Rattle.ash_states.specs.Images.{IsImageIn}
-use Rattle.ash_durable.specs.Store.{IsFailed, HandsBack, Prepares, NotBegun, MayNotMove, WasMoved, WasNotMoved}
-use Rattle.ash_durable.specs.declared.fault.OpenRefused.{OpenRefused}
+use Rattle.ash_durable.specs.OpenedStore.{Prepares, NotBegun, MayNotMove, WasMoved, WasNotMoved}
+use Rattle.ash_durable.specs.Store.{HandsBack}
+use Rattle.ash_durable.specs.declared.fault.HostRefused.{HostRefused}
 use Rattle.ash_durable.specs.declared.fault.StoreFault.{StoreFault}
 use Rattle.ash_durable.specs.declared.fault.StoreFault.TheVariants as faults
-use Rattle.ash_durable.proofs.Finding.{counted_none}
+use Rattle.ash_durable.proofs.OpenedJournals.{counted_none}
 
 -- a generation that follows a journal's follows it when the journal is settled
 pub next_settled : {D : Type 0} (was journal : Journal D) (image : List ℕ) (next : NextGeneration)
@@ -28,7 +30,7 @@ next_settled was journal image next same is = record {
 }
 
 -- why no generation is prepared is why the state is not moved
-pub not_prepared : {D : Type 0} (state : HostState) (was : Journal D) (fault : StoreFault) (refused : OpenRefused D)
+pub not_prepared : {D : Type 0} (state : HostState) (was : Journal D) (fault : StoreFault) (refused : HostRefused D)
     → refused.fault ≡ fault → refused.a ≡ first_disk was → refused.b ≡ second_disk was
     → Prepares state was (Err fault) → NotBegun was refused
 not_prepared state was fault refused fault_is a_is b_is why = record {
@@ -39,7 +41,7 @@ not_prepared state was fault refused fault_is a_is b_is why = record {
   where
     may : (f : StoreFault) → Prepares state was (Err f) → MayNotMove was f
     may faults.GenerationSpent last = last
-    may faults.NoMemory other = other
+    may (faults.Open opening.NoMemory) other = other
     may _ never = absurd never
 
 module _ {D : Type 0} (device : Device D) (state : HostState) (old new : Journal D) (image : List ℕ)
@@ -73,8 +75,8 @@ module _ {D : Type 0} (device : Device D) (state : HostState) (old new : Journal
   }
 
   -- or a device failed
-  pub was_not_moved : (refused : OpenRefused D) (failed : Type 0) → failed
-      → refused.fault ≡ faults.DeviceFailed → refused.a ≡ first_disk new → refused.b ≡ second_disk new
+  pub was_not_moved : (refused : HostRefused D) (failed : Type 0) → failed
+      → refused.fault ≡ faults.Open opening.DeviceFailed → refused.a ≡ first_disk new → refused.b ≡ second_disk new
       → LeavesCurrent old new
       → ((was : List ℕ) (bodies : List (List ℕ)) → Holds device old was bodies
       → HoldsSince device (device.clock (first_disk old)) (device.clock (second_disk old)) (first_disk new)
@@ -87,7 +89,7 @@ module _ {D : Type 0} (device : Device D) (state : HostState) (old new : Journal
     new = new;
     first_is = a_is;
     second_is = b_is;
-    is_failed = subst IsFailed (sym fault_is) tt;
+    fault_is = fault_is;
     untouched = untouched;
     image = image;
     is_image = is_image;

@@ -9,22 +9,16 @@ use Rattle.ash_state_image.specs.declared.version.Version.{Version}
 use Rattle.ash_state_image.specs.declared.version.Version.TheVariants.{One, Two}
 use Rattle.ash_states.specs.States.{HostState, empty}
 use Rattle.ash_registry.specs.Registrations.{Registration}
+use Rattle.ash_durable.specs.Faults.{IsMishap}
 use Rattle.ash_durable.specs.Hosting.{Hosted, first, second, IsRunning}
+use Rattle.ash_durable.specs.OpenedStore.{WasFound, Keeps, WasKept, WasOpened, Opens, OpensAgain, NotFound, LeftThere}
 use Rattle.ash_durable.specs.States.{AreHonest, HoldsState, SettleNow, IsOne, IsEither}
-use Rattle.ash_durable.specs.Store.{IsFailed, HandsBack, WasMade, WasCreated, WasFound, Keeps, WasKept, WasOpened, Opens}
-use Rattle.ash_durable.specs.Store.{IsMishap, OpensAgain, NotFound, LeftThere}
-use Rattle.ash_durable.specs.declared.fault.OpenRefused.{OpenRefused}
-use Rattle.ash_durable.specs.declared.fault.StoreFault.{StoreFault}
-use Rattle.ash_durable.specs.declared.fault.StoreFault.TheVariants as faults
+use Rattle.ash_durable.specs.Store.{HandsBack, WasMade, WasCreated}
+use Rattle.ash_durable.specs.declared.fault.HostRefused.{HostRefused}
 use Rattle.ash_durable.proofs.ContentsStates.{alone_in, state_of_alone}
-use Rattle.ash_durable.proofs.Finding.{handed_on}
+use Rattle.ash_durable.proofs.OpenedJournals.{handed_on}
 use Rattle.ash_durable.proofs.Mishaps.{only_mishaps, mishap}
 use Rattle.ash_durable.proofs.Settling.{settle_on_more, settled_state, holds_now}
-
--- the failure of a device is a mishap
-pub failed_mishap : (fault : StoreFault) → IsFailed fault → IsMishap fault
-failed_mishap faults.DeviceFailed failed = tt
-failed_mishap _ failed = absurd failed
 
 -- a host runs in one state
 pub runs_once : {D : Type 0} (host : Hosted D) (s t : HostState) → IsRunning s host → IsRunning t host → s ≡ t
@@ -132,7 +126,7 @@ module _ {D : Type 0} (device : Device D) (stays : (disk : D) → IsTrue (device
       (stays other honest.honest_second) zero (device.seen one) (device.seen other) (refl, refl) in
       subst (λ (c : Contents). Represent c (device.seen one) (device.seen other)) now.1 now.2
 
-  pub opens_again : (host : Hosted D) (result : Result (Hosted D) (OpenRefused D))
+  pub opens_again : (host : Hosted D) (result : Result (Hosted D) (HostRefused D))
       → Opens device host.registered (first host) (second host) result → OpensAgain device host result
   opens_again host (Ok new) opens = (
     opens.running.registered_is ∙ opens.kept.found.registered_is,
@@ -153,4 +147,5 @@ module _ {D : Type 0} (device : Device D) (stays : (disk : D) → IsTrue (device
       mishap host.registered refused.fault holds.contents x y read holds.in_two (none.cause honest)
       (only_mishaps host.registered state holds.contents refused.fault x y (sym runs.registered_is) read holds.is_state
       (none.cause honest))
-  opens_again host (Err refused) (LeftThere left) = λ state honest runs saved. failed_mishap refused.fault left.left.is_failed
+  opens_again host (Err refused) (LeftThere left) = λ state honest runs saved.
+      subst IsMishap (sym left.left.fault_is) tt

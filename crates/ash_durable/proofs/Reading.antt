@@ -4,6 +4,8 @@ use Rattle.std.proofs.Common.{drop, get_or, Option, Some, None, option_map, Resu
 use Rattle.std.specs.Prelude.{IfOk}
 use Rattle.std.specs.List.{AllByRecursion}
 use Rattle.std.proofs.lemmas.List.{drop_more}
+use Rattle.ash_journal.specs.declared.error.OpenFault.{OpenFault}
+use Rattle.ash_journal.specs.declared.error.OpenFault.TheVariants as opening
 use Rattle.ash_journal.specs.declared.record.Record.{Record}
 use Rattle.ash_journal.specs.Current.{Contents}
 use Rattle.ash_journal.specs.Reading.{AreAt, bodies_of}
@@ -21,6 +23,7 @@ use Rattle.ash_durable.specs.Contents.{IsImageWith, IsBodyWith, AreShaped, IsAdm
 use Rattle.ash_durable.specs.Contents.{IsNoImage, FirstWithout, after_image, IsMisshapen, IsNotAdmitted, ReadsAs}
 use Rattle.ash_durable.specs.Contents.{record_header_size}
 use Rattle.ash_durable.specs.Contents.{ReportsDamage, FirstRecordWithout, Restores, LeadsOn, LeadsThrough}
+use Rattle.ash_durable.specs.Faults.{IsFailed}
 use Rattle.ash_durable.proofs.ContentsStates.{image_once, version_once, body_once, body_version_once, lead_all_registered}
 use Rattle.ash_durable.specs.declared.fault.StoreFault.{StoreFault}
 use Rattle.ash_durable.specs.declared.fault.StoreFault.TheVariants as faults
@@ -28,21 +31,22 @@ use Rattle.ash_durable.specs.declared.fault.StoreFault.TheVariants as faults
 -- ---- faults
 
 -- what is said of the offset of damage may be said otherwise
-pub damage_is : (P Q : ℕ → Type 0) → ((at : ℕ) → P at → Q at) → (fault : StoreFault) → ReportsDamage P fault
+pub damage_is : (P Q : ℕ → Type 0) → ((at : ℕ) → P at → Q at) → (fault : OpenFault) → ReportsDamage P fault
     → ReportsDamage Q fault
-damage_is P Q says (faults.Damaged at) reported = says at reported
+damage_is P Q says (opening.Damaged at) reported = says at reported
 damage_is P Q says _ reported = reported
 
 -- damage and out of memory are no failure of a device
-pub no_failure : (P : ℕ → Type 0) (fault : StoreFault) → ReportsDamage P fault → fault ≡ faults.DeviceFailed → ⊥
-no_failure P fault reported is = subst (ReportsDamage P) is reported
+pub no_failure : (P : ℕ → Type 0) (fault : OpenFault) → ReportsDamage P fault → IsFailed (faults.Open fault) → ⊥
+no_failure P opening.DeviceFailed reported failed = reported
+no_failure P _ reported failed = failed
 
 -- the damage that is reported is that of the contents
-pub reads_damage : (P : ℕ → Type 0) (registered : List Registration) (contents : Contents) (fault : StoreFault)
+pub reads_damage : (P : ℕ → Type 0) (registered : List Registration) (contents : Contents) (fault : OpenFault)
     → ((at : ℕ) → P at → IsMisshapen contents at ⊎ IsNotAdmitted registered contents at) → ReportsDamage P fault
-    → ReadsAs registered contents (Err fault)
-reads_damage P registered contents (faults.Damaged at) says reported = says at reported
-reads_damage P registered contents faults.NoMemory says reported = tt
+    → ReadsAs registered contents (Err (faults.Open fault))
+reads_damage P registered contents (opening.Damaged at) says reported = says at reported
+reads_damage P registered contents opening.NoMemory says reported = tt
 reads_damage P registered contents _ says reported = absurd reported
 
 -- the first record without P, where the offsets of records are those of their gates
@@ -134,7 +138,7 @@ image_restored registered image version s offset state is text restore =
 
 -- a record leads to the state that was restored of it
 pub leads_on : (registered : List Registration) (body : List ℕ) (version : Version) (s : Snapshot) (gate : ℕ)
-    (result : Result HostState StoreFault) → IsBody body version s → s.registered ≡ text_of registered
+    (result : Result HostState OpenFault) → IsBody body version s → s.registered ≡ text_of registered
     → Restores registered s gate result → LeadsOn registered body gate result
 leads_on registered body version s gate (Ok state) is text restore = (
   restore.0,
@@ -152,7 +156,7 @@ pub left_from : (records : List Record) (i : ℕ) (r : Record) → i < length re
 left_from records i r within is = drop_more records i r within ∙ ap (λ (x : Record). x ∷ drop (i + 1) records) (sym is)
 
 -- a record leads to a state, and those after it on from there
-pub through_more : (before next : HostState) (r : Record) (records : List Record) (result : Result HostState StoreFault)
+pub through_more : (before next : HostState) (r : Record) (records : List Record) (result : Result HostState OpenFault)
     → LeadsOn before.registered r.body.items r.gate (Ok next) → LeadsThrough next records result
     → LeadsThrough before (r ∷ records) result
 through_more before next r records (Ok after) on through =
@@ -166,14 +170,14 @@ through_more before next r records (Err fault) on through =
     fault through
 
 -- a record leads to no state, and is reported
-pub through_none : (before : HostState) (r : Record) (records : List Record) (fault : StoreFault)
+pub through_none : (before : HostState) (r : Record) (records : List Record) (fault : OpenFault)
     → LeadsOn before.registered r.body.items r.gate (Err fault) → LeadsThrough before (r ∷ records) (Err fault)
 through_none before r records fault on =
     damage_is _ (FirstRecordWithout (IsAdmittedBody before.registered) (r ∷ records)) (λ at none. inl none) fault on
 
 -- what is registered is the same after records that were read as before
 pub through_registered : (registered : List Registration) (before : HostState) (records : List Record)
-    (result : Result HostState StoreFault) → before.registered ≡ registered → LeadsThrough before records result
+    (result : Result HostState OpenFault) → before.registered ≡ registered → LeadsThrough before records result
     → IfOk result (λ after. after.registered ≡ registered)
 through_registered registered before records (Ok after) same through =
     lead_all_registered (bodies_of records) before after through ∙ same
@@ -183,10 +187,10 @@ through_registered registered before records (Err fault) same through = tt
 
 -- the image has this text of what was registered, and a record is none with that text
 pub reads_misshapen : (registered : List Registration) (version : Version) (text image : List ℕ)
-    (records : List Record) (fault : StoreFault)
+    (records : List Record) (fault : OpenFault)
     → IsImageWith version text image → AreAt (after_image image) records
     → ReportsDamage (FirstRecordWithout (IsBodyWith version text) records) fault
-    → ReadsAs registered (image, bodies_of records) (Err fault)
+    → ReadsAs registered (image, bodies_of records) (Err (faults.Open fault))
 reads_misshapen registered version text image records fault is_image placed reported =
     reads_damage (FirstRecordWithout (IsBodyWith version text) records) registered (image, bodies_of records) fault
     (λ at without. inl (inr (
@@ -199,9 +203,9 @@ reads_misshapen registered version text image records fault is_image placed repo
 
 -- a host with this registered may not be in the state of the image
 pub reads_unadmitted : (registered : List Registration) (image : List ℕ) (version : Version) (s : Snapshot)
-    (bodies : List (List ℕ)) (fault : StoreFault) → IsImage image version s
+    (bodies : List (List ℕ)) (fault : OpenFault) → IsImage image version s
     → AreShaped (text_of registered) (image, bodies) → Restores registered s 0 (Err fault)
-    → ReadsAs registered (image, bodies) (Err fault)
+    → ReadsAs registered (image, bodies) (Err (faults.Open fault))
 reads_unadmitted registered image version s bodies fault is shaped reported =
     reads_damage (λ at. IsRestored registered s None × (at ≡ 0)) registered (image, bodies) fault
     (λ at not. inr (shaped, inl (no_image registered image version s is not.0, not.1)))
@@ -237,9 +241,9 @@ reads_through registered version text image records first after with all same is
 
 -- a record leads to no state that a host with this registered may be in
 pub reads_none : (registered : List Registration) (image : List ℕ) (records : List Record) (first : HostState)
-    (fault : StoreFault) → AreShaped (text_of registered) (image, bodies_of records)
+    (fault : OpenFault) → AreShaped (text_of registered) (image, bodies_of records)
     → first.registered ≡ registered → IsImageOf image first → AreAt (after_image image) records
-    → LeadsThrough first records (Err fault) → ReadsAs registered (image, bodies_of records) (Err fault)
+    → LeadsThrough first records (Err fault) → ReadsAs registered (image, bodies_of records) (Err (faults.Open fault))
 reads_none registered image records first fault shaped same is_image placed through =
     reads_damage (FirstRecordWithout (IsAdmittedBody first.registered) records) registered (image, bodies_of records)
     fault
@@ -335,8 +339,8 @@ all_admitted contents state at is_state not_admitted = elim not_admitted.1 [
 -- Where contents are of a state of a host with this registered, out of memory is the one fault that they are read as.
 pub only_memory : (registered : List Registration) (contents : Contents) (state : HostState) (fault : StoreFault)
     → state.registered ≡ registered → IsStateOf state contents → ReadsAs registered contents (Err fault)
-    → fault ≡ faults.NoMemory
-only_memory registered contents state (faults.Damaged at) same is_state reads = elim reads [
+    → fault ≡ faults.Open opening.NoMemory
+only_memory registered contents state (faults.Open (opening.Damaged at)) same is_state reads = elim reads [
   | inl misshapen ↦ absurd (not_misshapen contents state at is_state misshapen)
   | inr not_admitted ↦ absurd (all_admitted contents state at is_state
       (subst (λ (of : List Registration). IsNotAdmitted of contents at) (sym same) not_admitted))
@@ -344,5 +348,5 @@ only_memory registered contents state (faults.Damaged at) same is_state reads = 
 only_memory registered contents state faults.OtherInterface same is_state reads =
     absurd (reads.2 (text_once reads.1.0 reads.0 contents.0 is_state.first is_state.image reads.1.1
     ∙ ap text_of (is_state.registered ∙ same)))
-only_memory registered contents state faults.NoMemory same is_state reads = refl
+only_memory registered contents state (faults.Open opening.NoMemory) same is_state reads = refl
 only_memory registered contents state _ same is_state reads = absurd reads

@@ -1,6 +1,8 @@
 -- Which state an image and records are read as, and what is wrong with those that are read as none.
 use Rattle.std.specs.Prelude.{◌≡◌, ◌⊎◌, ℕ, ◌+◌, List, [], ◌∷◌, length, Some, None, Result, Ok, Err, MatchResult}
 use Rattle.std.specs.List.{AllByRecursion}
+use Rattle.ash_journal.specs.declared.error.OpenFault.{OpenFault}
+use Rattle.ash_journal.specs.declared.error.OpenFault.TheVariants as opening
 use Rattle.ash_journal.specs.declared.record.Record.{Record}
 use Rattle.ash_journal.specs.Current.{Contents}
 use Rattle.ash_journal.specs.Layout.{header_size}
@@ -84,21 +86,22 @@ AreOfOthers registered contents = (text : List ℕ) × AreShaped text contents �
 abbrev pub ReadsAs : List Registration → Contents → Result StateRead StoreFault → Type 0
 ReadsAs registered contents (Ok read) =
     (read.state.registered ≡ registered) × IsStateOf read.state contents × AreIn read.version contents
-ReadsAs registered contents (Err (faults.Damaged at)) = IsMisshapen contents at ⊎ IsNotAdmitted registered contents at
+ReadsAs registered contents (Err (faults.Open (opening.Damaged at))) =
+    IsMisshapen contents at ⊎ IsNotAdmitted registered contents at
+ReadsAs registered contents (Err (faults.Open opening.NoMemory)) = Unit {0}
 ReadsAs registered contents (Err faults.OtherInterface) = AreOfOthers registered contents
-ReadsAs registered contents (Err faults.NoMemory) = Unit {0}
 ReadsAs registered contents (Err _) = ⊥
 
 -- ---- the steps of the reading
 
 -- what is reported is damage at an offset of which P holds, or that memory was refused
-abbrev pub ReportsDamage : (ℕ → Type 0) → StoreFault → Type 0
-ReportsDamage P (faults.Damaged at) = P at
-ReportsDamage P faults.NoMemory = Unit {0}
+abbrev pub ReportsDamage : (ℕ → Type 0) → OpenFault → Type 0
+ReportsDamage P (opening.Damaged at) = P at
+ReportsDamage P opening.NoMemory = Unit {0}
 ReportsDamage P _ = ⊥
 
 -- an image is read as what it is the image of, or it is the image of nothing
-abbrev pub ReadsImage : List ℕ → Result StoredImage StoreFault → Type 0
+abbrev pub ReadsImage : List ℕ → Result StoredImage OpenFault → Type 0
 ReadsImage image result =
     MatchResult result (λ stored. IsImage image stored.version (snapshot_of stored.state))
     (ReportsDamage (λ at. IsNoImage image × (at ≡ 0)))
@@ -110,21 +113,21 @@ FirstRecordWithout P (r ∷ records) at =
     ((P r.body.items → ⊥) × (at ≡ r.gate)) ⊎ (P r.body.items × FirstRecordWithout P records at)
 
 -- all records have this version and this text of what was registered, or the first that has not is reported
-abbrev pub ChecksShapes : Version → List ℕ → List Record → Result (Unit {0}) StoreFault → Type 0
+abbrev pub ChecksShapes : Version → List ℕ → List Record → Result (Unit {0}) OpenFault → Type 0
 ChecksShapes version text records result =
     MatchResult result (λ u. AllByRecursion (IsBodyWith version text) (bodies_of records))
     (ReportsDamage (FirstRecordWithout (IsBodyWith version text) records))
 
 -- The state that was stored is one that a host with this registered may be in, and is given; or it is none, and damage
 -- is reported at this offset.
-abbrev pub Restores : List Registration → Snapshot → ℕ → Result HostState StoreFault → Type 0
+abbrev pub Restores : List Registration → Snapshot → ℕ → Result HostState OpenFault → Type 0
 Restores registered s offset result =
     MatchResult result (λ state. IsRestored registered s (Some state))
     (ReportsDamage (λ at. IsRestored registered s None × (at ≡ offset)))
 
 -- A record leads to the given state, which a host with this registered may be in; or it leads to none, and damage is
 -- reported at the offset of its gate.
-abbrev pub LeadsOn : List Registration → List ℕ → ℕ → Result HostState StoreFault → Type 0
+abbrev pub LeadsOn : List Registration → List ℕ → ℕ → Result HostState OpenFault → Type 0
 LeadsOn registered body gate result =
     MatchResult result
     (λ state. (state.registered ≡ registered) × IsBodyOf body state)
@@ -132,7 +135,7 @@ LeadsOn registered body gate result =
 
 -- Records lead from a state to the given one; or the first of them is reported that leads to none which a host with the
 -- same registered may be in.
-abbrev pub LeadsThrough : HostState → List Record → Result HostState StoreFault → Type 0
+abbrev pub LeadsThrough : HostState → List Record → Result HostState OpenFault → Type 0
 LeadsThrough before records result =
     MatchResult result
     (λ after. LeadAll (bodies_of records) before after)

@@ -2,6 +2,7 @@ pub mod Contents
 pub mod Faults
 pub mod Hosting
 pub mod Lives
+pub mod OpenedStore
 pub mod Replies
 pub mod Requests
 pub mod Running

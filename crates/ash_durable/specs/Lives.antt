@@ -13,11 +13,11 @@ use Rattle.ash_sources.specs.SourceFaults.{SourceFault}
 use Rattle.ash_states.specs.States.{HostState, empty}
 use Rattle.ash_states.specs.Steps.{Steps}
 use Rattle.ash_durable.specs.Hosting.{Hosted, first, second, IsRunning, IsSaved, IsAnswer, Handles}
+use Rattle.ash_durable.specs.OpenedStore.{WasOpened, WasRefused, Opens, first_found, second_found}
 use Rattle.ash_durable.specs.Running.{LosesAnswer}
 use Rattle.ash_durable.specs.States.{AreHonest, SettleNow, IsOne, IsEither}
-use Rattle.ash_durable.specs.Store.{WereOnlyRead, WasCreated, WasNotMade, WasOpened, WasRefused, Creates, Opens}
-use Rattle.ash_durable.specs.Store.{first_found, second_found}
-use Rattle.ash_durable.specs.declared.fault.OpenRefused.{OpenRefused}
+use Rattle.ash_durable.specs.Store.{WereOnlyRead, WasCreated, WasNotMade, Creates}
+use Rattle.ash_durable.specs.declared.fault.HostRefused.{HostRefused}
 
 -- ---- events
 
@@ -105,11 +105,11 @@ IsOneOpen device one other =
     ⊎ IsOpen y
 
 -- the disks that are left of creating a host, or opening one, be it refused
-abbrev pub first_of : {D : Type 0} → Result (Hosted D) (OpenRefused D) → D
+abbrev pub first_of : {D : Type 0} → Result (Hosted D) (HostRefused D) → D
 first_of (Ok host) = first host
 first_of (Err refused) = refused.a
 
-abbrev pub second_of : {D : Type 0} → Result (Hosted D) (OpenRefused D) → D
+abbrev pub second_of : {D : Type 0} → Result (Hosted D) (HostRefused D) → D
 second_of (Ok host) = second host
 second_of (Err refused) = refused.b
 
@@ -137,11 +137,11 @@ pub data Life {D : Type 0} (device : Device D) (registered : List Registration) 
   Created : (a b : D) (host : Hosted D) → AreHonest device a b → WasCreated device registered a b host
       → Life device registered [] (UnderHost host)
   -- a crash while it is, or after that was refused, leaves a file open
-  CrashedCreating : (a b : D) (result : Result (Hosted D) (OpenRefused D)) (a' b' : D) → AreFresh device a b
+  CrashedCreating : (a b : D) (result : Result (Hosted D) (HostRefused D)) (a' b' : D) → AreFresh device a b
       → Creates device registered a b result → Crashed device (device.clock a) (device.clock b) (first_of result)
       (second_of result) a' b' → IsOneOpen device a' b' → Life device registered [] (OnDisks a' b')
   -- after such a crash, or a refusal, a host is opened at once
-  OpenedCreating : (a b : D) (result : Result (Hosted D) (OpenRefused D)) (a' b' : D) (host : Hosted D)
+  OpenedCreating : (a b : D) (result : Result (Hosted D) (HostRefused D)) (a' b' : D) (host : Hosted D)
       → AreFresh device a b → Creates device registered a b result
       → Crashed device (device.clock a) (device.clock b) (first_of result) (second_of result) a' b'
       → (opened : WasOpened device registered a' b' host)
@@ -182,29 +182,29 @@ pub data Life {D : Type 0} (device : Device D) (registered : List Registration) 
       → (opened : WasOpened device registered a b host)
       → Life device registered (Found opened.state ∷ events) (UnderHost host)
   -- that is refused, whatever is registered with the host
-  Refused : (events : List Event) (others : List Registration) (a b : D) (refused : OpenRefused D)
+  Refused : (events : List Event) (others : List Registration) (a b : D) (refused : HostRefused D)
       → Life device registered events (OnDisks a b) → WasRefused device others a b refused
       → Life device registered events (OnDisks refused.a refused.b)
   -- a crash while a host is opened, be it refused, until the generation that is found is repaired
   CrashedOpening : (events : List Event) (others : List Registration) (a b : D)
-      (result : Result (Hosted D) (OpenRefused D)) (a' b' : D) → Life device registered events (OnDisks a b)
+      (result : Result (Hosted D) (HostRefused D)) (a' b' : D) → Life device registered events (OnDisks a b)
       → (opens : Opens device others a b result)
       → Crashed device (device.clock a) (device.clock b) (first_found device others a b result opens)
       (second_found device others a b result opens) a' b' → Life device registered events (OnDisks a' b')
   -- a crash from then on, while that generation is moved to version 2
   CrashedMoving : (events : List Event) (others : List Registration) (a b : D)
-      (result : Result (Hosted D) (OpenRefused D)) (a' b' : D) → Life device registered events (OnDisks a b)
+      (result : Result (Hosted D) (HostRefused D)) (a' b' : D) → Life device registered events (OnDisks a b)
       → (opens : Opens device others a b result)
       → Crashed device (device.clock (first_found device others a b result opens))
       (device.clock (second_found device others a b result opens)) (first_of result) (second_of result) a' b'
       → Life device registered events (OnDisks a' b')
   -- a host is to be created where the store is, and is refused
-  NotCreated : (events : List Event) (others : List Registration) (a b : D) (refused : OpenRefused D)
+  NotCreated : (events : List Event) (others : List Registration) (a b : D) (refused : HostRefused D)
       → Life device registered events (OnDisks a b) → WasNotMade device (empty others) a b refused
       → Life device registered events (OnDisks refused.a refused.b)
   -- a crash while a host is to be created there
   CrashedNotCreating : (events : List Event) (others : List Registration) (a b : D)
-      (result : Result (Hosted D) (OpenRefused D)) (a' b' : D) → Life device registered events (OnDisks a b)
+      (result : Result (Hosted D) (HostRefused D)) (a' b' : D) → Life device registered events (OnDisks a b)
       → Creates device others a b result → Crashed device (device.clock a) (device.clock b) (first_of result)
       (second_of result) a' b' → Life device registered events (OnDisks a' b')
   -- the disks are read or synced by somebody else

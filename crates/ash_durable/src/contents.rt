@@ -10,9 +10,10 @@ ghost use Rattle.ash_state_image.specs.Views.{snapshot_of};
 ghost use Rattle.ash_state_image.specs.declared.version.Version.{Version};
 ghost use Rattle.ash_durable.specs.Contents.{after_image, IsBodyWith, ReadsAs, ReadsImage};
 ghost use Rattle.ash_durable.specs.Contents.{ChecksShapes, Restores, LeadsOn, LeadsThrough};
+ghost use Rattle.ash_durable.specs.Faults.{IsFailed};
 
 use crate::fault::StoreFault;
-use ash_journal::Record;
+use ash_journal::{OpenFault, Record};
 use ash_registry::Registry;
 use ash_state_image::image::{read_body, read_image};
 use ash_state_image::stored::{StoredImage, StoredState};
@@ -28,12 +29,12 @@ pub struct StateRead {
 }
 
 /// The state of a generation's image, before it is known whether a host with the registry may be in it.
-fn stored_image(alloc: Global, image: &[u8]) -> Result<StoredImage, StoreFault>
+fn stored_image(alloc: Global, image: &[u8]) -> Result<StoredImage, OpenFault>
     ensures { ReadsImage image.now result }
 {
     match read_image(alloc, image)? {
         Some(stored) => Ok(stored),
-        None => Err(StoreFault::Damaged(0)),
+        None => Err(OpenFault::Damaged(0)),
     }
 }
 
@@ -69,12 +70,12 @@ fn check_shapes(
     version: Version,
     registered: &str,
     records: &[Record],
-) -> Result<(), StoreFault>
+) -> Result<(), OpenFault>
     ensures { ChecksShapes version registered.now records.now result }
 {
     for record in records {
         if !has_shape(alloc, version, registered, &record.body)? {
-            return Err(StoreFault::Damaged(record.gate));
+            return Err(OpenFault::Damaged(record.gate));
         }
     }
     Ok(())
@@ -86,31 +87,31 @@ fn restore(
     registry: Registry,
     stored: StoredState,
     offset: u64,
-) -> Result<HostState, StoreFault>
+) -> Result<HostState, OpenFault>
     requires { IsShaped (snapshot_of stored) }
     ensures { Restores (registered registry) (snapshot_of stored) offset result }
 {
     match HostState::restore(alloc, registry, stored)? {
         Some(state) => Ok(state),
-        None => Err(StoreFault::Damaged(offset)),
+        None => Err(OpenFault::Damaged(offset)),
     }
 }
 
 /// The state to which the next record leads, where a host with this registry may be in it; else damage at the gate
 /// before the record.
-fn next_state(alloc: Global, registry: Registry, next: &Record) -> Result<HostState, StoreFault>
+fn next_state(alloc: Global, registry: Registry, next: &Record) -> Result<HostState, OpenFault>
     requires { (version : Version)
         × IsBodyWith version (text_of (registered registry)) next.now.body.items }
     ensures { LeadsOn (registered registry) next.now.body.items next.now.gate result }
 {
     match read_body(alloc, &next.body)? {
         Some(stored) => restore(alloc, registry, stored.state, next.gate),
-        None => Err(StoreFault::Damaged(next.gate)),
+        None => Err(OpenFault::Damaged(next.gate)),
     }
 }
 
 /// The state to which records lead from this one. A host with its registry has to be allowed each state on the way.
-fn last_state(alloc: Global, first: HostState, records: &[Record]) -> Result<HostState, StoreFault>
+fn last_state(alloc: Global, first: HostState, records: &[Record]) -> Result<HostState, OpenFault>
     requires { (version : Version)
         × AllByRecursion (IsBodyWith version (text_of first.registered)) (bodies_of records.now) }
     ensures { LeadsThrough first records.now result }
@@ -124,10 +125,11 @@ fn last_state(alloc: Global, first: HostState, records: &[Record]) -> Result<Hos
 
 /// The state of an image and the records after it, with this registry, and their version.
 ///
-/// Faults, the first that holds: `Damaged` where the image or a record has not its shape, or a record has another
-/// version or another text of what was registered than the image; `OtherInterface` where that text is not this
-/// registry's; `Damaged` where no host with this registry may be in the state of the image, and then of a record. An
-/// offset is that of the gate before the record, or 0 for the image. `NoMemory` may come at any time.
+/// Faults, each a `StoreFault::Open` but `OtherInterface`, the first that holds: `Damaged` where the image or a record
+/// has not its shape, or a record has another version or another text of what was registered than the image;
+/// `OtherInterface` where that text is not this registry's; `Damaged` where no host with this registry may be in the
+/// state of the image, and then of a record. An offset is that of the gate before the record, or 0 for the image.
+/// `NoMemory` may come at any time.
 pub fn state_in(
     alloc: Global,
     registry: Registry,
@@ -135,7 +137,7 @@ pub fn state_in(
     records: &[Record],
 ) -> Result<StateRead, StoreFault>
     ensures registered { IfOk result (λ read. read.state.registered ≡ registered registry) }
-    ensures cause { IfErr result (λ fault. fault ≡ StoreFault.DeviceFailed → ⊥) }
+    ensures cause { IfErr result (λ fault. IsFailed fault → ⊥) }
     ensures reads { AreAt (after_image image.now) records.now
         → ReadsAs (registered registry) (image.now, bodies_of records.now) result }
 {

@@ -10,12 +10,13 @@ ghost use Rattle.ash_durable.specs.Hosting.{first, second, Handles, HandlesAll, 
 ghost use Rattle.ash_durable.specs.Hosting.{IsInstalled, IsRunning, RefusesFirst, WantsInstall};
 ghost use Rattle.ash_durable.specs.Hosting.{reply_stopped};
 ghost use Rattle.ash_durable.specs.Lives.{LivesOn};
+ghost use Rattle.ash_durable.specs.OpenedStore.{Opens, OpensAgain};
 ghost use Rattle.ash_durable.specs.Replies.{done_of, reply_of};
 ghost use Rattle.ash_durable.specs.Requests.{Commits, MakesRoom, TriesInstall};
 ghost use Rattle.ash_durable.specs.Running.{RunsToFailure};
-ghost use Rattle.ash_durable.specs.Store.{Creates, Opens, OpensAgain};
+ghost use Rattle.ash_durable.specs.Store.{Creates};
 
-use crate::fault::OpenRefused;
+use crate::fault::HostRefused;
 use crate::saving::{add_state, install_state};
 use crate::store::{find, make};
 use ash_disk::Disk;
@@ -71,10 +72,11 @@ impl<D: Disk> Host<D> {
     /// Makes a store on two disks, and a host with this registry and no module, before any request. The first
     /// generation, on the disk `a`, holds that state.
     ///
-    /// Faults, the first that holds: `DeviceFailed`, `AlreadyThere` where a file is open, `NoMemory`. Nothing is
-    /// written where one of the last two is returned. A crash on the way leaves no file open, or the store of a host
-    /// that has answered nothing, where each file had one byte at the most before, or 0 for its first.
-    pub fn create(alloc: Global, a: D, b: D, registry: Registry) -> Result<Host<D>, OpenRefused<D>>
+    /// Faults, each a `StoreFault::Create`, the first that holds: `DeviceFailed`, `AlreadyThere` where a file is open,
+    /// `NoMemory`. Nothing is written where one of the last two is returned. A crash on the way leaves no file open, or
+    /// the store of a host that has answered nothing, where each file had one byte at the most before, or 0 for its
+    /// first.
+    pub fn create(alloc: Global, a: D, b: D, registry: Registry) -> Result<Host<D>, HostRefused<D>>
         ensures created { Creates D.Disk (registered registry) a b result }
     {
         let state = HostState::new(alloc, registry);
@@ -93,13 +95,13 @@ impl<D: Disk> Host<D> {
     /// the same records as before. A generation of version 1 is then moved: one of version 2 with the same state,
     /// without records, is installed in the other file, and a crash on the way leaves the one or the other.
     ///
-    /// Faults, the first that holds: `DeviceFailed`; `NoGeneration` where no file is open; `Damaged` where bytes have
-    /// not the shape of a generation, an image or a record, or a record has not its image's version; `OtherInterface`
-    /// where the store was made with a registry of another text; `Damaged` where no host with the registry may be in a
-    /// state; `GenerationSpent` where the generation is of version 1, and its number is 2^64 - 1. `NoMemory` where
-    /// there is none to read into, or none for the generation of version 2. But for `DeviceFailed` in the last steps,
-    /// both disks read as before.
-    pub fn open(alloc: Global, a: D, b: D, registry: Registry) -> Result<Host<D>, OpenRefused<D>>
+    /// Faults, each a `StoreFault::Open` but `OtherInterface` and `GenerationSpent`, the first that holds:
+    /// `DeviceFailed`; `NoGeneration` where no file is open; `Damaged` where bytes have not the shape of a generation,
+    /// an image or a record, or a record has not its image's version; `OtherInterface` where the store was made with a
+    /// registry of another text; `Damaged` where no host with the registry may be in a state; `GenerationSpent` where
+    /// the generation is of version 1, and its number is 2^64 - 1. `NoMemory` where there is none to read into, or none
+    /// for the generation of version 2. But for `DeviceFailed` in the last steps, both disks read as before.
+    pub fn open(alloc: Global, a: D, b: D, registry: Registry) -> Result<Host<D>, HostRefused<D>>
         ensures opened { Opens D.Disk (registered registry) a b result }
     {
         let found = find(alloc, registry, a, b)?;
@@ -135,7 +137,7 @@ impl<D: Disk> Host<D> {
     /// It is what `open` gives of the disks that are handed back, whether the host ran or not.
     ///
     /// Faults are those of `open`.
-    pub fn reopen(self) -> Result<Host<D>, OpenRefused<D>>
+    pub fn reopen(self) -> Result<Host<D>, HostRefused<D>>
         ensures opens { Opens D.Disk self.registered (first self) (second self) result }
         ensures again { OpensAgain D.Disk self result }
     {

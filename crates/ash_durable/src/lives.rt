@@ -1,11 +1,12 @@
 //! The life of a store, as a theorem.
 
 ghost use Rattle.std.specs.Prelude.{ℕ, List, ◌∷◌, ◌++◌};
+ghost use Rattle.ash_durable.specs.Faults.{MayRefuse};
 ghost use Rattle.ash_durable.specs.Lives.{AreLeft, BeginWith, Crashed, Event, IsPrefixAt, LeadBy};
 ghost use Rattle.ash_durable.specs.Lives.{Life, OnDisks, Outlives, Place, first_at, second_at};
+ghost use Rattle.ash_durable.specs.OpenedStore.{WasRefused};
 ghost use Rattle.ash_durable.specs.States.{AreHonest, SettleNow};
-ghost use Rattle.ash_durable.specs.Store.{MayRefuse, WasRefused};
-ghost use Rattle.ash_durable.specs.declared.fault.OpenRefused.{OpenRefused};
+ghost use Rattle.ash_durable.specs.declared.fault.HostRefused.{HostRefused};
 ghost use Rattle.ash_registry.specs.Registrations.{Registration};
 ghost use Rattle.ash_states.specs.States.{empty};
 
@@ -40,7 +41,7 @@ pub fn nothing_acknowledged_is_lost<D: Disk>()
     ensures prefix { (registered : List Registration) (events : List Event) (place : Place D)
         → Life D.Disk registered events place → IsPrefixAt events place }
     ensures opens { (registered : List Registration) (events : List Event) (a b : D)
-        (refused : OpenRefused D)
+        (refused : HostRefused D)
         → Life D.Disk registered events (OnDisks a b) → WasRefused D.Disk registered a b refused
         → MayRefuse refused.fault }
 {}

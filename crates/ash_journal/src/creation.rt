@@ -99,19 +99,11 @@ pub(crate) fn create_both<D: Disk>(
     ensures cause { CountsFailuresOf D.Disk (IsErrOf result CreateFault.DeviceFailed)
         first.old second.old first.new second.new }
 {
-    let headers = match read_headers(first, second) {
-        Ok(headers) => headers,
-        Err(_) => return Err(CreateFault::DeviceFailed),
-    };
+    let headers = read_headers(first, second)?;
     let Some((one, two)) = both_closed(&headers) else {
         return Err(CreateFault::AlreadyThere);
     };
-    let bytes = match generation_bytes(alloc, 1, image) {
-        Ok(bytes) => bytes,
-        Err(_) => return Err(CreateFault::NoMemory),
-    };
-    match start(first, one, second, two, &bytes) {
-        Ok(()) => Ok(()),
-        Err(_) => Err(CreateFault::DeviceFailed),
-    }
+    let bytes = generation_bytes(alloc, 1, image)?;
+    start(first, one, second, two, &bytes)?;
+    Ok(())
 }

@@ -2,7 +2,11 @@
 
 ghost use Rattle.std.specs.Prelude.{◌≡◌};
 ghost use Rattle.ash_journal.specs.FaultCodes.{append_code, create_code, install_code, open_code};
+ghost use Rattle.ash_journal.specs.declared.error.CreateFault.TheVariants as create_faults;
+ghost use Rattle.ash_journal.specs.declared.error.OpenFault.TheVariants as open_faults;
 
+use ash_disk::DeviceFailed;
+use std::alloc::AllocError;
 use thiserror::Error;
 
 /// Why no record was added.
@@ -62,7 +66,7 @@ pub enum OpenFault {
     #[error("a device failed")]
     DeviceFailed,
     /// Neither file is open.
-    #[error("no file of the journal is open")]
+    #[error("neither file is open: nothing was ever stored in them")]
     NoGeneration,
     /// The bytes are no generation: at 0 the magic, the number or the image, elsewhere the record after the gate at
     /// this offset in the current file.
@@ -87,6 +91,22 @@ impl OpenFault {
     }
 }
 
+impl From<DeviceFailed> for OpenFault {
+    ghost from_gives = { λ _ fault. fault ≡ open_faults.DeviceFailed };
+
+    fn from(_: DeviceFailed) -> Self {
+        OpenFault::DeviceFailed
+    }
+}
+
+impl From<AllocError> for OpenFault {
+    ghost from_gives = { λ _ fault. fault ≡ open_faults.NoMemory };
+
+    fn from(_: AllocError) -> Self {
+        OpenFault::NoMemory
+    }
+}
+
 /// Why no journal was created.
 #[derive(Clone, Copy, Debug, PartialEq, Eq, Drop, Error)]
 pub enum CreateFault {
@@ -94,7 +114,7 @@ pub enum CreateFault {
     #[error("a device failed")]
     DeviceFailed,
     /// A file is open. Nothing was written.
-    #[error("a file of the journal is open already")]
+    #[error("a file is open already")]
     AlreadyThere,
     /// Memory was refused, and nothing was written.
     #[error("memory was refused")]
@@ -111,5 +131,21 @@ impl CreateFault {
             CreateFault::AlreadyThere => "502 AlreadyThere",
             CreateFault::NoMemory => "509 NoMemory",
         }
+    }
+}
+
+impl From<DeviceFailed> for CreateFault {
+    ghost from_gives = { λ _ fault. fault ≡ create_faults.DeviceFailed };
+
+    fn from(_: DeviceFailed) -> Self {
+        CreateFault::DeviceFailed
+    }
+}
+
+impl From<AllocError> for CreateFault {
+    ghost from_gives = { λ _ fault. fault ≡ create_faults.NoMemory };
+
+    fn from(_: AllocError) -> Self {
+        CreateFault::NoMemory
     }
 }

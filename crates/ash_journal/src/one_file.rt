@@ -113,10 +113,8 @@ fn read_size<D: Disk>(disk: &mut D, at: u64) -> Result<u32, OpenFault>
         (D.failures disk.old) (D.failures disk.new) }
 {
     let mut size = [0; 4];
-    match disk.read(at, &mut size) {
-        Ok(()) => Ok(size_of(&size)),
-        Err(_) => Err(OpenFault::DeviceFailed),
-    }
+    disk.read(at, &mut size)?;
+    Ok(size_of(&size))
 }
 
 fn read_bytes<D: Disk>(
@@ -134,14 +132,9 @@ fn read_bytes<D: Disk>(
     ensures cause { Counts (IsErrOf result OpenFault.DeviceFailed)
         (D.failures disk.old) (D.failures disk.new) }
 {
-    let mut bytes = match vec![in alloc; 0; size] {
-        Ok(bytes) => bytes,
-        Err(_) => return Err(OpenFault::NoMemory),
-    };
-    match disk.read(at, &mut bytes) {
-        Ok(()) => Ok(bytes),
-        Err(_) => Err(OpenFault::DeviceFailed),
-    }
+    let mut bytes = vec![in alloc; 0; size]?;
+    disk.read(at, &mut bytes)?;
+    Ok(bytes)
 }
 
 /// The block from an offset on in a file of this length, or `None` where it is cut short.

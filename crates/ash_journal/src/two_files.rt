@@ -195,20 +195,9 @@ pub(crate) fn read_both<D: Disk>(
     ensures cause { CountsFailuresOf D.Disk (IsErrOf result OpenFault.DeviceFailed)
         first.old second.old first.new second.new }
 {
-    match sync_both(first, second) {
-        Ok(()) => {}
-        Err(_) => return Err(OpenFault::DeviceFailed),
-    }
-    let headers = match read_headers(first, second) {
-        Ok(headers) => headers,
-        Err(_) => return Err(OpenFault::DeviceFailed),
-    };
-    let choice = match choose(headers.first, headers.second) {
-        Ok(choice) => choice,
-        Err(fault) => return Err(fault),
-    };
-    match read_chosen(alloc, first, second, &headers, choice) {
-        Ok(file) => Ok(ReadFiles { choice, file }),
-        Err(fault) => Err(fault),
-    }
+    sync_both(first, second)?;
+    let headers = read_headers(first, second)?;
+    let choice = choose(headers.first, headers.second)?;
+    let file = read_chosen(alloc, first, second, &headers, choice)?;
+    Ok(ReadFiles { choice, file })
 }

@@ -4,7 +4,7 @@ use crate::checks::check;
 use crate::fuses::{Failing, fuses};
 use crate::plans::{Plan, Reached, Step, Stopped, handle_plan};
 use ash_disk::{MemoryDisk, Survives};
-use ash_durable::{Host, StoreFault};
+use ash_durable::{Host, OpenFault, StoreFault};
 use ash_registry::Registry;
 use ash_store_fixtures::hosts::{
     SOURCE, State, add, closed, disk, found_state, image_after, load, need, opened, state,
@@ -140,7 +140,10 @@ pub(crate) fn is_held(
 ) -> Result<bool, Fail> {
     match states_of(alloc, plan.source, first, second)? {
         Ok((before, after)) => Ok(plan.is_state(done, before) && after == state_after(before)),
-        Err(fault) => Ok(plan.is_new && done == 0 && fault == StoreFault::NoGeneration),
+        Err(fault) => {
+            let is_nothing = fault == StoreFault::Open(OpenFault::NoGeneration);
+            Ok(plan.is_new && done == 0 && is_nothing)
+        }
     }
 }
 

@@ -3,7 +3,7 @@
 use crate::checks::{check, check_bytes};
 use crate::store::{file_with, loaded};
 use ash_disk::MemoryDisk;
-use ash_durable::StoreFault;
+use ash_durable::{OpenFault, StoreFault};
 use ash_registry::Registry;
 use ash_store_fixtures::hosts::{closed, disk, found, opened};
 use ash_store_fixtures::lives::{File, bytes_of};
@@ -11,17 +11,17 @@ use std::alloc::{AllocError, Global};
 use std::process::Abort;
 use std::test::Fail;
 
-/// What opening gives a store: its number, or why it isn't opened.
-type Found = Result<u64, StoreFault>;
+/// What opening is to give a store: its number, or the fault of its files.
+type Found = Result<u64, OpenFault>;
 
-const DAMAGED: Found = Err(StoreFault::Damaged(0));
+const DAMAGED: Found = Err(OpenFault::Damaged(0));
 
 /// Where a file is cut: from these lengths on, this is what opening gives it.
 type Cut = (usize, Found);
 
 /// What opening gives a file that is cut to so many bytes.
 fn wanted_of(cuts: &[Cut], length: usize) -> Found {
-    let mut wanted = Err(StoreFault::NoGeneration);
+    let mut wanted = Err(OpenFault::NoGeneration);
     for (from, found) in cuts {
         if length >= *from {
             wanted = *found;
@@ -33,9 +33,9 @@ fn wanted_of(cuts: &[Cut], length: usize) -> Found {
 // Of a store with one record. Its first gate counts where something follows, and the first image ends at 50, where the
 // gate before the record is. The record and the next gate end at 94.
 static CUTS_OF_LOADED: [Cut; 4] = [
-    (0, Err(StoreFault::NoGeneration)),
+    (0, Err(OpenFault::NoGeneration)),
     (2, DAMAGED),
-    (51, Err(StoreFault::Damaged(50))),
+    (51, Err(OpenFault::Damaged(50))),
     (94, Ok(1)),
 ];
 
@@ -51,10 +51,10 @@ static CUT_FILES: [CutFile; 2] = [
         File::Written(1, (0, None), &[(1, Some(2)), (2, Some(7))], &[1, 2, 3]),
         237 + 3,
         &[
-            (0, Err(StoreFault::NoGeneration)),
+            (0, Err(OpenFault::NoGeneration)),
             (2, DAMAGED),
-            (51, Err(StoreFault::Damaged(50))),
-            (144, Err(StoreFault::Damaged(143))),
+            (51, Err(OpenFault::Damaged(50))),
+            (144, Err(OpenFault::Damaged(143))),
             (237, Ok(2)),
         ],
     ),
@@ -64,7 +64,7 @@ static CUT_FILES: [CutFile; 2] = [
         File::Written(2, (2, Some(7)), &[], &[]),
         109,
         &[
-            (0, Err(StoreFault::NoGeneration)),
+            (0, Err(OpenFault::NoGeneration)),
             (2, DAMAGED),
             (109, Ok(2)),
         ],
@@ -80,7 +80,8 @@ fn check_cut(
     what: &str,
 ) -> Result<(), Fail> {
     let found = (cut.len(), found(alloc, cut, &[0])?);
-    let wanted = (cut.len(), wanted_of(cuts, cut.len()));
+    let wanted = wanted_of(cuts, cut.len()).map_err(StoreFault::Open);
+    let wanted = (cut.len(), wanted);
     check(rt, &found, &wanted, what);
     Ok(())
 }
@@ -143,33 +144,33 @@ fn number_with(place: usize, byte: u8) -> u64 {
 fn wanted_of_loaded(place: usize, byte: u8) -> Found {
     match place {
         // The gate of the file.
-        0 => Err(StoreFault::NoGeneration),
+        0 => Err(OpenFault::NoGeneration),
         // The generation, which no other file is open beside, and what is in the image before the state in the record:
         // the number, and the last number of an object.
         9..=16 | 27..=42 => Ok(1),
         // An image of version 1, beside a record of version 2.
-        21 if byte == 1 => Err(StoreFault::Damaged(50)),
+        21 if byte == 1 => Err(OpenFault::Damaged(50)),
         // The length of the image. Two lengths lead to a byte 1 of the record, at 80 and 81, as the gate of a record
         // that is cut; from the others none is found, or a whole one after an image of another length.
-        17 if byte == 59 => Err(StoreFault::Damaged(80)),
-        17 if byte == 60 => Err(StoreFault::Damaged(81)),
+        17 if byte == 59 => Err(OpenFault::Damaged(80)),
+        17 if byte == 60 => Err(OpenFault::Damaged(81)),
         // What the file is known by, and the rest of the image.
         1..=8 | 17..=26 | 43..=49 => DAMAGED,
         // The gate before the record, which then counts no more.
         50 => Ok(0),
         // The length of the body, of which the same is to be said.
-        51 if byte == 25 => Err(StoreFault::Damaged(80)),
-        51 if byte == 26 => Err(StoreFault::Damaged(81)),
+        51 if byte == 25 => Err(OpenFault::Damaged(80)),
+        51 if byte == 26 => Err(OpenFault::Damaged(81)),
         // In the record the number, and the last number of an object.
         62..=69 => Ok(number_with(place.wrapping_sub(62), byte)),
         70..=77 => Ok(1),
         // The module's name, of one byte.
         82 if byte == b'_' || byte.is_ascii_alphabetic() => Ok(1),
         // The next gate, after which a record would be cut.
-        93 if byte == 1 => Err(StoreFault::Damaged(93)),
+        93 if byte == 1 => Err(OpenFault::Damaged(93)),
         93 => Ok(1),
         // The rest of the record.
-        _ => Err(StoreFault::Damaged(50)),
+        _ => Err(OpenFault::Damaged(50)),
     }
 }
 
@@ -181,7 +182,8 @@ fn check_place(rt: &impl Abort, alloc: Global, place: usize, old: u8) -> Result<
         }
         let file = changed(alloc, loaded(), place, byte)?;
         let found = (place, byte, found(alloc, &file, &[0])?);
-        let wanted = (place, byte, wanted_of_loaded(place, byte));
+        let wanted = wanted_of_loaded(place, byte).map_err(StoreFault::Open);
+        let wanted = (place, byte, wanted);
         check(rt, &found, &wanted, "another byte at a place");
     }
     Ok(())
@@ -202,8 +204,8 @@ type Changed = (usize, u8, Found);
 // A store whose state is all in its image, with a module of 45 bytes of source and one global.
 static CHANGED: [Changed; 24] = [
     // The gate.
-    (0, 0, Err(StoreFault::NoGeneration)),
-    (0, 2, Err(StoreFault::NoGeneration)),
+    (0, 0, Err(OpenFault::NoGeneration)),
+    (0, 2, Err(OpenFault::NoGeneration)),
     // What the file is known by, its generation, its image's length and version.
     (1, b'a', DAMAGED),
     (9, 0, Ok(2)),
@@ -231,15 +233,16 @@ static CHANGED: [Changed; 24] = [
     (99, 5, DAMAGED),
     (100, 9, Ok(2)),
     // The next gate, after which a record would be cut.
-    (108, 1, Err(StoreFault::Damaged(108))),
+    (108, 1, Err(OpenFault::Damaged(108))),
 ];
 
 /// Compares what opening a store gives whose file has another byte at a place.
 fn check_changed(rt: &impl Abort, alloc: Global, file: &[u8], row: Changed) -> Result<(), Fail> {
-    let (place, byte, _) = row;
+    let (place, byte, wanted) = row;
     let file = changed(alloc, file, place, byte)?;
     let found = (place, byte, found(alloc, &file, &[0])?);
-    check(rt, &found, &row, "another byte at a place");
+    let wanted = (place, byte, wanted.map_err(StoreFault::Open));
+    check(rt, &found, &wanted, "another byte at a place");
     Ok(())
 }
 

@@ -3,7 +3,7 @@
 use crate::checks::{check, check_bytes, check_text};
 use crate::fuses::{Failing, fuses};
 use ash_disk::{FailingDisk, MemoryDisk, Survives};
-use ash_durable::{Host, StoreFault};
+use ash_durable::{CreateFault, Host, OpenFault, StoreFault};
 use ash_plain_steps::request::Request;
 use ash_registry::Registry;
 use ash_steps::Argument;
@@ -15,6 +15,27 @@ use ash_store_fixtures::lives::{File, Step, bytes_of, lived_on_fuses};
 use std::alloc::Global;
 use std::process::Abort;
 use std::test::Fail;
+
+const ALREADY_THERE: StoreFault = StoreFault::Create(CreateFault::AlreadyThere);
+
+const SENTENCES: &str =
+    "a file is open already, neither file is open: nothing was ever stored in them, the file is damaged at byte 50, \
+    the store was made with another registration, \
+    the store is of version 1, and no generation is left for one of version 2";
+
+#[test]
+fn faults_are_sentences(rt: HostRuntime) -> Result<(), Fail> {
+    let text = format!(in rt.alloc();
+        "{}, {}, {}, {}, {}",
+        ALREADY_THERE,
+        StoreFault::Open(OpenFault::NoGeneration),
+        StoreFault::Open(OpenFault::Damaged(50)),
+        StoreFault::OtherInterface,
+        StoreFault::GenerationSpent
+    )?;
+    check_text(&rt, text.as_str(), SENTENCES, "the faults of a store");
+    Ok(())
+}
 
 /// Why no store is made over the disks of a used one, and these disks.
 fn made_again(alloc: Global) -> Result<(StoreFault, MemoryDisk, MemoryDisk), Fail> {
@@ -35,7 +56,7 @@ fn not_made(alloc: Global, a: &[u8], b: &[u8]) -> Result<Option<StoreFault>, Fai
 fn a_store_that_is_there(rt: HostRuntime) -> Result<(), Fail> {
     let (before, _) = closed(used(rt.alloc())?);
     let (fault, first, second) = made_again(rt.alloc())?;
-    check(&rt, &fault, &StoreFault::AlreadyThere, "over a used store");
+    check(&rt, &fault, &ALREADY_THERE, "over a used store");
     check_bytes(&rt, first.bytes(), before.bytes(), "the first disk");
     check_bytes(&rt, second.bytes(), &[0], "the second disk");
     Ok(())
@@ -52,14 +73,14 @@ static OVER: [Over; 2] = [
 fn check_not_made(rt: &impl Abort, alloc: Global, row: &Over) -> Result<(), Fail> {
     let (what, first, second) = *row;
     let made = not_made(alloc, first, second)?;
-    check(rt, &made, &Some(StoreFault::AlreadyThere), what);
+    check(rt, &made, &Some(ALREADY_THERE), what);
     Ok(())
 }
 
 /// Two files, and what opening them gives: a number, or why they are not opened.
 type Two = (&'static str, File, File, Result<u64, StoreFault>);
 
-const DAMAGED: Result<u64, StoreFault> = Err(StoreFault::Damaged(0));
+const DAMAGED: Result<u64, StoreFault> = Err(StoreFault::Open(OpenFault::Damaged(0)));
 
 // The file that is open is the current one, whichever it is.
 static TWO: [Two; 4] = [
@@ -291,19 +312,15 @@ fn reached(rt: &impl Abort, alloc: Global, calls: (u64, u64)) -> Option<u64> {
     let mut host = match fused(alloc, calls.0, calls.1) {
         Ok(host) => host,
         Err(fault) => {
-            check(
-                rt,
-                &(calls, fault),
-                &(calls, StoreFault::DeviceFailed),
-                "created by",
-            );
+            let wanted = StoreFault::Create(CreateFault::DeviceFailed);
+            check(rt, &(calls, fault), &(calls, wanted), "created by");
             return None;
         }
     };
     let (answered, number) = answers(&mut host);
     check(rt, &(calls, number), &(calls, answered), "answers by");
     match number_again(alloc, host) {
-        Err(StoreFault::DeviceFailed) => Some(answered),
+        Err(StoreFault::Open(OpenFault::DeviceFailed)) => Some(answered),
         opened => {
             check(rt, &(calls, opened), &(calls, Ok(2)), "opened by");
             Some(3)

@@ -5,7 +5,7 @@ use crate::checks::{check, check_bytes};
 use crate::crashes::{Crash, crash_of};
 use crate::fuses::{Failing, fuses};
 use ash_disk::{FailingDisk, MemoryDisk};
-use ash_durable::{Host, OpenRefused, StoreFault};
+use ash_durable::{Host, HostRefused, OpenFault, StoreFault};
 use ash_registry::Registry;
 use ash_store_fixtures::hosts::{closed, disk, image_after, inner, opened};
 use std::alloc::Global;
@@ -30,7 +30,7 @@ const VERSION_TWO: &[u8] = &[
 
 type Fused = FailingDisk<MemoryDisk>;
 
-fn found(alloc: Global, a: Fused, b: Fused) -> Result<Host<Fused>, OpenRefused<Fused>> {
+fn found(alloc: Global, a: Fused, b: Fused) -> Result<Host<Fused>, HostRefused<Fused>> {
     Host::open(alloc, a, b, Registry::new(alloc))
 }
 
@@ -48,7 +48,9 @@ fn opened_on_fuses(
             Ok((true, (inner(a), inner(b))))
         }
         Err(refused) => match refused.fault {
-            StoreFault::DeviceFailed => Ok((false, (inner(refused.a), inner(refused.b)))),
+            StoreFault::Open(OpenFault::DeviceFailed) => {
+                Ok((false, (inner(refused.a), inner(refused.b))))
+            }
             fault => Err(Fail::from(fault)),
         },
     }

@@ -1,7 +1,7 @@
 //! What is done to a store, up to the call at which a disk fails.
 
 use ash_disk::{FailingDisk, MemoryDisk};
-use ash_durable::{Host, OpenRefused, StoreFault};
+use ash_durable::{CreateFault, Host, HostRefused, OpenFault, StoreFault};
 use ash_registry::Registry;
 use ash_store_fixtures::hosts::{State, add, closed, inner, is_done, load, snapshot};
 use std::alloc::Global;
@@ -84,18 +84,18 @@ fn count_acknowledged(host: &mut Host<Fused>, source: &[u8], steps: &[Step]) -> 
     done
 }
 
-fn new_host(alloc: Global, a: Fused, b: Fused) -> Result<Host<Fused>, OpenRefused<Fused>> {
+fn new_host(alloc: Global, a: Fused, b: Fused) -> Result<Host<Fused>, HostRefused<Fused>> {
     Host::create(alloc, a, b, Registry::new(alloc))
 }
 
-fn open_host(alloc: Global, a: Fused, b: Fused) -> Result<Host<Fused>, OpenRefused<Fused>> {
+fn open_host(alloc: Global, a: Fused, b: Fused) -> Result<Host<Fused>, HostRefused<Fused>> {
     Host::open(alloc, a, b, Registry::new(alloc))
 }
 
 /// How many parts are acknowledged of a store that is made or opened and then serves, and its disks. Only a failure of
 /// a disk may keep it from that.
 fn served(
-    begun: Result<Host<Fused>, OpenRefused<Fused>>,
+    begun: Result<Host<Fused>, HostRefused<Fused>>,
     source: &[u8],
     steps: &[Step],
 ) -> Result<(usize, Fused, Fused), Fail> {
@@ -106,7 +106,8 @@ fn served(
             Ok((done.wrapping_add(1), first, second))
         }
         Err(refused) => match refused.fault {
-            StoreFault::DeviceFailed => Ok((0, refused.a, refused.b)),
+            StoreFault::Create(CreateFault::DeviceFailed)
+            | StoreFault::Open(OpenFault::DeviceFailed) => Ok((0, refused.a, refused.b)),
             fault => Err(Fail::from(fault)),
         },
     }

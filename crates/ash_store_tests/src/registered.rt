@@ -2,7 +2,7 @@
 
 use crate::checks::{check, check_bytes};
 use ash_disk::MemoryDisk;
-use ash_durable::{Host, StoreFault};
+use ash_durable::{Host, OpenFault, StoreFault};
 use ash_registry::{Registry, RegistryFault};
 use ash_store_fixtures::hosts::{
     closed, created, discard, disk, load, need, opened, second_generation, snapshot,
@@ -124,7 +124,7 @@ const OBJECT_9: &[u8] = &[6, 9, 0, 0, 0, 0, 0, 0, 0];
 
 const NULL: &[u8] = &[5];
 
-const DAMAGED: Option<StoreFault> = Some(StoreFault::Damaged(0));
+const DAMAGED: Option<StoreFault> = Some(StoreFault::Open(OpenFault::Damaged(0)));
 
 const OTHER: Option<StoreFault> = Some(StoreFault::OtherInterface);
 
@@ -168,7 +168,7 @@ static ROWS_OF_AN_IMAGE: [Row; 13] = [
     (Place::Image, Damage::Byte(88, 2), "Tale", OTHER),
 ];
 
-const RECORD_DAMAGED: Option<StoreFault> = Some(StoreFault::Damaged(62));
+const RECORD_DAMAGED: Option<StoreFault> = Some(StoreFault::Open(OpenFault::Damaged(62)));
 
 // The image is the empty one with that text, 41 bytes from 21 on, and the gate before the record is at 62. Its body has
 // 68 bytes: a tag and then the image with the module, from 68 on. The last `l` of its text is at 82, and the global's
@@ -249,7 +249,7 @@ static ROWS_OF_A_RECORD: [Row; 19] = [
     (Place::Record, Damage::Byte(135, 2), "Tale", OTHER),
 ];
 
-const LATER_DAMAGED: Option<StoreFault> = Some(StoreFault::Damaged(88));
+const LATER_DAMAGED: Option<StoreFault> = Some(StoreFault::Open(OpenFault::Damaged(88)));
 
 // The image with the module, whose word is at 79. The gate before the record is at 88, its length follows, and its tag
 // is at 93; the image in it is the empty one with the text, whose last `l` is at 108.
@@ -333,6 +333,8 @@ fn an_image_damaged_before_a_record(rt: HostRuntime) -> Result<(), Fail> {
     check_rows(&rt, rt.alloc(), &ROWS_OF_BOTH)
 }
 
+const TWICE_DAMAGED: Option<StoreFault> = Some(StoreFault::Open(OpenFault::Damaged(84)));
+
 /// The damage to a value in an image, and one to the shape of the record after it.
 fn damaged_twice(alloc: Global) -> Result<Vec<u8>, Fail> {
     let second = stored(alloc, Place::ImageBeforeRecord)?;
@@ -346,7 +348,7 @@ fn shapes_come_first(rt: HostRuntime) -> Result<(), Fail> {
     let file = damaged_twice(rt.alloc())?;
     for name in ["Tall", "Tale"] {
         let found = refusal(rt.alloc(), &file, name)?;
-        check(&rt, &found, &Some(StoreFault::Damaged(84)), name);
+        check(&rt, &found, &TWICE_DAMAGED, name);
     }
     Ok(())
 }

@@ -3,7 +3,7 @@
 
 use crate::checks::{Life, check, check_bytes, check_lives, check_run, check_text};
 use ash_disk::{MemoryDisk, Survives};
-use ash_durable::StoreFault;
+use ash_durable::{OpenFault, StoreFault};
 use ash_store_fixtures::hosts::{closed, crashed, found, second_generation, with_modules};
 use ash_store_fixtures::lives::{File, Run, Start, Step, disks_of, found_answers};
 use std::alloc::Global;
@@ -176,7 +176,8 @@ static CLOSED: [&[u8]; 5] = [&[], &[1], &[0, 1, 2], &[2; 60], &[0; 51]];
 fn no_store(rt: HostRuntime) -> Result<(), Fail> {
     for bytes in &CLOSED {
         let found = (*bytes, found(rt.alloc(), bytes, bytes)?);
-        check(&rt, &found, &(*bytes, Err(StoreFault::NoGeneration)), "of");
+        let wanted = (*bytes, Err(StoreFault::Open(OpenFault::NoGeneration)));
+        check(&rt, &found, &wanted, "of");
     }
     Ok(())
 }

@@ -3,7 +3,7 @@
 
 use crate::checks::{Life, check, check_lives};
 use crate::damage::changed;
-use ash_durable::{Host, StoreFault};
+use ash_durable::{Host, OpenFault, StoreFault};
 use ash_registry::Registry;
 use ash_store_fixtures::hosts::{
     EMPTY, State, add, closed, disk, found, found_state, need, opened,
@@ -100,7 +100,7 @@ fn records_of_another_version(rt: HostRuntime) -> Result<(), Fail> {
     check(
         &rt,
         &other,
-        &Err(StoreFault::Damaged(50)),
+        &Err(StoreFault::Open(OpenFault::Damaged(50))),
         "a record of version 2",
     );
     Ok(())

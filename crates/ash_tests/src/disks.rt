@@ -5,7 +5,7 @@ use crate::hosts::{
     check, check_text, closed, crashed, created, new_host, opened, opened_after_crash, replies,
 };
 use ash_disk::{FailingDisk, MemoryDisk, Survives};
-use ash_durable::{Host, StoreFault};
+use ash_durable::{CreateFault, Host, StoreFault};
 use ash_registry::Registry;
 use std::alloc::Global;
 use std::process::Abort;
@@ -46,7 +46,7 @@ fn calls_of_create(alloc: Global, failing: Failing) -> Result<u64, Fail> {
         let (first, second) = fuses(failing, calls);
         match fused(alloc, first, second) {
             Ok(_) => return Ok(calls),
-            Err(StoreFault::DeviceFailed) => {}
+            Err(StoreFault::Create(CreateFault::DeviceFailed)) => {}
             Err(fault) => return Err(Fail::from(fault)),
         }
     }

@@ -93,8 +93,8 @@ fn faults_have_numbers_and_names(rt: HostRuntime) -> Result<(), Fail> {
 
 const SENTENCES: &str =
     "a device failed, memory was refused, a device failed, the generation is the last that a number can have, \
-    memory was refused, no file of the journal is open, the file is damaged at byte 50, \
-    a file of the journal is open already";
+    memory was refused, neither file is open: nothing was ever stored in them, the file is damaged at byte 50, \
+    a file is open already";
 
 #[test]
 fn faults_are_sentences(rt: HostRuntime) -> Result<(), Fail> {

@@ -4,7 +4,7 @@ ghost use Rattle.std.specs.Prelude.{◌≡◌};
 ghost use Rattle.ash_serve.specs.Program.{code_of, status_of};
 
 use crate::fault::RunFault;
-use ash_durable::{OpenRefused, StoreFault};
+use ash_durable::{HostRefused, StoreFault};
 use ash_registry::RegistryFault;
 use std::alloc::AllocError;
 use thiserror::Error;
@@ -73,8 +73,8 @@ impl From<RegistryFault> for Fault {
     }
 }
 
-impl<D: Drop> From<OpenRefused<D>> for Fault {
-    fn from(refused: OpenRefused<D>) -> Self {
+impl<D: Drop> From<HostRefused<D>> for Fault {
+    fn from(refused: HostRefused<D>) -> Self {
         Fault::Store(refused.fault)
     }
 }

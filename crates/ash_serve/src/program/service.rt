@@ -1,7 +1,8 @@
 //! Serving from two disks: a host is opened or made on them, and runs.
 
 ghost use Rattle.std.specs.Prelude.{◌≡◌, Err};
-ghost use Rattle.ash_durable.specs.Store.{Creates, Opens};
+ghost use Rattle.ash_durable.specs.OpenedStore.{Opens};
+ghost use Rattle.ash_durable.specs.Store.{Creates};
 ghost use Rattle.ash_registry.specs.Registered.{registered};
 ghost use Rattle.ash_serve.specs.Service.{ServesHost, ServesFrom, service_remains, service_start};
 ghost use Rattle.ash_serve.specs.Serving.{run_state};
@@ -10,7 +11,7 @@ ghost use Rattle.ash_serve.specs.declared.program.fault.Fault.TheVariants as fau
 use super::fault::Fault;
 use crate::run::run;
 use ash_disk::Disk;
-use ash_durable::{Host, OpenRefused};
+use ash_durable::{Host, HostRefused};
 use ash_registry::Registry;
 use std::alloc::Global;
 use std::io::{Read, Write};
@@ -101,12 +102,12 @@ fn serve_host<D: Disk, R: Read + Drop, W: Write>(
 }
 
 /// Why there is no host, and the disks that it was to have.
-fn end_without_host<D>(refused: OpenRefused<D>) -> ServiceEnd<D>
+fn end_without_host<D>(refused: HostRefused<D>) -> ServiceEnd<D>
     ensures end { result.end ≡ Err (faults.Store refused.fault) }
     ensures a { result.a ≡ refused.a }
     ensures b { result.b ≡ refused.b }
 {
-    let OpenRefused { fault, a, b } = refused;
+    let HostRefused { fault, a, b } = refused;
     ServiceEnd {
         end: Err(Fault::Store(fault)),
         a,

@@ -2,7 +2,7 @@
 
 use super::fault::Fault;
 use ash_disk::FileDisk;
-use ash_durable::StoreFault;
+use ash_durable::{CreateFault, OpenFault, StoreFault};
 use std::alloc::{AllocError, Global};
 use std::fs::{File, Files, OpenOptions, TryLockError};
 use std::io;
@@ -26,9 +26,9 @@ impl Store {
         let (first, second) = paths(rt.alloc(), folder)?;
         let a = FileDisk::open(rt, first.as_str()).map_err(open_fault)?;
         let b = FileDisk::open(rt, second.as_str()).map_err(open_fault)?;
-        match lock_file(rt, first.as_str())? {
+        match lock_file(rt, first.as_str()).map_err(open_fault)? {
             Some(lock) => Ok(Store { a, b, lock }),
-            None => Err(Fault::Store(StoreFault::DeviceFailed)),
+            None => Err(Fault::Store(StoreFault::Open(OpenFault::DeviceFailed))),
         }
     }
 
@@ -39,11 +39,11 @@ impl Store {
         folder: &str,
     ) -> Result<Store, Fault> {
         let (first, second) = paths(rt.alloc(), folder)?;
-        let a = FileDisk::open_or_make(rt, first.as_str()).map_err(open_fault)?;
-        let b = FileDisk::open_or_make(rt, second.as_str()).map_err(open_fault)?;
-        match lock_file(rt, first.as_str())? {
+        let a = FileDisk::open_or_make(rt, first.as_str()).map_err(make_fault)?;
+        let b = FileDisk::open_or_make(rt, second.as_str()).map_err(make_fault)?;
+        match lock_file(rt, first.as_str()).map_err(make_fault)? {
             Some(lock) => Ok(Store { a, b, lock }),
-            None => Err(Fault::Store(StoreFault::AlreadyThere)),
+            None => Err(Fault::Store(StoreFault::Create(CreateFault::AlreadyThere))),
         }
     }
 }
@@ -56,20 +56,28 @@ fn paths(alloc: Global, folder: &str) -> Result<(PathBuf, PathBuf), AllocError> 
 
 /// The file with a lock on it, or `None` where another process has one. On a file system that knows no locks there
 /// is none, and no other process is excluded.
-fn lock_file<R: Files<File = File>>(rt: &R, path: &str) -> Result<Option<File>, Fault> {
+fn lock_file<R: Files<File = File>>(rt: &R, path: &str) -> io::Result<Option<File>> {
     let mut options = OpenOptions::new();
     options.read(true).write(true);
-    let file = options.open(rt, path).map_err(open_fault)?;
+    let file = options.open(rt, path)?;
     match file.try_lock() {
         Err(TryLockError::WouldBlock) => Ok(None),
         Err(TryLockError::Error(_)) | Ok(()) => Ok(Some(file)),
     }
 }
 
-/// Why a file could not be opened.
+/// Why a store is not opened whose file could not be.
 fn open_fault(error: io::Error) -> Fault {
     match error.kind() {
         io::ErrorKind::OutOfMemory => Fault::NoMemory,
-        _ => Fault::Store(StoreFault::DeviceFailed),
+        _ => Fault::Store(StoreFault::Open(OpenFault::DeviceFailed)),
+    }
+}
+
+/// Why a store is not made whose file could not be opened or made.
+fn make_fault(error: io::Error) -> Fault {
+    match error.kind() {
+        io::ErrorKind::OutOfMemory => Fault::NoMemory,
+        _ => Fault::Store(StoreFault::Create(CreateFault::DeviceFailed)),
     }
 }

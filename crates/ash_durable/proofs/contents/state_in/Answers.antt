@@ -1,4 +1,5 @@
-use Rattle.std.proofs.Common.{rules, ◌≡◌, ◌∙◌, Ok, Err, List, ℕ, sym, subst}
+use Rattle.std.proofs.Common.{rules, ◌≡◌, ◌∙◌, inl, Ok, List, ℕ, sym, subst}
+use Rattle.std.proofs.lemmas.Result.{err_from_is_err_and}
 use Rattle.std.specs.List.{AllByRecursion}
 use Rattle.ash_journal.specs.Reading.{bodies_of}
 use Rattle.ash_journal.proofs.ReadLaws.{differ}
@@ -6,10 +7,38 @@ use Rattle.ash_registry.specs.Registered.{registered}
 use Rattle.ash_registry.specs.Registrations.{Registration}
 use Rattle.ash_registry.specs.Text.{text_of}
 use Rattle.ash_state_image.specs.Views.{snapshot_of}
-use Rattle.ash_durable.specs.Contents.{IsBodyWith}
-use Rattle.ash_durable.proofs.Reading.{reads_misshapen, reads_unadmitted, image_shaped, image_restored, reads_through}
-use Rattle.ash_durable.proofs.Reading.{reads_none, through_registered}
+use Rattle.ash_durable.specs.Contents.{IsBodyWith, IsNoImage}
+use Rattle.ash_durable.proofs.Reading.{no_failure, reads_damage, reads_misshapen, reads_unadmitted, image_shaped}
+use Rattle.ash_durable.proofs.Reading.{image_restored, reads_through, reads_none, through_registered}
 use Rattle.ash_durable.proofs.contents.state_in.Goals as goal
+
+pub returns-in_err-stored-clause-cause : goal.returns-in_err-stored-clause-cause
+returns-in_err-stored-clause-cause c =
+    let p = err_from_is_err_and c.from_residual.result c.from_residual.ensures.1 in
+    rw (p.1, p.2) (no_failure _ c.in_err-stored.field-0.0 c.in_err-stored.ensures)
+
+pub returns-in_err-stored-clause-reads : goal.returns-in_err-stored-clause-reads
+returns-in_err-stored-clause-reads c placed =
+    let p = err_from_is_err_and c.from_residual.result c.from_residual.ensures.1 in
+    rw (p.1, p.2) (reads_damage (λ at. IsNoImage c.args.image.now × (at ≡ 0)) (registered c.args.registry)
+    (c.args.image.now, bodies_of c.args.records.now) c.in_err-stored.field-0.0 (λ at none. inl (inl none))
+    c.in_err-stored.ensures)
+
+pub returns-in_err-check_shapes-clause-cause : goal.returns-in_err-check_shapes-clause-cause
+returns-in_err-check_shapes-clause-cause c =
+    let p = err_from_is_err_and c.from_residual-in_err-check_shapes.result
+    c.from_residual-in_err-check_shapes.ensures.1 in
+    rw (p.1, p.2) (no_failure _ c.in_err-check_shapes.field-0.0 c.in_err-check_shapes.ensures)
+
+pub returns-in_err-first-clause-cause : goal.returns-in_err-first-clause-cause
+returns-in_err-first-clause-cause c =
+    let p = err_from_is_err_and c.from_residual-in_err-first.result c.from_residual-in_err-first.ensures.1 in
+    rw (p.1, p.2) (no_failure _ c.in_err-first.field-0.0 c.in_err-first.ensures)
+
+pub returns-in_err-state-clause-cause : goal.returns-in_err-state-clause-cause
+returns-in_err-state-clause-cause c =
+    let p = err_from_is_err_and c.from_residual-in_err-state.result c.from_residual-in_err-state.ensures.1 in
+    rw (p.1, p.2) (no_failure _ c.in_err-state.field-0.0 c.in_err-state.ensures)
 
 pub restore-requires : goal.restore-requires
 restore-requires c =
@@ -20,8 +49,9 @@ pub returns-in_err-check_shapes-clause-reads : goal.returns-in_err-check_shapes-
 returns-in_err-check_shapes-clause-reads c placed =
     let stored = c.in_ok-stored.stored in
     let fault = c.in_err-check_shapes.field-0.0 in
-    let reported : c.from_residual-in_err-check_shapes.result ≡ Err fault = search rules in
-    rw reported (reads_misshapen (registered c.args.registry) stored.version
+    let p = err_from_is_err_and c.from_residual-in_err-check_shapes.result
+    c.from_residual-in_err-check_shapes.ensures.1 in
+    rw (p.1, p.2) (reads_misshapen (registered c.args.registry) stored.version
     c.deref.result.now c.args.image.now c.args.records.now fault
     (snapshot_of stored.state, c.in_ok-stored.ensures, sym c.deref.ensures)
     placed
@@ -45,11 +75,11 @@ returns-in_err-first-clause-reads c placed =
     let stored = c.in_ok-stored.stored in
     let s = snapshot_of stored.state in
     let fault = c.in_err-first.field-0.0 in
-    let reported : c.from_residual-in_err-first.result ≡ Err fault = search rules in
+    let p = err_from_is_err_and c.from_residual-in_err-first.result c.from_residual-in_err-first.ensures.1 in
     let text : s.registered ≡ text_of (registered c.args.registry) = search rules in
     let shaped = subst (λ (t : List ℕ). AllByRecursion (IsBodyWith stored.version t) (bodies_of c.args.records.now))
     (c.deref.ensures ∙ text) c.in_ok-check_shapes.ensures in
-    rw reported (reads_unadmitted (registered c.args.registry) c.args.image.now stored.version s
+    rw (p.1, p.2) (reads_unadmitted (registered c.args.registry) c.args.image.now stored.version s
     (bodies_of c.args.records.now) fault c.in_ok-stored.ensures
     (stored.version, (s, c.in_ok-stored.ensures, text), shaped)
     c.in_err-first.ensures)
@@ -71,13 +101,13 @@ returns-in_err-state-clause-reads c placed =
     let stored = c.in_ok-stored.stored in
     let s = snapshot_of stored.state in
     let fault = c.in_err-state.field-0.0 in
-    let reported : c.from_residual-in_err-state.result ≡ Err fault = search rules in
+    let p = err_from_is_err_and c.from_residual-in_err-state.result c.from_residual-in_err-state.ensures.1 in
     let text : s.registered ≡ text_of (registered c.args.registry) = search rules in
     let shaped = subst (λ (t : List ℕ). AllByRecursion (IsBodyWith stored.version t) (bodies_of c.args.records.now))
     (c.deref.ensures ∙ text) c.in_ok-check_shapes.ensures in
     let first = image_restored (registered c.args.registry)
     c.args.image.now stored.version s 0 c.in_ok-first.first c.in_ok-stored.ensures text c.in_ok-first.ensures in
-    rw reported (reads_none (registered c.args.registry) c.args.image.now c.args.records.now c.in_ok-first.first fault
+    rw (p.1, p.2) (reads_none (registered c.args.registry) c.args.image.now c.args.records.now c.in_ok-first.first fault
     (stored.version, (s, c.in_ok-stored.ensures, text), shaped) first.0 first.1 placed c.in_err-state.ensures)
 
 pub returns-clause-registered : goal.returns-clause-registered

@@ -7,12 +7,12 @@ use Rattle.ash_durable.proofs.store.make.Goals as goal
 pub returns-in-Err : goal.returns-in-Err
 returns-in-Err g c =
     let e = c.in-Err.ensures in
-    record {
+    rw c.into.ensures (record {
       cause = e.looks;
       moments = read_makes g.D.Disk c.args.state.now c.args.a c.args.b c.first_image.new.a
           c.first_image.new.b e.read;
       disks = e.disks;
-    }
+    })
 
 pub returns-in-Ok-create : goal.returns-in-Ok-create
 returns-in-Ok-create g c =
@@ -34,5 +34,5 @@ returns g c =
     looked.looks.0 in
     not_made g.D.Disk c.args.state.now c.deref.result.now depicts c.args.a c.args.b c.first_image.new.a
     c.first_image.new.b looked.read looked.disks looked.looks.2
-    refused.fault c.into.result refused.first refused.second c.into.ensures e.fault e.moments e.honesty_first
-    e.honesty_second e.cause
+    refused.fault c.into-in-Err-create.result refused.first refused.second c.into-in-Err-create.ensures e.fault
+    e.moments e.honesty_first e.honesty_second e.cause

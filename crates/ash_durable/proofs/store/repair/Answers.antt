@@ -1,6 +1,6 @@
 use Rattle.std.proofs.Common.{◌≡◌, true, false, refl}
 use Rattle.std.proofs.lemmas.Bool.{false≢true}
-use Rattle.ash_durable.proofs.Finding.{has_settled, failed_to_settle}
+use Rattle.ash_durable.proofs.OpenedJournals.{has_settled, failed_to_settle}
 use Rattle.ash_durable.proofs.store.repair.Goals as goal
 
 pub returns-in-Ok : goal.returns-in-Ok

@@ -7,24 +7,24 @@ use Rattle.ash_journal.specs.Writes.{IsOn, IsUnused, WhileStarted, WhileCreated}
 use Rattle.ash_journal.proofs.ReadLaws.{read_idle, idle_throughout, started_created}
 use Rattle.ash_journal.proofs.creation.create_both.Goals as goal
 
-pub returns-in-Ok-start-clause-created : goal.returns-in-Ok-start-clause-created
-returns-in-Ok-start-clause-created g c honest_first honest_second =
+pub returns-clause-created : goal.returns-clause-created
+returns-clause-created g c honest_first honest_second =
     let d = g.D.Disk in
     let one = c.args.first.now in
     let two = c.args.second.now in
-    let headers = c.in-Ok.ensures.answer honest_first honest_second in
+    let headers = c.in_ok-headers.ensures.answer honest_first honest_second in
     let shut = c.in-Some.ensures (d.seen one) (d.seen two) headers in
     let bytes_are : c.deref.result.now ≡ mark 1 ++ (block c.args.image.now ++ 0 ∷ []) =
-    c.deref.ensures.value ∙ c.in-Ok-generation_bytes.ensures in
-    let first_read = c.in-Ok.ensures.first_read in
-    let second_read = c.in-Ok.ensures.second_read in
+    c.deref.ensures.value ∙ c.in_ok-bytes.ensures in
+    let first_read = c.in_ok-headers.ensures.first_read in
+    let second_read = c.in_ok-headers.ensures.second_read in
     let first_shut =
     subst (λ (l : List ℕ). ShutIs c.in-Some.one.shut l) (sym (first_read.seen honest_first)) shut.0.1 in
     let second_shut =
     subst (λ (l : List ℕ). ShutIs c.in-Some.two.shut l) (sym (second_read.seen honest_second)) shut.1.1 in
     let honest_first' = subst IsTrue (sym first_read.honesty) honest_first in
     let honest_second' = subst IsTrue (sym second_read.honesty) honest_second in
-    let on = c.in-Ok-start.ensures.created honest_first' first_shut in
+    let on = c.in_ok-start.ensures.created honest_first' first_shut in
     let on' = subst
     (λ (l : List ℕ).
     IsOn d c.start.new.first (1 ∷ (l ++ drop (length l) (drop 1 (d.seen c.read_headers.new.first))))) bytes_are
@@ -34,65 +34,37 @@ returns-in-Ok-start-clause-created g c honest_first honest_second =
     (1 ∷ ((mark 1 ++ (block c.args.image.now ++ 0 ∷ []))
     ++ drop (length (mark 1 ++ (block c.args.image.now ++ 0 ∷ []))) (drop 1 l)))) (first_read.seen honest_first) on'
 
-pub returns-in-Ok-start-clause-second_cleared : goal.returns-in-Ok-start-clause-second_cleared
-returns-in-Ok-start-clause-second_cleared g c honest_first honest_second =
+pub returns-clause-second_cleared : goal.returns-clause-second_cleared
+returns-clause-second_cleared g c honest_first honest_second =
     let d = g.D.Disk in
     let one = c.args.first.now in
     let two = c.args.second.now in
-    let headers = c.in-Ok.ensures.answer honest_first honest_second in
+    let headers = c.in_ok-headers.ensures.answer honest_first honest_second in
     let shut = c.in-Some.ensures (d.seen one) (d.seen two) headers in
     let bytes_are : c.deref.result.now ≡ mark 1 ++ (block c.args.image.now ++ 0 ∷ []) =
-    c.deref.ensures.value ∙ c.in-Ok-generation_bytes.ensures in
-    let first_read = c.in-Ok.ensures.first_read in
-    let second_read = c.in-Ok.ensures.second_read in
+    c.deref.ensures.value ∙ c.in_ok-bytes.ensures in
+    let first_read = c.in_ok-headers.ensures.first_read in
+    let second_read = c.in_ok-headers.ensures.second_read in
     let first_shut =
     subst (λ (l : List ℕ). ShutIs c.in-Some.one.shut l) (sym (first_read.seen honest_first)) shut.0.1 in
     let second_shut =
     subst (λ (l : List ℕ). ShutIs c.in-Some.two.shut l) (sym (second_read.seen honest_second)) shut.1.1 in
     let honest_first' = subst IsTrue (sym first_read.honesty) honest_first in
     let honest_second' = subst IsTrue (sym second_read.honesty) honest_second in
-    let on = c.in-Ok-start.ensures.second_cleared honest_second' second_shut in
+    let on = c.in_ok-start.ensures.second_cleared honest_second' second_shut in
     subst (λ (l : List ℕ). IsOn d c.start.new.second (0 ∷ drop 1 l)) (second_read.seen honest_second) on
-
-pub returns-in-Ok-start-clause-first_moments : goal.returns-in-Ok-start-clause-first_moments
-returns-in-Ok-start-clause-first_moments g c honest_first honest_second idle =
-    let d = g.D.Disk in
-    let one = c.args.first.now in
-    let two = c.args.second.now in
-    let headers = c.in-Ok.ensures.answer honest_first honest_second in
-    let shut = c.in-Some.ensures (d.seen one) (d.seen two) headers in
-    let bytes_are : c.deref.result.now ≡ mark 1 ++ (block c.args.image.now ++ 0 ∷ []) =
-    c.deref.ensures.value ∙ c.in-Ok-generation_bytes.ensures in
-    let first_read = c.in-Ok.ensures.first_read in
-    let second_read = c.in-Ok.ensures.second_read in
-    let first_shut =
-    subst (λ (l : List ℕ). ShutIs c.in-Some.one.shut l) (sym (first_read.seen honest_first)) shut.0.1 in
-    let second_shut =
-    subst (λ (l : List ℕ). ShutIs c.in-Some.two.shut l) (sym (second_read.seen honest_second)) shut.1.1 in
-    let honest_first' = subst IsTrue (sym first_read.honesty) honest_first in
-    let honest_second' = subst IsTrue (sym second_read.honesty) honest_second in
-    let call = c.start.ensures.first_moments honest_first' first_shut
-    (read_idle d one c.read_headers.new.first honest_first first_read idle) in
-    let call' = subst
-    (λ (l : List ℕ).
-    HoldsThroughout d c.read_headers.new.first c.start.new.first (WhileStarted l (d.seen c.read_headers.new.first)))
-    bytes_are call in
-    idle_throughout d one c.read_headers.new.first c.start.new.first (WhileCreated c.args.image.now) honest_first
-    first_read idle (λ image is. inl is)
-    (weaker _ _ _ _ (WhileStarted (mark 1 ++ (block c.args.image.now ++ 0 ∷ [])) (d.seen c.read_headers.new.first))
-    (WhileCreated c.args.image.now) (started_created c.args.image.now (d.seen c.read_headers.new.first)) call')
 
 pub returns-clause-first_moments : goal.returns-clause-first_moments
 returns-clause-first_moments g c honest_first honest_second idle =
     let d = g.D.Disk in
     let one = c.args.first.now in
     let two = c.args.second.now in
-    let headers = c.in-Ok.ensures.answer honest_first honest_second in
+    let headers = c.in_ok-headers.ensures.answer honest_first honest_second in
     let shut = c.in-Some.ensures (d.seen one) (d.seen two) headers in
     let bytes_are : c.deref.result.now ≡ mark 1 ++ (block c.args.image.now ++ 0 ∷ []) =
-    c.deref.ensures.value ∙ c.in-Ok-generation_bytes.ensures in
-    let first_read = c.in-Ok.ensures.first_read in
-    let second_read = c.in-Ok.ensures.second_read in
+    c.deref.ensures.value ∙ c.in_ok-bytes.ensures in
+    let first_read = c.in_ok-headers.ensures.first_read in
+    let second_read = c.in_ok-headers.ensures.second_read in
     let first_shut =
     subst (λ (l : List ℕ). ShutIs c.in-Some.one.shut l) (sym (first_read.seen honest_first)) shut.0.1 in
     let second_shut =
@@ -110,17 +82,45 @@ returns-clause-first_moments g c honest_first honest_second idle =
     (weaker _ _ _ _ (WhileStarted (mark 1 ++ (block c.args.image.now ++ 0 ∷ [])) (d.seen c.read_headers.new.first))
     (WhileCreated c.args.image.now) (started_created c.args.image.now (d.seen c.read_headers.new.first)) call')
 
-pub returns-in-Ok-start-clause-second_moments : goal.returns-in-Ok-start-clause-second_moments
-returns-in-Ok-start-clause-second_moments g c honest_first honest_second idle =
+pub returns-in_err-start-clause-first_moments : goal.returns-in_err-start-clause-first_moments
+returns-in_err-start-clause-first_moments g c honest_first honest_second idle =
     let d = g.D.Disk in
     let one = c.args.first.now in
     let two = c.args.second.now in
-    let headers = c.in-Ok.ensures.answer honest_first honest_second in
+    let headers = c.in_ok-headers.ensures.answer honest_first honest_second in
     let shut = c.in-Some.ensures (d.seen one) (d.seen two) headers in
     let bytes_are : c.deref.result.now ≡ mark 1 ++ (block c.args.image.now ++ 0 ∷ []) =
-    c.deref.ensures.value ∙ c.in-Ok-generation_bytes.ensures in
-    let first_read = c.in-Ok.ensures.first_read in
-    let second_read = c.in-Ok.ensures.second_read in
+    c.deref.ensures.value ∙ c.in_ok-bytes.ensures in
+    let first_read = c.in_ok-headers.ensures.first_read in
+    let second_read = c.in_ok-headers.ensures.second_read in
+    let first_shut =
+    subst (λ (l : List ℕ). ShutIs c.in-Some.one.shut l) (sym (first_read.seen honest_first)) shut.0.1 in
+    let second_shut =
+    subst (λ (l : List ℕ). ShutIs c.in-Some.two.shut l) (sym (second_read.seen honest_second)) shut.1.1 in
+    let honest_first' = subst IsTrue (sym first_read.honesty) honest_first in
+    let honest_second' = subst IsTrue (sym second_read.honesty) honest_second in
+    let call = c.start.ensures.first_moments honest_first' first_shut
+    (read_idle d one c.read_headers.new.first honest_first first_read idle) in
+    let call' = subst
+    (λ (l : List ℕ).
+    HoldsThroughout d c.read_headers.new.first c.start.new.first (WhileStarted l (d.seen c.read_headers.new.first)))
+    bytes_are call in
+    idle_throughout d one c.read_headers.new.first c.start.new.first (WhileCreated c.args.image.now) honest_first
+    first_read idle (λ image is. inl is)
+    (weaker _ _ _ _ (WhileStarted (mark 1 ++ (block c.args.image.now ++ 0 ∷ [])) (d.seen c.read_headers.new.first))
+    (WhileCreated c.args.image.now) (started_created c.args.image.now (d.seen c.read_headers.new.first)) call')
+
+pub returns-clause-second_moments : goal.returns-clause-second_moments
+returns-clause-second_moments g c honest_first honest_second idle =
+    let d = g.D.Disk in
+    let one = c.args.first.now in
+    let two = c.args.second.now in
+    let headers = c.in_ok-headers.ensures.answer honest_first honest_second in
+    let shut = c.in-Some.ensures (d.seen one) (d.seen two) headers in
+    let bytes_are : c.deref.result.now ≡ mark 1 ++ (block c.args.image.now ++ 0 ∷ []) =
+    c.deref.ensures.value ∙ c.in_ok-bytes.ensures in
+    let first_read = c.in_ok-headers.ensures.first_read in
+    let second_read = c.in_ok-headers.ensures.second_read in
     let first_shut =
     subst (λ (l : List ℕ). ShutIs c.in-Some.one.shut l) (sym (first_read.seen honest_first)) shut.0.1 in
     let second_shut =
@@ -132,17 +132,17 @@ returns-in-Ok-start-clause-second_moments g c honest_first honest_second idle =
     idle_throughout d two c.read_headers.new.second c.start.new.second IsUnused honest_second second_read idle
     (λ image is. is) call
 
-pub returns-clause-second_moments : goal.returns-clause-second_moments
-returns-clause-second_moments g c honest_first honest_second idle =
+pub returns-in_err-start-clause-second_moments : goal.returns-in_err-start-clause-second_moments
+returns-in_err-start-clause-second_moments g c honest_first honest_second idle =
     let d = g.D.Disk in
     let one = c.args.first.now in
     let two = c.args.second.now in
-    let headers = c.in-Ok.ensures.answer honest_first honest_second in
+    let headers = c.in_ok-headers.ensures.answer honest_first honest_second in
     let shut = c.in-Some.ensures (d.seen one) (d.seen two) headers in
     let bytes_are : c.deref.result.now ≡ mark 1 ++ (block c.args.image.now ++ 0 ∷ []) =
-    c.deref.ensures.value ∙ c.in-Ok-generation_bytes.ensures in
-    let first_read = c.in-Ok.ensures.first_read in
-    let second_read = c.in-Ok.ensures.second_read in
+    c.deref.ensures.value ∙ c.in_ok-bytes.ensures in
+    let first_read = c.in_ok-headers.ensures.first_read in
+    let second_read = c.in_ok-headers.ensures.second_read in
     let first_shut =
     subst (λ (l : List ℕ). ShutIs c.in-Some.one.shut l) (sym (first_read.seen honest_first)) shut.0.1 in
     let second_shut =

@@ -1,6 +1,6 @@
 use Rattle.std.proofs.Common.{refl}
 use Rattle.ash_registry.specs.Registered.{registered}
-use Rattle.ash_durable.specs.Store.{Opens}
+use Rattle.ash_durable.specs.OpenedStore.{Opens}
 use Rattle.ash_serve.specs.Service.{service_remains, service_start}
 use Rattle.ash_serve.proofs.ServiceLemmas.{serves_from, serves_refused}
 use Rattle.ash_serve.proofs.program.service.serve_stored.Goals as goal

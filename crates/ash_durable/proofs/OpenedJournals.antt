@@ -1,0 +1,278 @@
+-- What becomes of a journal that was opened: its state is read, or not, and its gates are written over.
+use Rattle.std.proofs.Common.{◌≡◌, inl, inr, ℕ, List, Result, Ok, Err, refl, sym, ◌∙◌, subst, arith}
+use Rattle.ash_disk.specs.Device.{Device}
+use Rattle.ash_journal.specs.declared.error.OpenFault.TheVariants as opening
+use Rattle.ash_journal.specs.declared.journal.Journal.{Journal}
+use Rattle.ash_journal.specs.declared.journal.OpenedJournal.{OpenedJournal}
+use Rattle.ash_journal.specs.declared.record.Record.{Record}
+use Rattle.ash_journal.specs.Current.{Contents}
+use Rattle.ash_journal.specs.Failures.{CountsFailures}
+use Rattle.ash_journal.specs.Journal.{first_disk, second_disk, HasFailed, IsReady, Holds, Finds as FindsIn}
+use Rattle.ash_journal.specs.Reading.{AreAt, bodies_of}
+use Rattle.ash_journal.specs.Runs.{Extends, NoContents}
+use Rattle.ash_journal.proofs.RunLaws.{same_extends}
+use Rattle.ash_state_image.specs.declared.version.Version.TheVariants.{One, Two}
+use Rattle.ash_states.specs.States.{HostState}
+use Rattle.ash_registry.specs.Registrations.{Registration}
+use Rattle.ash_durable.specs.Contents.{after_image, ReadsAs}
+use Rattle.ash_durable.specs.Faults.{IsFailed}
+use Rattle.ash_durable.specs.OpenedStore.{contents_of, AreInPlace, OnlySettled, WasNotSettled, Settled, HasSettled}
+use Rattle.ash_durable.specs.OpenedStore.{FailedToSettle, Repairs, Moves, MayNotMove, UnsettledFor, WasSettledIn}
+use Rattle.ash_durable.specs.States.{AreIn, IsStateOf}
+use Rattle.ash_durable.specs.Store.{HandsBack}
+use Rattle.ash_durable.specs.declared.contents.StateRead.{StateRead}
+use Rattle.ash_durable.specs.declared.fault.HostRefused.{HostRefused}
+use Rattle.ash_durable.specs.declared.fault.StoreFault.{StoreFault}
+use Rattle.ash_durable.specs.declared.fault.StoreFault.TheVariants as faults
+use Rattle.ash_durable.specs.declared.store.Found.{Found}
+
+-- calls of which the first met no failure
+pub counted_on : (failed : Type 0) (f s f' s' f'' s'' : ℕ) → CountsFailures ⊥ f s f' s'
+    → CountsFailures failed f' s' f'' s'' → CountsFailures failed f s f'' s''
+counted_on failed f s f' s' f'' s'' one two =
+    let same = one.none (λ (e : ⊥). e) in
+    subst (λ (n : ℕ). CountsFailures failed n s f'' s'') same.0
+    (subst (λ (n : ℕ). CountsFailures failed f' n f'' s'') same.1 two)
+
+-- a call that met no failure, by whatever it says of one
+pub counted_none : (failed : Type 0) (f s f' s' : ℕ) → (failed → ⊥) → CountsFailures failed f s f' s'
+    → CountsFailures ⊥ f s f' s'
+counted_none failed f s f' s' not counts = record {
+  first_never_falls = counts.first_never_falls;
+  second_never_falls = counts.second_never_falls;
+  counted = λ is. absurd is;
+  none = λ never. counts.none not;
+}
+
+-- no call at all
+uncounted : (failed : Type 0) (f s : ℕ) → (failed → ⊥) → CountsFailures failed f s f s
+uncounted failed f s not = record {
+  first_never_falls = omega arith;
+  second_never_falls = omega arith;
+  counted = λ is. absurd (not is);
+  none = λ never. (refl, refl);
+}
+
+-- contents that are read as no state are of no use
+read_unsettled : {D : Type 0} (registered : List Registration) (opened : OpenedJournal D) (fault : StoreFault)
+    → ReadsAs registered (contents_of opened) (Err fault) → UnsettledFor registered opened fault
+read_unsettled registered opened (faults.Open (opening.Damaged at)) reads = reads
+read_unsettled registered opened faults.OtherInterface reads = reads
+read_unsettled registered opened (faults.Open opening.NoMemory) reads = tt
+read_unsettled registered opened _ reads = absurd reads
+
+-- what an image and records are read as, what the journal holds is read as
+pub read_as : {D : Type 0} (opened : OpenedJournal D) (registered : List Registration)
+    (result : Result StateRead StoreFault)
+    (image : List ℕ) (records : List Record) → image ≡ opened.image.items → records ≡ opened.records.items
+    → (AreAt (after_image image) records → ReadsAs registered (image, bodies_of records) result) → AreInPlace opened
+    → ReadsAs registered (contents_of opened) result
+read_as opened registered result image records image_is records_is reads =
+    subst (λ (i : List ℕ). AreAt (after_image i) opened.records.items
+    → ReadsAs registered (i, bodies_of opened.records.items) result) image_is
+    (subst (λ (rs : List Record). AreAt (after_image image) rs → ReadsAs registered (image, bodies_of rs) result)
+    records_is reads)
+
+module _ {D : Type 0} (device : Device D) where
+  -- disks that are handed on
+  pub handed_on : (failed : Type 0) (a b a' b' a'' b'' : D) → HandsBack device ⊥ a b a' b'
+      → HandsBack device failed a' b' a'' b'' → HandsBack device failed a b a'' b''
+  handed_on failed a b a' b' a'' b'' one two = record {
+    failures = counted_on failed (device.failures a) (device.failures b) (device.failures a') (device.failures b')
+        (device.failures a'') (device.failures b'') one.failures two.failures;
+    honesty_first = two.honesty_first ∙ one.honesty_first;
+    honesty_second = two.honesty_second ∙ one.honesty_second;
+  }
+
+  -- ---- the gates of a journal
+
+  -- they are written over
+  pub has_settled : (was journal : Journal D) (failed : Type 0) → (failed → ⊥)
+      → ((HasFailed was → ⊥) → IsReady journal) → OnlySettled device was journal
+      → ((contents : Contents) → FindsIn device was contents.0 contents.1
+      → Holds device journal contents.0 contents.1)
+      → ((contents : Contents) → FindsIn device was contents.0 contents.1
+      → Extends device (first_disk was) (second_disk was) (first_disk journal) (second_disk journal) NoContents)
+      → CountsFailures failed (device.failures (first_disk was)) (device.failures (second_disk was))
+      (device.failures (first_disk journal)) (device.failures (second_disk journal))
+      → device.honest (first_disk journal) ≡ device.honest (first_disk was)
+      → device.honest (second_disk journal) ≡ device.honest (second_disk was) → HasSettled device was journal
+  has_settled was journal failed not ready only holds extends counts honesty_first honesty_second = record {
+    ready = ready;
+    only = only;
+    holds = holds;
+    extends = extends;
+    disks = record {
+      failures = counted_none failed (device.failures (first_disk was)) (device.failures (second_disk was))
+          (device.failures (first_disk journal)) (device.failures (second_disk journal)) not counts;
+      honesty_first = honesty_first;
+      honesty_second = honesty_second;
+    };
+  }
+
+  -- or a device failed
+  pub failed_to_settle : (was journal : Journal D) (refused : HostRefused D) (failed : Type 0) → failed
+      → refused.fault ≡ faults.Open opening.DeviceFailed → refused.a ≡ first_disk journal
+      → refused.b ≡ second_disk journal
+      → OnlySettled device was journal
+      → ((contents : Contents) → FindsIn device was contents.0 contents.1
+      → Extends device (first_disk was) (second_disk was) (first_disk journal) (second_disk journal) NoContents)
+      → CountsFailures failed (device.failures (first_disk was)) (device.failures (second_disk was))
+      (device.failures (first_disk journal)) (device.failures (second_disk journal))
+      → device.honest (first_disk journal) ≡ device.honest (first_disk was)
+      → device.honest (second_disk journal) ≡ device.honest (second_disk was) → FailedToSettle device was refused
+  failed_to_settle was journal refused failed has fault_is a_is b_is only extends counts honesty_first
+      honesty_second = record {
+        fault_is = fault_is;
+        journal = journal;
+        first_is = a_is;
+        second_is = b_is;
+        only = only;
+        extends = extends;
+        disks = record {
+          failures = record {
+            first_never_falls = counts.first_never_falls;
+            second_never_falls = counts.second_never_falls;
+            counted = λ is. counts.counted has;
+            none = λ not. absurd (not tt);
+          };
+          honesty_first = honesty_first;
+          honesty_second = honesty_second;
+        };
+      }
+
+  -- ---- what an opened journal holds is read
+
+  -- disks that are handed back with this refusal
+  handed : (refused : HostRefused D) (failed : Type 0) (a b a' b' : D) → (IsFailed refused.fault → failed)
+      → (failed → IsFailed refused.fault)
+      → refused.a ≡ a' → refused.b ≡ b' → HandsBack device failed a b a' b'
+      → HandsBack device (IsFailed refused.fault) a b refused.a refused.b
+  handed refused failed a b a' b' to from a_is b_is back =
+      subst (λ (x : D). HandsBack device (IsFailed refused.fault) a b x refused.b) (sym a_is)
+      (subst (λ (y : D). HandsBack device (IsFailed refused.fault) a b a' y) (sym b_is)
+      (record {
+        failures = record {
+          first_never_falls = back.failures.first_never_falls;
+          second_never_falls = back.failures.second_never_falls;
+          counted = λ is. back.failures.counted (to is);
+          none = λ not. back.failures.none (λ is. not (from is));
+        };
+        honesty_first = back.honesty_first;
+        honesty_second = back.honesty_second;
+      }))
+
+  extends_to : (a b a' b' : D) (refused : HostRefused D) → refused.a ≡ a' → refused.b ≡ b'
+      → Extends device a b a' b' NoContents → Extends device a b refused.a refused.b NoContents
+  extends_to a b a' b' refused a_is b_is extends =
+      subst (λ (x : D). Extends device a b x refused.b NoContents) (sym a_is)
+      (subst (λ (y : D). Extends device a b a' y NoContents) (sym b_is) extends)
+
+  -- nothing was written
+  unwritten : (registered : List Registration) (opened : OpenedJournal D) (refused : HostRefused D)
+      → refused.a ≡ first_disk opened.journal → refused.b ≡ second_disk opened.journal
+      → (IsFailed refused.fault → ⊥) → (AreInPlace opened → UnsettledFor registered opened refused.fault)
+      → WasNotSettled device registered opened refused
+  unwritten registered opened refused a_is b_is not cause =
+      let a = first_disk opened.journal in
+      let b = second_disk opened.journal in
+      record {
+        cause = cause;
+        read = λ never. (a_is, b_is);
+        extends = λ holds. extends_to a b a b refused a_is b_is (same_extends device a b NoContents);
+        only = λ failed. absurd (not failed);
+        disks = handed refused ⊥ a b a b not (λ is. absurd is) a_is b_is (record {
+          failures = uncounted ⊥ (device.failures a) (device.failures b) (λ is. is);
+          honesty_first = refl;
+          honesty_second = refl;
+        });
+      }
+
+  -- it is read as no state
+  pub not_read : (registered : List Registration) (opened : OpenedJournal D) (fault : StoreFault)
+      (refused : HostRefused D)
+      → refused.fault ≡ fault → refused.a ≡ first_disk opened.journal → refused.b ≡ second_disk opened.journal
+      → (IsFailed fault → ⊥) → (AreInPlace opened → ReadsAs registered (contents_of opened) (Err fault))
+      → WasNotSettled device registered opened refused
+  not_read registered opened fault refused fault_is a_is b_is not reads =
+      unwritten registered opened refused a_is b_is
+      (λ failed. not (subst IsFailed fault_is failed))
+      (λ placed. subst (UnsettledFor registered opened) (sym fault_is)
+      (read_unsettled registered opened fault (reads placed)))
+
+  -- as a state, and a device failed then
+  unsettled : (registered : List Registration) (opened : OpenedJournal D) (refused : HostRefused D)
+      → FailedToSettle device opened.journal refused → WasNotSettled device registered opened refused
+  unsettled registered opened refused failed =
+      let a = first_disk opened.journal in
+      let b = second_disk opened.journal in
+      let is_failed : IsFailed refused.fault = subst IsFailed (sym failed.fault_is) tt in
+      record {
+        cause = λ placed. subst (UnsettledFor registered opened) (sym failed.fault_is) tt;
+        read = λ not. absurd (not is_failed);
+        extends = λ holds. extends_to a b (first_disk failed.journal) (second_disk failed.journal) refused
+            failed.first_is failed.second_is (failed.extends (contents_of opened) holds);
+        only = λ is. (failed.journal, failed.only, failed.first_is, failed.second_is);
+        disks = handed refused (Unit {0}) a b (first_disk failed.journal) (second_disk failed.journal)
+            (λ is. tt) (λ is. is_failed) failed.first_is failed.second_is failed.disks;
+      }
+
+  -- as a state that is not moved
+  may_fail : (was : Journal D) (fault : StoreFault) → MayNotMove was fault → IsFailed fault → ⊥
+  may_fail was faults.GenerationSpent may failed = failed
+  may_fail was (faults.Open opening.NoMemory) may failed = failed
+  may_fail was _ may failed = may
+
+  may_not_move : (registered : List Registration) (opened : OpenedJournal D) (fault : StoreFault) (state : HostState)
+      → state.registered ≡ registered → IsStateOf state (contents_of opened) → AreIn One (contents_of opened)
+      → MayNotMove opened.journal fault → UnsettledFor registered opened fault
+  may_not_move registered opened faults.GenerationSpent state with_it is_state in_one last = record {
+    state = state;
+    registered_is = with_it;
+    is_state = is_state;
+    in_one = in_one;
+    last = last;
+  }
+  may_not_move registered opened (faults.Open opening.NoMemory) state with_it is_state in_one may = tt
+  may_not_move registered opened _ state with_it is_state in_one may = absurd may
+
+  -- in version 2, and it is kept
+  pub settles_two : (registered : List Registration) (opened : OpenedJournal D) (state : HostState)
+      (result : Result (Found D) (HostRefused D)) → state.registered ≡ registered
+      → (AreInPlace opened → IsStateOf state (contents_of opened) × AreIn Two (contents_of opened))
+      → Repairs device state opened.journal result → Settled device registered opened result
+  settles_two registered opened state (Ok one) with_it reads repairs =
+      subst (λ (s : HostState). WasSettledIn device registered opened s one.journal) (sym repairs.0) (record {
+        version = Two;
+        old = one.journal;
+        settled = record { registered_is = with_it; reads = reads; settled = repairs.1 };
+        keeps = refl;
+      })
+  settles_two registered opened state (Err refused) with_it reads failed =
+      inl (unsettled registered opened refused failed)
+
+  -- in version 1, and it is moved
+  pub settles_one : (registered : List Registration) (opened : OpenedJournal D) (state : HostState)
+      (result : Result (Found D) (HostRefused D)) → state.registered ≡ registered
+      → (AreInPlace opened → IsStateOf state (contents_of opened) × AreIn One (contents_of opened))
+      → Moves device state opened.journal result → Settled device registered opened result
+  settles_one registered opened state (Ok one) with_it reads moves =
+      subst (λ (s : HostState). WasSettledIn device registered opened s one.journal) (sym moves.0) (record {
+        version = One;
+        old = moves.1;
+        settled = record { registered_is = with_it; reads = reads; settled = moves.2 };
+        keeps = moves.3;
+      })
+  settles_one registered opened state (Err refused) with_it reads (inl begun) =
+      inl (unwritten registered opened refused begun.first_same begun.second_same
+      (may_fail opened.journal refused.fault begun.cause)
+      (λ placed. let is = reads placed in
+      may_not_move registered opened refused.fault state with_it is.0 is.1 begun.cause))
+  settles_one registered opened state (Err refused) with_it reads (inr (inl failed)) =
+      inl (unsettled registered opened refused failed)
+  settles_one registered opened state (Err refused) with_it reads (inr (inr left)) = inr (record {
+    state = state;
+    old = left.0;
+    settled = record { registered_is = with_it; reads = reads; settled = left.1 };
+    left = left.2;
+  })
